@@ -1,0 +1,5 @@
+use Rattle.tlb_lexer.proofs.Whole.{placed}
+use Rattle.tlb_lexer.proofs.laws.in_order.Goals as goal
+
+pub returns : goal.returns
+returns c = placed

@@ -1,0 +1,22 @@
+//! Laws of the cut: functions of no parameters, whose contracts speak of the definitions alone.
+ghost use Rattle.std.specs.Prelude.{◌≡◌, ◌⊎◌, ℕ, List};
+ghost use Rattle.tlb_lexer.specs.Cut.{Cut, CutRefused, PlacedFrom};
+ghost use Rattle.tlb_lexer.specs.declared.Token.{Token};
+ghost use Rattle.tlb_lexer.specs.declared.LexError.{LexError};
+
+/// A text has at most one cut, at most one refusal, and not both.
+pub fn at_most_one()
+    ensures cut { (text : List ℕ) (a b : List Token) → Cut text a → Cut text b → a ≡ b }
+    ensures refusal { (text : List ℕ) (a b : LexError) → CutRefused text a → CutRefused text b → a ≡ b }
+    ensures not_both { (text : List ℕ) (ts : List Token) (e : LexError) → Cut text ts → CutRefused text e → ⊥ }
+{}
+
+/// A text has a cut or a refusal.
+pub fn at_least_one()
+    ensures { (text : List ℕ) → ((ts : List Token) × Cut text ts) ⊎ ((e : LexError) × CutRefused text e) }
+{}
+
+/// The tokens of a cut stand in order within the text, and their bytes spell their kinds.
+pub fn in_order()
+    ensures { (text : List ℕ) (ts : List Token) → Cut text ts → PlacedFrom text 0 ts }
+{}
