@@ -1,0 +1,9 @@
+pub mod Causes
+pub mod Files
+pub mod Left
+pub mod MemShelf
+pub mod MemSink
+pub mod Moves
+pub mod RealShelf
+pub mod RealSink
+pub mod SureShelf
