@@ -1,7 +1,7 @@
 //! The one answer that every call that allocates may give.
 #![tactic(auto)]
 
-use std::alloc::{AllocError, AllocFailed};
+use std::alloc::AllocError;
 
 /// Memory was wanted and not given.
 #[derive(Clone, Copy, Debug, PartialEq, Eq)]
@@ -9,12 +9,6 @@ pub struct NoMemory;
 
 impl From<AllocError> for NoMemory {
     fn from(_: AllocError) -> NoMemory {
-        NoMemory
-    }
-}
-
-impl<T: Drop> From<AllocFailed<T>> for NoMemory {
-    fn from(_: AllocFailed<T>) -> NoMemory {
         NoMemory
     }
 }
