@@ -1,0 +1,14 @@
+use Rattle.std.proofs.Common.{◌≤◌, ◌-◌, length, take}
+use Rattle.tlb_edge.specs.Moves.{Writes}
+use Rattle.tlb_cli.proofs.load.put_all.Given as goal
+
+-- the front up to the place was put
+abbrev pub invariant-loop-at : goal.invariant-loop-at
+invariant-loop-at g l = record {
+  within : l.at ≤ length l.text;
+  put : Writes (g.K.Sink.written l.fn.sink) (g.K.Sink.written l.sink) (take l.at l.text);
+  later : g.K.Sink.faults l.fn.sink ≤ g.K.Sink.faults l.sink;
+}
+
+abbrev pub decreases-loop-at : goal.decreases-loop-at
+decreases-loop-at g l = length l.text - l.at

@@ -1,0 +1,10 @@
+pub mod Bag
+pub mod Causes
+pub mod Code
+pub mod Grammar
+pub mod Loaded
+pub mod Outcome
+pub mod Reading
+pub mod Schema
+pub mod View
+pub mod Words
