@@ -1,0 +1,5 @@
+pub mod Laws
+pub mod Number
+pub mod Pattern
+pub mod Plain
+pub mod View
