@@ -1,0 +1,4 @@
+pub mod Parts
+pub mod Sums
+pub mod Bytes
+pub mod Told

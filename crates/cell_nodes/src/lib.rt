@@ -1,0 +1,16 @@
+//! Shared cells, seen as trees.
+#![tactic(auto)]
+
+mod cell;
+mod children;
+mod layouts;
+mod marks;
+mod slice;
+#[cfg(test)]
+mod tests;
+mod tree;
+
+pub use cell::{Cell, CellError};
+pub use layouts::exotic_kind;
+pub use slice::{CellSlice, RefSlice};
+pub use tree::{Hidden, Kind, Mode, Tree};

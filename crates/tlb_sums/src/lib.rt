@@ -1,0 +1,10 @@
+//! Cyclic redundancy checks of whole messages.
+#![tactic(auto)]
+
+mod crc;
+mod tables;
+
+pub use crc::crc32c;
+
+#[cfg(test)]
+mod tests;
