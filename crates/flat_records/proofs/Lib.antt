@@ -1,0 +1,7 @@
+pub mod WordLists
+pub mod Spelled
+pub mod Joined
+pub mod Digits
+pub mod Shapes
+pub mod Parts
+pub mod Single

@@ -1,0 +1,8 @@
+pub mod Lexemes
+pub mod Placed
+pub mod Words
+pub mod Form
+pub mod Found
+pub mod Spelling
+pub mod Stops
+pub mod Text

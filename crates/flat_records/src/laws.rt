@@ -1,0 +1,30 @@
+//! Laws of reading and of the form: functions of no parameters, whose contracts speak of the definitions alone.
+ghost use Rattle.std.specs.Prelude.{◌≡◌, ℕ, List};
+ghost use Rattle.typed_value.specs.Val.{Val};
+ghost use Rattle.flat_records.specs.Lexemes.{Lexeme};
+ghost use Rattle.flat_records.specs.Form.{Declares};
+ghost use Rattle.flat_records.specs.Spelling.{Reading, Stuck};
+ghost use Rattle.flat_records.specs.declared.declaration.Declaration.{Declaration};
+ghost use Rattle.flat_records.specs.declared.read.Cause.{Cause};
+ghost use Rattle.flat_records.specs.declared.read.Spot.{Spot};
+
+/// Bits have at most one reading at a declaration.
+pub fn one_reading()
+    ensures { (d : Declaration) (bits : List ℕ) (refs : ℕ) (v w : Val) → Reading d bits refs v → Reading d bits refs w → v ≡ w }
+{}
+
+/// Reading stops at one place at most, for one cause.
+pub fn one_stop()
+    ensures spot { (d : Declaration) (bits : List ℕ) (refs : ℕ) (s t : Spot) (a b : Cause) → Stuck d bits refs s a → Stuck d bits refs t b → s ≡ t }
+    ensures cause { (d : Declaration) (bits : List ℕ) (refs : ℕ) (s t : Spot) (a b : Cause) → Stuck d bits refs s a → Stuck d bits refs t b → a ≡ b }
+{}
+
+/// Bits that have a reading don't stop it.
+pub fn read_or_stuck()
+    ensures { (d : Declaration) (bits : List ℕ) (refs : ℕ) (v : Val) (s : Spot) (a : Cause) → Reading d bits refs v → Stuck d bits refs s a → ⊥ }
+{}
+
+/// Lexemes are of one list of declarations at most.
+pub fn one_form()
+    ensures { (ls : List Lexeme) (ds es : List Declaration) → Declares ls ds → Declares ls es → ds ≡ es }
+{}
