@@ -1,8 +1,10 @@
-pub mod FreeLemmas
-pub mod GrammarLemmas
 pub mod Judging
+pub mod Layers
+pub mod Levels
 pub mod Moved
+pub mod Once
 pub mod Opened
 pub mod Refusing
+pub mod Said
 pub mod Saying
 pub mod Shown

@@ -1,9 +1,9 @@
 -- From what a command answers to what is said of the program.
-use Rattle.std.proofs.Common.{◌≡◌, ◌≢◌, ◌⊎◌, inl, inr, ap, refl, subst, ℕ, List, Option, None, Some, IfSome}
+use Rattle.std.proofs.Common.{◌≡◌, ◌≢◌, ◌⊎◌, inl, inr, refl, subst, ℕ, List, Option, None, Some, IfSome}
 use Rattle.tlb_edge.specs.Files.{Files, Name}
 use Rattle.tlb_edge.specs.Moves.{Writes}
-use Rattle.tlb_cli.specs.Causes.{Agrees, Judges, JudgesText, ReadFails, IsTooLong, IsJudged}
-use Rattle.tlb_cli.specs.Outcome.{Verdict, outcome, of_form, usage_line}
+use Rattle.tlb_cli.specs.Causes.{Judges, IsOutcome, JudgesText, ReadFails, IsTooLong, IsJudged}
+use Rattle.tlb_cli.specs.Outcome.{Verdict, of_form, usage_line}
 use Rattle.tlb_cli.specs.Words.{Form, form_of, files_of}
 use Rattle.tlb_cli.specs.declared.status.Status.{Status}
 use Rattle.tlb_cli.specs.declared.status.Status.TheVariants.{Usage, ReadFault}
@@ -16,24 +16,33 @@ pub judged_reads : (s : Status) → IsJudged s → s ≢ ReadFault
 judged_reads ReadFault judged e = judged
 judged_reads s judged e = cc
 
-agrees_gives : (o : Option Verdict) (v : Verdict) (old new : Option (List ℕ)) → Agrees o v → Writes old new v.text →
-    IfSome o (λ w. (v.status ≡ w.status) × Writes old new w.text)
-agrees_gives None v old new agrees put = tt
-agrees_gives (Some w) v old new agrees put = (ap (λ x. x.status) agrees, let P : Verdict → Type 0 = λ x. Writes old new x.text in subst P agrees put)
-
-pub outcome_is : (held : Option Files) (words : List Name) (form : Option Form) (v : Verdict) (old new : Option (List ℕ)) → form ≡ form_of words → Judges form held v → Writes old new v.text →
-    IfSome held (λ files. IfSome (outcome words files) (λ w. (v.status ≡ w.status) × Writes old new w.text))
-outcome_is None words form v old new is judges put = tt
-outcome_is (Some files) words form v old new is judges put =
-    let P : Option Form → Type 0 = λ f. IfSome (of_form f files) (λ w. (v.status ≡ w.status) × Writes old new w.text) in
-    subst P is (agrees_gives (of_form form files) v old new judges put)
-
-pub usage_judged : (held : Option Files) (form : Option Form) → None ≡ form → JudgesText form held usage_line
-usage_judged None form is = (Usage, tt)
-usage_judged (Some files) form is = (Usage, let P : Option Form → Type 0 = λ f. Agrees (of_form f files) (record { status = Usage; text = usage_line }) in subst P is refl)
-
 pub judges_text : (held : Option Files) (form other : Option Form) (v : Verdict) → form ≡ other → Judges form held v → JudgesText other held v.text
 judges_text held form other v is judges = (v.status, let P : Option Form → Type 0 = λ f. Judges f held v in subst P is judges)
+
+-- the verdict is the outcome, and its text was put
+pub outcome_is : (held : Option Files) (words : List Name) (form : Option Form) (v : Verdict) (old new : Option (List ℕ)) → form ≡ form_of words → Judges form held v → Writes old new v.text →
+    IfSome held (λ files. IsOutcome words files v.status old new)
+outcome_is None words form v old new is judges put = tt
+outcome_is (Some files) words form v old new is judges put =
+    let P : Option Form → Type 0 = λ f. of_form f files v in
+    record { verdict = v; is_outcome = subst P is judges; same_status = refl; put = put }
+
+usage : Verdict
+usage = record { status = Usage; text = usage_line }
+
+usage_judges : (held : Option Files) → Judges None held usage
+unfolding usage
+usage_judges None = tt
+usage_judges (Some files) = refl
+
+pub usage_outcome : (held : Option Files) (words : List Name) (old new : Option (List ℕ)) → None ≡ form_of words → Writes old new usage_line →
+    IfSome held (λ files. IsOutcome words files Usage old new)
+unfolding usage
+usage_outcome held words old new is put = outcome_is held words None usage old new is (usage_judges held) put
+
+pub usage_judged : (held : Option Files) (form : Option Form) → None ≡ form → JudgesText form held usage_line
+unfolding usage
+usage_judged held form is = judges_text held None form usage is (usage_judges held)
 
 pub read_fails : (form other : Option Form) (opens opens' faults faults' : ℕ) (text : List ℕ) → form ≡ other →
     ReadFails (files_of form) opens opens' faults faults' text → ReadFails (files_of other) opens opens' faults faults' text

@@ -1,25 +1,29 @@
 -- What shows an answer of a command.
 use Rattle.std.specs.Prelude.{◌≡◌, ◌++◌, codes, ℕ, ◌<◌, List, ⊤, Option, None, Some}
 use Rattle.tlb_edge.specs.Causes.{Rose, last}
-use Rattle.tlb_edge.specs.Files.{Files}
-use Rattle.tlb_cli.specs.Outcome.{Verdict, of_form, read_line, long_line, line_of}
+use Rattle.tlb_edge.specs.Files.{Files, Name}
+use Rattle.tlb_edge.specs.Moves.{Writes}
+use Rattle.tlb_cli.specs.Lines.{line_of}
+use Rattle.tlb_cli.specs.Outcome.{Verdict, of_form, outcome, read_line, long_line}
 use Rattle.tlb_cli.specs.Words.{Form, FileWord, IsLastOpened}
 use Rattle.tlb_cli.specs.declared.status.Status.{Status}
 use Rattle.tlb_cli.specs.declared.status.Status.TheVariants.{Done, Usage, ReadFault, WriteFault, NoMemory}
 
--- it is the outcome, where that is said
-abbrev pub Agrees : Option Verdict → Verdict → Type 0
-Agrees None verdict = ⊤
-Agrees (Some outcome) verdict = verdict ≡ outcome
-
 -- it is the outcome, where what is held is told
 abbrev pub Judges : Option Form → Option Files → Verdict → Type 0
 Judges form None verdict = ⊤
-Judges form (Some files) verdict = Agrees (of_form form files) verdict
+Judges form (Some files) verdict = of_form form files verdict
 
 -- a text is that of the outcome, where what is held is told
 abbrev pub JudgesText : Option Form → Option Files → List ℕ → Type 0
 JudgesText form held text = (status : Status) × Judges form held (record { status = status; text = text })
+
+-- the outcome has this status, and its text was put
+pub record IsOutcome (words : List Name) (files : Files) (status : Status) (before now : Option (List ℕ)) : Type 0 where
+  pub verdict : Verdict
+  pub is_outcome : outcome words files verdict
+  pub same_status : status ≡ verdict.status
+  pub put : Writes before now verdict.text
 
 -- the shelf failed, and the line names the file that was opened last
 pub record ReadFails (files : List FileWord) (opens opens' faults faults' : ℕ) (text : List ℕ) : Type 0 where

@@ -1,10 +1,8 @@
-pub mod Bag
 pub mod Causes
 pub mod Code
-pub mod Grammar
+pub mod Lines
 pub mod Loaded
 pub mod Outcome
-pub mod Reading
 pub mod Schema
 pub mod View
 pub mod Words

@@ -1,21 +1,27 @@
 -- What a command answers: a status and a text.
-use Rattle.std.specs.Prelude.{ℕ, ◌∷◌, [], ◌++◌, List, length, nat_lt, Option, None, Some, if◌then◌else◌, codes}
-use Rattle.std.specs.Str.{bytes_eq}
+use Rattle.std.specs.Prelude.{◌≡◌, ℕ, ◌<◌, ◌≤◌, true, false, List, ◌++◌, length, Option, None, Some, codes, ⊤}
 use Rattle.tlb_edge.specs.Files.{Files, Name, file_at}
-use Rattle.tlb_cli.specs.Bag.{Cell, cell_of}
-use Rattle.tlb_cli.specs.Reading.{value_of, text_of}
-use Rattle.tlb_cli.specs.Schema.{Declared, schema_of}
-use Rattle.tlb_cli.specs.Words.{Form, TypedWords, read_form, form_of, schema_limit, bag_limit}
+use Rattle.bag_cells.specs.Bag.{BagHolds, BagRefused as IsRefused}
+use Rattle.bag_cells.specs.declared.error.BagError.{BagError}
+use Rattle.cell_nodes.specs.Tree.{is_exotic, mask}
+use Rattle.cell_nodes.specs.declared.tree.Tree.{Tree, out-Tree}
+use Rattle.flat_records.specs.Form.{declared}
+use Rattle.flat_records.specs.Spelling.{Reading, Stuck}
+use Rattle.flat_records.specs.Text.{text_of}
+use Rattle.flat_records.specs.declared.declaration.Declaration.{Declaration}
+use Rattle.flat_records.specs.declared.read.Cause.{Cause}
+use Rattle.flat_records.specs.declared.read.Spot.{Spot}
+use Rattle.flat_records.specs.declared.read.Spot.TheVariants.{Root}
+use Rattle.typed_value.specs.Val.{Val}
+use Rattle.tlb_cli.specs.Lines.{line_of, spaced, bag_cause, spot_text, cause_text, level_lines}
+use Rattle.tlb_cli.specs.Schema.{FormOf}
+use Rattle.tlb_cli.specs.Words.{Form, TypedWords, read_form, hash_form, form_of, schema_limit, bag_limit}
 use Rattle.tlb_cli.specs.declared.status.Status.{Status}
-use Rattle.tlb_cli.specs.declared.status.Status.TheVariants.{Done, Usage, TooLong, SchemaRefused, BagRefused, TypeRefused}
+use Rattle.tlb_cli.specs.declared.status.Status.TheVariants.{Done, Usage, TooLong, SchemaRefused, BagRefused, TypeRefused, CellRefused}
 
 pub record Verdict : Type 0 where
   pub status : Status
   pub text : List ℕ
-
--- a text and a line feed
-abbrev pub line_of : List ℕ → List ℕ
-line_of text = text ++ 10 ∷ []
 
 abbrev pub says : Status → List ℕ → Verdict
 says status text = record { status = status; text = line_of text }
@@ -27,42 +33,66 @@ read_line name = line_of (codes "refused: read " ++ name)
 abbrev pub long_line : Name → List ℕ
 long_line name = line_of (codes "refused: long " ++ name)
 
+abbrev pub long_refusal : Name → Verdict
+long_refusal name = record { status = TooLong; text = long_line name }
+
 abbrev pub usage_line : List ℕ
 usage_line = line_of (codes "refused: usage")
 
--- the text of the value that the cell spells
-abbrev pub of_cell : Declared → Cell → Verdict
-of_cell declared cell = says Done (text_of (value_of declared))
+abbrev pub cell_refusal : Declaration → Spot → List ℕ → Verdict
+cell_refusal d spot cause = says CellRefused (codes "refused: cell " ++ spaced (spot_text d spot) cause)
 
-abbrev pub of_bag : Declared → Option Cell → Verdict
-of_bag declared None = says BagRefused (codes "refused: bag Unsupported")
-of_bag declared (Some cell) = of_cell declared cell
+-- A cell at a declaration: it is exotic, or reading stops at a place, or it holds a value.
+pub data OfCell (d : Declaration) (t : Tree) (v : Verdict) : Type 0 where
+  exotic : is_exotic (out-Tree t).kind ≡ true → v ≡ cell_refusal d Root (codes "Exotic") → OfCell d t v
+  stops : (spot : Spot) (cause : Cause) → is_exotic (out-Tree t).kind ≡ false
+      → Stuck d (out-Tree t).bits (length (out-Tree t).children) spot cause
+      → v ≡ cell_refusal d spot (cause_text cause) → OfCell d t v
+  holds : (value : Val) → is_exotic (out-Tree t).kind ≡ false
+      → Reading d (out-Tree t).bits (length (out-Tree t).children) value
+      → v ≡ says Done (text_of value) → OfCell d t v
 
--- the type word is the name of the declared type, or is refused
-abbrev pub of_type : Name → Declared → List ℕ → Verdict
-of_type type_word declared bag =
-    if bytes_eq type_word declared.type_name then of_bag declared (cell_of bag) else says TypeRefused (codes "refused: type Unsupported")
+-- the lines of a cell's levels
+abbrev pub OfLevels : Tree → Verdict → Type 0
+OfLevels t v = v ≡ record { status = Done; text = level_lines t (mask t) }
 
-abbrev pub of_schema : Name → Option Declared → List ℕ → Verdict
-of_schema type_word None bag = says SchemaRefused (codes "refused: schema Unsupported")
-of_schema type_word (Some declared) bag = of_type type_word declared bag
+-- A bag is refused, or the cell that it holds is judged.
+pub data OfBag (next : Tree → Verdict → Type 0) (bag : List ℕ) (v : Verdict) : Type 0 where
+  refused : (error : BagError) → IsRefused bag error → v ≡ says BagRefused (codes "refused: bag " ++ bag_cause error) → OfBag next bag v
+  holds : (t : Tree) → BagHolds bag t → next t v → OfBag next bag v
 
--- With a file that is held, and that is too long or not. Nothing is said where it is not held.
-abbrev pub with_file : Option (List ℕ) → Name → ℕ → (List ℕ → Option Verdict) → Option Verdict
-with_file None name limit next = None
-with_file (Some bytes) name limit next = if nat_lt limit (length bytes) then Some (says TooLong (codes "refused: long " ++ name)) else next bytes
+-- A type word names no declared type, or the bag is judged at its declaration.
+pub data OfType (word : Name) (ds : List Declaration) (bag : List ℕ) (v : Verdict) : Type 0 where
+  unknown : declared ds word ≡ None → v ≡ says TypeRefused (codes "refused: type Unsupported") → OfType word ds bag v
+  named : (d : Declaration) → declared ds word ≡ Some d → OfBag (OfCell d) bag v → OfType word ds bag v
+
+-- A schema is outside the form, or the type word is judged over its declarations.
+pub data OfSchema (word : Name) (schema bag : List ℕ) (v : Verdict) : Type 0 where
+  outside : ((ds : List Declaration) → FormOf schema ds → ⊥) → v ≡ says SchemaRefused (codes "refused: schema Unsupported") → OfSchema word schema bag v
+  written : (ds : List Declaration) → FormOf schema ds → OfType word ds bag v → OfSchema word schema bag v
+
+-- A file has more bytes than its limit, or they are judged.
+pub data OfFile (next : List ℕ → Verdict → Type 0) (name : Name) (limit : ℕ) (bytes : List ℕ) (v : Verdict) : Type 0 where
+  too_long : limit < length bytes → v ≡ long_refusal name → OfFile next name limit bytes v
+  within : length bytes ≤ limit → next bytes v → OfFile next name limit bytes v
+
+-- the file with that name, where it is held
+abbrev pub with_file : Option (List ℕ) → Name → ℕ → (List ℕ → Verdict → Type 0) → Verdict → Type 0
+with_file None name limit next v = ⊤
+with_file (Some bytes) name limit next v = OfFile next name limit bytes v
 
 -- with the files of a schema and of a bag
-abbrev pub with_typed : TypedWords → Files → (List ℕ → List ℕ → Verdict) → Option Verdict
+abbrev pub with_typed : TypedWords → Files → (List ℕ → List ℕ → Verdict → Type 0) → Verdict → Type 0
 with_typed words files judged =
     with_file (file_at files words.schema) words.schema schema_limit (λ schema.
-    with_file (file_at files words.bag) words.bag bag_limit (λ bag. Some (judged schema bag)))
+    with_file (file_at files words.bag) words.bag bag_limit (λ bag. judged schema bag))
 
-abbrev pub of_form : Option Form → Files → Option Verdict
-of_form None files = Some (says Usage (codes "refused: usage"))
-of_form (Some (read_form words)) files = with_typed words files (λ schema bag. of_schema words.type_word (schema_of schema) bag)
+abbrev pub of_form : Option Form → Files → Verdict → Type 0
+of_form None files v = v ≡ record { status = Usage; text = usage_line }
+of_form (Some (read_form words)) files v = with_typed words files (OfSchema words.type_word) v
+of_form (Some (hash_form bag)) files v = with_file (file_at files bag) bag bag_limit (OfBag OfLevels) v
 
--- The status and the text of a command over these files. Nothing is said where a file that is loaded,
+-- A command over these files has this status and this text. Nothing is said where a file that is loaded,
 -- up to the first that is too long, is not among them.
-abbrev pub outcome : List Name → Files → Option Verdict
-outcome words files = of_form (form_of words) files
+abbrev pub outcome : List Name → Files → Verdict → Type 0
+outcome words files v = of_form (form_of words) files v

@@ -1,5 +1,5 @@
 -- The words of a command line, and the files that they name.
-use Rattle.std.specs.Prelude.{◌≡◌, ℕ, ◌+◌, ◌&&◌, Bool, List, [], ◌∷◌, length, not, nat_lt, Option, None, Some, if◌then◌else◌, codes, slice_get, All, IsSome}
+use Rattle.std.specs.Prelude.{◌≡◌, ℕ, ◌+◌, ◌&&◌, Bool, false, List, [], ◌∷◌, length, not, nat_lt, Option, None, Some, if◌then◌else◌, codes, slice_get, All, IsSome}
 use Rattle.std.specs.List.{list_any}
 use Rattle.std.specs.Str.{bytes_eq}
 use Rattle.tlb_edge.specs.Causes.{counted}
@@ -14,15 +14,22 @@ pub record TypedWords : Type 0 where
 -- a command with its words
 pub data Form : Type 0 where
   read_form : TypedWords → Form
+  hash_form : Name → Form
 
 -- a word of more than 1,048,576 bytes is no word of a command form
 abbrev pub is_long : Name → Bool
 is_long word = nat_lt 1048576 (length word)
 
--- `read SCHEMA TYPE BAG` is the one command form
+-- the word is that verb, and no word is too long
+abbrev pub is_called : List ℕ → List Name → Bool
+is_called verb [] = false
+is_called verb (word ∷ words) = bytes_eq word verb && not (list_any is_long (word ∷ words))
+
+-- `hash BAG` and `read SCHEMA TYPE BAG` are the command forms
 abbrev pub form_of : List Name → Option Form
+form_of (command ∷ bag ∷ []) = if is_called (codes "hash") (command ∷ bag ∷ []) then Some (hash_form bag) else None
 form_of (command ∷ schema ∷ type_word ∷ bag ∷ []) =
-    if bytes_eq command (codes "read") && not (list_any is_long (command ∷ schema ∷ type_word ∷ bag ∷ []))
+    if is_called (codes "read") (command ∷ schema ∷ type_word ∷ bag ∷ [])
     then Some (read_form (record { schema = schema; type_word = type_word; bag = bag }))
     else None
 form_of words = None
@@ -38,11 +45,17 @@ schema_limit = 1048576
 abbrev pub bag_limit : ℕ
 bag_limit = 134217728
 
+abbrev pub schema_word : Name → FileWord
+schema_word name = record { name = name; limit = schema_limit }
+
+abbrev pub bag_word : Name → FileWord
+bag_word name = record { name = name; limit = bag_limit }
+
 -- the file words of a command, in the order in which they are loaded
 abbrev pub files_of : Option Form → List FileWord
 files_of None = []
-files_of (Some (read_form words)) =
-    record { name = words.schema; limit = schema_limit } ∷ record { name = words.bag; limit = bag_limit } ∷ []
+files_of (Some (read_form words)) = schema_word words.schema ∷ bag_word words.bag ∷ []
+files_of (Some (hash_form bag)) = bag_word bag ∷ []
 
 -- each file word is the name of a file that is held
 abbrev pub HoldsAll : Files → List FileWord → Type 0

@@ -1,18 +1,24 @@
 //! What a command answers, before it is put.
-ghost use Rattle.std.specs.Prelude.{◌≡◌, ◌≢◌, ◌⊎◌, IfOk};
-ghost use Rattle.tlb_cli.specs.Bag.{cell_of};
+ghost use Rattle.std.specs.Prelude.{◌≡◌, ◌≢◌, ◌≤◌, ◌⊎◌, ◌++◌, codes, length, IfOk, Some};
+ghost use Rattle.bag_cells.specs.Bag.{IfAnswered, BagHolds, BagRefused as IsRefused};
+ghost use Rattle.bag_cells.specs.declared.error.BagError.TheVariants.{NoMemory as OutOfMemory};
+ghost use Rattle.cell_nodes.specs.Tree.{is_exotic};
+ghost use Rattle.cell_nodes.specs.declared.tree.Tree.{out-Tree};
+ghost use Rattle.flat_records.specs.Form.{AreShaped, AreShapedFields};
 ghost use Rattle.tlb_cli.specs.Causes.{Judges, ReadFails, IsTooLong, IsAnswer, IsRefusal, IsRefusalLine};
-ghost use Rattle.tlb_cli.specs.Outcome.{of_schema, of_type, of_bag, of_cell, says, read_line, long_line};
-ghost use Rattle.tlb_cli.specs.Schema.{schema_of};
-ghost use Rattle.tlb_cli.specs.View.{cell_by, declared_by, form_by, verdict_by, words_by};
-ghost use Rattle.tlb_cli.specs.Words.{files_of, read_form};
+ghost use Rattle.tlb_cli.specs.Lines.{bag_cause};
+ghost use Rattle.tlb_cli.specs.Outcome.{OfCell, OfLevels, OfBag, OfType, OfSchema, cell_refusal, says, read_line, long_line, long_refusal};
+ghost use Rattle.tlb_cli.specs.View.{form_by, verdict_by, words_by};
+ghost use Rattle.tlb_cli.specs.Words.{files_of, read_form, hash_form};
 
-use crate::bag::{EmptyCell, read_bag};
 use crate::command::{Command, Typed};
+use crate::lines::{bag_words, cause_words, level_lines, spot_words};
 use crate::load::{LoadError, load};
-use crate::reading::{print_value, read_value};
-use crate::schema::{Declaration, read_schema};
+use crate::schema::read_schema;
 use crate::status::Status;
+use bag_cells::{BagError, read_bag};
+use cell_nodes::{Cell, Kind};
+use flat_records::{Declaration, ReadError, Spot, of_type, print, read_record};
 use std::alloc::Global;
 use tlb_edge::Shelf;
 use tlb_memory::NoMemory;
@@ -37,52 +43,129 @@ fn line(alloc: Global, status: Status, words: &[u8]) -> Result<Answer, NoMemory>
     Ok(Answer { status, text })
 }
 
-fn judge_cell(
-    alloc: Global,
-    declared: &Declaration<'_>,
-    cell: EmptyCell,
-) -> Result<Answer, NoMemory>
-    ensures { IfOk result (λ a. verdict_by a ≡ of_cell (declared_by declared.now) (cell_by cell)) }
+// A line of two parts that is put with a status.
+fn refusal(alloc: Global, status: Status, front: &[u8], back: &[u8]) -> Result<Answer, NoMemory>
+    ensures { IfOk result (λ a. verdict_by a ≡ says status (front.now ++ back.now)) }
 {
-    let mut text = print_value(alloc, &read_value(declared, cell))?;
-    text.extend_from_slice(b"\n")?;
+    let mut words = Vec::from_slice(alloc, front)?;
+    words.extend_from_slice(back)?;
+    line(alloc, status, &words)
+}
+
+fn is_exotic(cell: &Cell) -> bool
+    ensures { result ≡ is_exotic (out-Tree cell.now).kind }
+{
+    match cell.kind() {
+        Kind::Ordinary => false,
+        Kind::Pruned => true,
+        Kind::Library => true,
+        Kind::Proof => true,
+    }
+}
+
+fn refuse_cell(
+    alloc: Global,
+    declaration: &Declaration,
+    spot: Spot,
+    cause: &[u8],
+) -> Result<Answer, NoMemory>
+    ensures { IfOk result (λ a. verdict_by a ≡ cell_refusal declaration.now spot cause.now) }
+{
+    let mut words = spot_words(alloc, declaration, spot)?;
+    words.extend_from_slice(b" ")?;
+    words.extend_from_slice(cause)?;
+    refusal(alloc, Status::CellRefused, b"refused: cell ", &words)
+}
+
+// The value that the cell holds, or where reading stops.
+fn judge_cell(alloc: Global, declaration: &Declaration, cell: &Cell) -> Result<Answer, NoMemory>
+    requires { AreShapedFields declaration.now.fields }
+    ensures { IfOk result (λ a. OfCell declaration.now cell.now (verdict_by a)) }
+{
+    if is_exotic(cell) {
+        return refuse_cell(alloc, declaration, Spot::Root, b"Exotic");
+    }
+    match read_record(alloc, declaration, cell.bits(), cell.refs()) {
+        Ok(value) => line(alloc, Status::Done, &print(alloc, &value)?),
+        Err(ReadError::Stuck(spot, cause)) => refuse_cell(
+            alloc,
+            declaration,
+            spot,
+            cause_words(cause),
+        ),
+        Err(ReadError::NoMemory) => Err(NoMemory),
+    }
+}
+
+// The lines of the cell's levels.
+fn judge_levels(alloc: Global, cell: &Cell) -> Result<Answer, NoMemory>
+    ensures { IfOk result (λ a. OfLevels cell.now (verdict_by a)) }
+{
+    let text = level_lines(alloc, cell)?;
     Ok(Answer {
         status: Status::Done,
         text,
     })
 }
 
-fn judge_bag(alloc: Global, declared: &Declaration<'_>, bag: &[u8]) -> Result<Answer, NoMemory>
-    ensures { IfOk result (λ a. verdict_by a ≡ of_bag (declared_by declared.now) (cell_of bag.now)) }
+// The cell that a bag holds, or the bag's refusal; the bag's bytes are given back first.
+fn read_cell(alloc: Global, bag: Vec<u8>) -> Result<Cell, BagError>
+    ensures { IfAnswered result (λ c. BagHolds bag.items c) (λ e. IsRefused bag.items e) }
 {
-    match read_bag(bag) {
-        None => line(alloc, Status::BagRefused, b"refused: bag Unsupported"),
-        Some(cell) => judge_cell(alloc, declared, cell),
-    }
+    read_bag(alloc, &bag)
+}
+
+fn refuse_bag(alloc: Global, error: BagError) -> Result<Answer, NoMemory>
+    ensures refused { IfOk result (λ a. verdict_by a ≡ says Status.BagRefused (codes "refused: bag " ++ bag_cause error)) }
+    ensures memory { IfOk result (λ _. error ≢ OutOfMemory) }
+{
+    let words = bag_words(alloc, error)?;
+    refusal(alloc, Status::BagRefused, b"refused: bag ", &words)
 }
 
 fn judge_type(
     alloc: Global,
     type_word: &str,
-    declared: &Declaration<'_>,
-    bag: &[u8],
+    declarations: &[Declaration],
+    bag: Vec<u8>,
 ) -> Result<Answer, NoMemory>
-    ensures { IfOk result (λ a. verdict_by a ≡ of_type type_word.now (declared_by declared.now) bag.now) }
+    requires { AreShaped declarations.now }
+    ensures { IfOk result (λ a. OfType type_word.now declarations.now bag.items (verdict_by a)) }
 {
-    if type_word.as_bytes() == declared.type_name {
-        judge_bag(alloc, declared, bag)
-    } else {
-        line(alloc, Status::TypeRefused, b"refused: type Unsupported")
+    let Some(declaration) = of_type(declarations, type_word.as_bytes()) else {
+        return line(alloc, Status::TypeRefused, b"refused: type Unsupported");
+    };
+    match read_cell(alloc, bag) {
+        Ok(cell) => judge_cell(alloc, declaration, &cell),
+        Err(error) => refuse_bag(alloc, error),
     }
 }
 
-// The value in the bag, or the first refusal of the schema, the type word and the bag.
-fn judge_read(alloc: Global, type_word: &str, schema: &[u8], bag: &[u8]) -> Result<Answer, NoMemory>
-    ensures { IfOk result (λ a. verdict_by a ≡ of_schema type_word.now (schema_of schema.now) bag.now) }
+// The value in the bag, or the first refusal of the schema, the type word, the bag and the cell.
+fn judge_read(
+    alloc: Global,
+    type_word: &str,
+    schema: Vec<u8>,
+    bag: Vec<u8>,
+) -> Result<Answer, NoMemory>
+    requires { length schema.items ≤ 1048576 }
+    ensures { IfOk result (λ a. OfSchema type_word.now schema.items bag.items (verdict_by a)) }
 {
-    match read_schema(schema) {
+    let found = read_schema(alloc, &schema)?;
+    drop(schema);
+    match found {
         None => line(alloc, Status::SchemaRefused, b"refused: schema Unsupported"),
-        Some(declared) => judge_type(alloc, type_word, &declared, bag),
+        Some(declarations) => judge_type(alloc, type_word, declarations.as_slice(), bag),
+    }
+}
+
+// The hashes of the cell in the bag, or the bag's refusal.
+fn judge_hash(alloc: Global, bag: Vec<u8>) -> Result<Answer, NoMemory>
+    ensures { IfOk result (λ a. OfBag OfLevels bag.items (verdict_by a)) }
+{
+    match read_cell(alloc, bag) {
+        Ok(cell) => judge_levels(alloc, &cell),
+        Err(error) => refuse_bag(alloc, error),
     }
 }
 
@@ -91,6 +174,7 @@ fn refuse_file(alloc: Global, error: LoadError, name: &str) -> Result<Answer, No
     ensures kind { IfOk result (λ a. (a.status ≡ Status.ReadFault) ⊎ (a.status ≡ Status.TooLong)) }
     ensures fault { IfOk result (λ a. a.status ≡ Status.ReadFault → (error ≡ LoadError.Fault) × (a.text.items ≡ read_line name.now)) }
     ensures too_long { IfOk result (λ a. a.status ≡ Status.TooLong → (error ≡ LoadError.TooLong) × (a.text.items ≡ long_line name.now)) }
+    ensures judged { IfOk result (λ a. a.status ≢ Status.ReadFault → (error ≡ LoadError.TooLong) × (verdict_by a ≡ long_refusal name.now)) }
 {
     let (status, front) = match error {
         LoadError::NoMemory => return Err(NoMemory),
@@ -126,7 +210,24 @@ fn answer_read<H: Shelf>(
         Ok(bytes) => bytes,
         Err(error) => return refuse_file(alloc, error, words.bag),
     };
-    judge_read(alloc, words.type_word, &schema, &bag)
+    judge_read(alloc, words.type_word, schema, bag)
+}
+
+// `hash`: what the bag answers.
+fn answer_hash<H: Shelf>(alloc: Global, name: &str, shelf: &mut H) -> Result<Answer, NoMemory>
+    ensures held { H.held shelf.new ≡ H.held shelf.old }
+    ensures kind { IfOk result (λ a. IsAnswer a.status) }
+    ensures refused { IfOk result (λ a. IsRefusal a.status → IsRefusalLine a.text.items) }
+    ensures judged { IfOk result (λ a. a.status ≢ Status.ReadFault → Judges (Some (hash_form name.now)) (H.held shelf.old) (verdict_by a)) }
+    ensures read_fault { IfOk result (λ a. a.status ≡ Status.ReadFault → ReadFails (files_of (Some (hash_form name.now)))
+        (H.opens shelf.old) (H.opens shelf.new) (H.faults shelf.old) (H.faults shelf.new) a.text.items) }
+    ensures too_long { IfOk result (λ a. a.status ≡ Status.TooLong → IsTooLong (files_of (Some (hash_form name.now)))
+        (H.opens shelf.old) (H.opens shelf.new) (H.given shelf.new) a.text.items) }
+{
+    match load(alloc, shelf, name, BAG_LIMIT) {
+        Ok(bag) => judge_hash(alloc, bag),
+        Err(error) => refuse_file(alloc, error, name),
+    }
 }
 
 /// What a command answers: a status, and the text that is to be put with it.
@@ -150,5 +251,6 @@ pub fn answer_to<H: Shelf>(
 {
     match command {
         Command::Read(words) => answer_read(alloc, words, shelf),
+        Command::Hash(name) => answer_hash(alloc, name, shelf),
     }
 }

@@ -2,10 +2,10 @@
 #![tactic(auto)]
 
 mod answer;
-mod bag;
 mod command;
+mod laws;
+mod lines;
 mod load;
-mod reading;
 mod run;
 mod schema;
 mod status;

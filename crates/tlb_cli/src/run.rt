@@ -1,11 +1,11 @@
 //! The top call.
-ghost use Rattle.std.specs.Prelude.{◌≡◌, ◌≢◌, ◌⊎◌, ℕ, List, map, string_bytes, Some, IfSome, IsSome, IsNone, IsSomeAnd};
+ghost use Rattle.std.specs.Prelude.{◌≡◌, ◌≢◌, ◌⊎◌, ℕ, List, map, string_bytes, Some, IfSome, IsSome, IsNone};
 ghost use Rattle.tlb_edge.specs.Causes.{Rose};
 ghost use Rattle.tlb_edge.specs.Moves.{Writes, WritesFront};
 ghost use Rattle.tlb_edge.specs.SureShelf.{held_by};
-ghost use Rattle.tlb_cli.specs.Outcome.{outcome};
-ghost use Rattle.tlb_cli.specs.Causes.{JudgesText, ReadFails, IsTooLong, IsJudged, IsCalm, IsRefusal, IsRefusalLine};
-ghost use Rattle.tlb_cli.specs.Words.{form_of, files_of, HoldsAll};
+ghost use Rattle.tlb_cli.specs.Outcome.{outcome, Verdict};
+ghost use Rattle.tlb_cli.specs.Causes.{JudgesText, IsOutcome, ReadFails, IsTooLong, IsJudged, IsCalm, IsRefusal, IsRefusalLine};
+ghost use Rattle.tlb_cli.specs.Words.{form_of, files_of};
 
 use crate::answer::answer_to;
 use crate::command::read_words;
@@ -18,8 +18,8 @@ use tlb_edge::{Shelf, Sink, SureShelf, SureSink};
 /// text, or the line of a refusal, goes to `out`.
 pub fn run<H: Shelf, K: Sink>(alloc: Global, words: &[String], shelf: &mut H, out: &mut K) -> Status
     // Where it is told what is held, the status and the text are those of the outcome.
-    ensures outcome { IsJudged result → IfSome (H.held shelf.old) (λ files. IfSome (outcome (map string_bytes words.now) files)
-        (λ v. (result ≡ v.status) × Writes (K.written out.old) (K.written out.new) v.text)) }
+    ensures outcome { IsJudged result → IfSome (H.held shelf.old)
+        (λ files. IsOutcome (map string_bytes words.now) files result (K.written out.old) (K.written out.new)) }
 
     // It is a usage fault exactly where the words are no command form, unless its line could not be put.
     ensures usage { result ≡ Status.Usage → IsNone (form_of (map string_bytes words.now)) }
@@ -71,8 +71,7 @@ pub fn run_honestly<H: Shelf, K: Sink>(
     out: &mut K,
 ) -> Status
     ensures complete { IsCalm (H.faults shelf.old) (H.faults shelf.new) → IsCalm (K.faults out.old) (K.faults out.new) → result ≢ Status.NoMemory →
-        IfSome (H.held shelf.old) (λ files. IfSome (outcome (map string_bytes words.now) files)
-        (λ v. (result ≡ v.status) × Writes (K.written out.old) (K.written out.new) v.text)) }
+        IfSome (H.held shelf.old) (λ files. IsOutcome (map string_bytes words.now) files result (K.written out.old) (K.written out.new)) }
 {
     run(alloc, words, shelf, out)
 }
@@ -86,8 +85,8 @@ pub fn run_surely(
 ) -> Status
     ensures reads { result ≢ Status.ReadFault }
     ensures writes { result ≢ Status.WriteFault }
-    ensures complete { HoldsAll (held_by shelf.old) (files_of (form_of (map string_bytes words.now))) → result ≢ Status.NoMemory →
-        IsSomeAnd (outcome (map string_bytes words.now) (held_by shelf.old)) (λ v. result ≡ v.status) }
+    ensures complete { result ≢ Status.NoMemory →
+        (v : Verdict) × outcome (map string_bytes words.now) (held_by shelf.old) v × (result ≡ v.status) }
 {
     run(alloc, words, shelf, out)
 }

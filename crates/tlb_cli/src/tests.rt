@@ -1,4 +1,4 @@
-//! The worked row of `read`, and each status that it can end with.
+//! The worked rows of `read` and of `hash`, and each status that they can end with.
 use super::*;
 use crate::run::{run_honestly, run_surely};
 use std::alloc::Global;
@@ -7,7 +7,18 @@ use tlb_edge::{MemShelf, MemSink, SureShelf, SureSink};
 
 const UNIT: &str = "unit$_ = Unit;";
 
-const UNIT_BAG: [u8; 13] = [0xb5, 0xee, 0x9c, 0x72, 1, 1, 1, 1, 0, 2, 0, 0, 0];
+// A bag of the empty cell.
+const EMPTY: &str = "b5ee9c72010101010002000000";
+
+// A bag of a cell of the 16 bits a0f1.
+const BITS: &str = "b5ee9c72010101010004000004a0f1";
+
+// A bag of a cell without bits and with two references.
+const FORK: &str = "b5ee9c720101020100070002000101000205";
+
+// A bag of a pruned branch that stores the hash of zeros.
+const PRUNED: &str =
+    "b5ee9c72010101010026002848010100000000000000000000000000000000000000000000000000000000000000000000";
 
 // The words of a command line.
 fn split(alloc: Global, line: &str) -> Result<Vec<String>, AllocError> {
@@ -18,11 +29,19 @@ fn split(alloc: Global, line: &str) -> Result<Vec<String>, AllocError> {
     Ok(words)
 }
 
-// The files `s`, a schema, and `b`, the bag of the empty cell.
-fn files(alloc: Global, schema: &[u8]) -> Result<Vec<(String, Vec<u8>)>, AllocError> {
+// The files `s`, a schema, `b`, a bag as text, and `r`, its raw bytes.
+fn files(alloc: Global, schema: &str, bag: &str) -> Result<Vec<(String, Vec<u8>)>, AllocError> {
+    let raw = match hex::decode(alloc, bag.as_bytes()) {
+        Ok(raw) => raw,
+        Err(_) => Vec::new(alloc),
+    };
     let mut files = Vec::new(alloc);
-    files.push((String::from_str(alloc, "s")?, schema.to_vec(alloc)?))?;
-    files.push((String::from_str(alloc, "b")?, UNIT_BAG.to_vec(alloc)?))?;
+    files.push((
+        String::from_str(alloc, "s")?,
+        schema.as_bytes().to_vec(alloc)?,
+    ))?;
+    files.push((String::from_str(alloc, "b")?, bag.as_bytes().to_vec(alloc)?))?;
+    files.push((String::from_str(alloc, "r")?, raw))?;
     Ok(files)
 }
 
@@ -31,12 +50,12 @@ fn files(alloc: Global, schema: &[u8]) -> Result<Vec<(String, Vec<u8>)>, AllocEr
 fn answer(
     alloc: Global,
     line: &str,
-    schema: &[u8],
+    files: Vec<(String, Vec<u8>)>,
     failing_call: u32,
     failing_put: u32,
 ) -> Result<(u8, Vec<u8>), Fail> {
     let words = split(alloc, line)?;
-    let mut shelf = MemShelf::new(files(alloc, schema)?, [failing_call].to_vec(alloc)?);
+    let mut shelf = MemShelf::new(files, [failing_call].to_vec(alloc)?);
     let mut sink = MemSink::new(alloc, 2000, [failing_put].to_vec(alloc)?)?;
     let status = run(alloc, words.as_slice(), &mut shelf, &mut sink);
     Ok((status.code(), sink.bytes().to_vec(alloc)?))
@@ -58,202 +77,194 @@ fn padded(
     Ok(text)
 }
 
-// Each line: the words, the call of the shelf that fails (0: none), the status and the text. The six calls
-// are those of opening each file, of one read that gives it, and of one that answers 0.
+// Each line: the schema, the bag, the words, the status and the text.
 #[test]
-fn each_status_comes_with_its_text(rt: HostRuntime) -> Result<(), Fail> {
+fn read_prints_the_value_or_the_first_refusal(rt: HostRuntime) -> Result<(), Fail> {
     let alloc = rt.alloc();
-    for (line, failing, code, text) in [
-        ("read s Unit b", 0, 0, "unit{}\n"),
-        ("read s Unit b", 7, 0, "unit{}\n"),
-        ("read s Nope b", 0, 7, "refused: type Unsupported\n"),
-        ("read s Unit s", 0, 6, "refused: bag Unsupported\n"),
-        ("read b Unit b", 0, 5, "refused: schema Unsupported\n"),
-        ("read b Nope s", 0, 5, "refused: schema Unsupported\n"),
-        ("read s Nope s", 0, 7, "refused: type Unsupported\n"),
-        ("read s Unit gone", 0, 2, "refused: read gone\n"),
-        ("read gone Unit b", 0, 2, "refused: read gone\n"),
-        ("read b Nope gone", 0, 2, "refused: read gone\n"),
-        ("read s Unit b", 1, 2, "refused: read s\n"),
-        ("read s Unit b", 3, 2, "refused: read s\n"),
-        ("read s Unit b", 6, 2, "refused: read b\n"),
-        ("", 0, 1, "refused: usage\n"),
-        ("read s Unit", 0, 1, "refused: usage\n"),
-        ("read s Unit b b", 0, 1, "refused: usage\n"),
-        ("reads s Unit b", 0, 1, "refused: usage\n"),
-        ("hash b", 0, 1, "refused: usage\n"),
-        ("--help", 0, 1, "refused: usage\n"),
-        ("--version", 0, 1, "refused: usage\n"),
+    let pair = "a$101 n:uint8 m:uint5 = A;";
+    let one = "a$101 n:uint8 = A;";
+    let wide = "a$101 n:uint8 m:uint6 = A;";
+    let other = "a$100 n:uint13 = A;";
+    let no_type = "refused: type Unsupported\n";
+    let no_schema = "refused: schema Unsupported\n";
+    for (schema, bag, line, code, text) in [
+        (UNIT, EMPTY, "read s Unit b", 0, "unit{}\n"),
+        (UNIT, EMPTY, "read s Unit r", 0, "unit{}\n"),
+        (pair, BITS, "read s A b", 0, "a{n:7,m:17}\n"),
+        (pair, BITS, "read s A r", 0, "a{n:7,m:17}\n"),
+        (
+            one,
+            BITS,
+            "read s A b",
+            8,
+            "refused: cell root:A Leftover\n",
+        ),
+        (
+            wide,
+            BITS,
+            "read s A b",
+            8,
+            "refused: cell A.a.m ShortBits\n",
+        ),
+        (
+            other,
+            BITS,
+            "read s A b",
+            8,
+            "refused: cell root:A NoConstructor\n",
+        ),
+        (
+            UNIT,
+            FORK,
+            "read s Unit b",
+            8,
+            "refused: cell root:Unit Leftover\n",
+        ),
+        (
+            UNIT,
+            PRUNED,
+            "read s Unit b",
+            8,
+            "refused: cell root:Unit Exotic\n",
+        ),
+        (
+            UNIT,
+            "68ff65f3",
+            "read s Unit b",
+            6,
+            "refused: bag BadMagic\n",
+        ),
+        (UNIT, "68ff65f3", "read s Nope b", 7, no_type),
+        (UNIT, "68ff65f3", "read b Nope b", 5, no_schema),
     ] {
-        let (status, output) = answer(alloc, line, UNIT.as_bytes(), failing, 0)?;
-        assert_eq!(rt; status, code, "at {line}");
-        assert_eq!(rt; output.as_slice(), text.as_bytes(), "at {line}");
+        let (status, output) = answer(alloc, line, files(alloc, schema, bag)?, 0, 0)?;
+        assert_eq!(rt; status, code, "at {schema} {bag} {line}");
+        assert_eq!(rt;
+            output.as_slice(),
+            text.as_bytes(),
+            "at {schema} {bag} {line}"
+        );
     }
     Ok(())
 }
 
-// Each line: the schema, the words, the status and the text.
+// Each line: a schema's text, and the status of `read`.
 #[test]
-fn a_schema_is_one_declaration_with_free_names(rt: HostRuntime) -> Result<(), Fail> {
+fn a_schema_is_one_flat_declaration_without_comments(rt: HostRuntime) -> Result<(), Fail> {
     let alloc = rt.alloc();
-    for (schema, line, code, text) in [
-        ("unit$_=Unit;", "read s Unit b", 0, "unit{}\n"),
-        (" \tunit\r\n$_ = Unit\n; ", "read s Unit b", 0, "unit{}\n"),
-        ("a_1B$_ = Z_9;", "read s Z_9 b", 0, "a_1B{}\n"),
-        ("xx$_ = X;", "read s X b", 0, "xx{}\n"),
-        ("a$_ = uint00;", "read s uint00 b", 0, "a{}\n"),
-        ("a$_ = int08;", "read s int08 b", 0, "a{}\n"),
-        ("a$_ = bits8a;", "read s bits8a b", 0, "a{}\n"),
-        ("a$_ = HashmapX;", "read s HashmapX b", 0, "a{}\n"),
-        ("", "read s Unit b", 5, "refused: schema Unsupported\n"),
-        (
-            "unit$_ = Unit",
-            "read s Unit b",
-            5,
-            "refused: schema Unsupported\n",
-        ),
-        (
-            "unit$_ = Unit;;",
-            "read s Unit b",
-            5,
-            "refused: schema Unsupported\n",
-        ),
-        (
-            "unit$ _ = Unit;",
-            "read s Unit b",
-            5,
-            "refused: schema Unsupported\n",
-        ),
-        (
-            "unit$_ Unit;",
-            "read s Unit b",
-            5,
-            "refused: schema Unsupported\n",
-        ),
-        (
-            "unit = Unit;",
-            "read s Unit b",
-            5,
-            "refused: schema Unsupported\n",
-        ),
-        (
-            "unit$1 = Unit;",
-            "read s Unit b",
-            5,
-            "refused: schema Unsupported\n",
-        ),
-        (
-            "unit#_ = Unit;",
-            "read s Unit b",
-            5,
-            "refused: schema Unsupported\n",
-        ),
-        (
-            "unit$_ a:uint8 = Unit;",
-            "read s Unit b",
-            5,
-            "refused: schema Unsupported\n",
-        ),
-        (
-            "unit$_ = Unit; // a comment",
-            "read s Unit b",
-            5,
-            "refused: schema Unsupported\n",
-        ),
-        (
-            "1a$_ = Unit;",
-            "read s Unit b",
-            5,
-            "refused: schema Unsupported\n",
-        ),
-        (
-            "_$_ = Unit;",
-            "read s Unit b",
-            5,
-            "refused: schema Unsupported\n",
-        ),
-        (
-            "x$_ = Unit;",
-            "read s Unit b",
-            5,
-            "refused: schema Unsupported\n",
-        ),
-        (
-            "a$_ = Type;",
-            "read s Type b",
-            5,
-            "refused: schema Unsupported\n",
-        ),
-        (
-            "a$_ = Any;",
-            "read s Any b",
-            5,
-            "refused: schema Unsupported\n",
-        ),
-        (
-            "a$_ = Cell;",
-            "read s Cell b",
-            5,
-            "refused: schema Unsupported\n",
-        ),
-        (
-            "a$_ = uint;",
-            "read s uint b",
-            5,
-            "refused: schema Unsupported\n",
-        ),
-        (
-            "a$_ = int;",
-            "read s int b",
-            5,
-            "refused: schema Unsupported\n",
-        ),
-        (
-            "a$_ = bits;",
-            "read s bits b",
-            5,
-            "refused: schema Unsupported\n",
-        ),
-        (
-            "a$_ = uint0;",
-            "read s uint0 b",
-            5,
-            "refused: schema Unsupported\n",
-        ),
-        (
-            "a$_ = int257;",
-            "read s int257 b",
-            5,
-            "refused: schema Unsupported\n",
-        ),
-        (
-            "a$_ = bits10;",
-            "read s bits10 b",
-            5,
-            "refused: schema Unsupported\n",
-        ),
-        (
-            "a$_ = Hashmap;",
-            "read s Hashmap b",
-            5,
-            "refused: schema Unsupported\n",
-        ),
-        (
-            "a$_ = HashmapNode;",
-            "read s HashmapNode b",
-            5,
-            "refused: schema Unsupported\n",
-        ),
-        (
-            "a$_ = HashmapE;",
-            "read s HashmapE b",
-            5,
-            "refused: schema Unsupported\n",
-        ),
+    for (schema, code) in [
+        (" \ta\r\n$_ = A\n; ", 0),
+        ("", 5),
+        ("a$_ = A", 5),
+        ("a$0 = A; b$0 = B;", 5),
+        ("a$_ = A; // end", 5),
+        ("a$_ /* */ = A;", 5),
+        ("x$_ = A;", 5),
+        ("a$_ = uint8;", 5),
+        ("a$_ = A; @", 5),
+        ("a$_ = A; /*", 5),
     ] {
-        let (status, output) = answer(alloc, line, schema.as_bytes(), 0, 0)?;
+        let held = files(alloc, schema, EMPTY)?;
+        let (status, _output) = answer(alloc, "read s A b", held, 0, 0)?;
         assert_eq!(rt; status, code, "at {schema}");
-        assert_eq!(rt; output.as_slice(), text.as_bytes(), "at {schema}");
+    }
+    Ok(())
+}
+
+// Each line: the bag, the words, the status and the text.
+#[test]
+fn hash_prints_each_level_or_the_refusal(rt: HostRuntime) -> Result<(), Fail> {
+    let alloc = rt.alloc();
+    let empty = "0 96a296d224f285c67bee93c30f8a309157f0daa35dc5b87e410b78630a09cfc7 0\n";
+    let fork = "0 47cff3ea668ec082f24b93a78977d14cdf633de267698e92f599665fbcc96216 1\n";
+    let pruned =
+        "0 0000000000000000000000000000000000000000000000000000000000000000 0\n1 384952d8a005bf18db7cc2d871bf8671fe3a34658c6553d7486338a041af8628 0\n";
+    for (bag, line, code, text) in [
+        (EMPTY, "hash b", 0, empty),
+        (EMPTY, "hash r", 0, empty),
+        ("te6cckEBAQEAAgAAAEysuc0=", "hash b", 0, empty),
+        (FORK, "hash b", 0, fork),
+        (PRUNED, "hash b", 0, pruned),
+        (EMPTY, "hash gone", 2, "refused: read gone\n"),
+        (EMPTY, "hash", 1, "refused: usage\n"),
+        (EMPTY, "hash b b", 1, "refused: usage\n"),
+        (EMPTY, "hashes b", 1, "refused: usage\n"),
+    ] {
+        let (status, output) = answer(alloc, line, files(alloc, UNIT, bag)?, 0, 0)?;
+        assert_eq!(rt; status, code, "at {bag} {line}");
+        assert_eq!(rt; output.as_slice(), text.as_bytes(), "at {bag} {line}");
+    }
+    Ok(())
+}
+
+// Each line: a bag, and the cause and the numbers of its refusal.
+#[test]
+fn a_refused_bag_is_shown_with_its_numbers(rt: HostRuntime) -> Result<(), Fail> {
+    let alloc = rt.alloc();
+    // Cells whose two references are both the next cell: the tree of 18 has 2 ^ 19 - 1 cells.
+    let sprawl =
+        "b5ee9c7201011301004a0002000101020002020200030302000404020005050200060602000707020008080200090902000a0a02000b0b02000c0c02000d0d02000e0e02000f0f0200101002001111020012120000";
+    for (bag, cause) in [
+        ("b5ee9c7", "BadHex 7"),
+        ("b5eg9c72", "BadHex 3"),
+        ("te6", "BadBase64"),
+        ("68ff65f3", "BadMagic"),
+        ("b5ee9c7201010101000200", "Truncated 11"),
+        ("b5ee9c7200", "BadHeader 4"),
+        (
+            "b5ee9c72040100040001000000010000000002",
+            "TooManyCells 262145",
+        ),
+        ("b5ee9c72010102020002", "ManyRoots 2"),
+        ("b5ee9c72010101010102", "AbsentCells 1"),
+        ("b5ee9c7201010101000200000000", "Trailing 13"),
+        (
+            "b5ee9c724101010100020000004cacb9ce",
+            "BadSum ceb9ac4c cdb9ac4c",
+        ),
+        ("b5ee9c72010101010002001000", "StoredHashes 0"),
+        ("b5ee9c72010101010002000500", "BadCell 0"),
+        ("b5ee9c7201010101000300010000", "BackReference 0"),
+        ("b5ee9c72010101010002000800", "BadExotic 0"),
+        ("b5ee9c72010101010002002000", "BadMask 0"),
+        (sprawl, "Sprawl"),
+    ] {
+        let (status, output) = answer(alloc, "hash b", files(alloc, UNIT, bag)?, 0, 0)?;
+        let text = padded(alloc, "refused: bag ", cause, 1, "\n")?;
+        assert_eq!(rt; status, 6, "at {bag}");
+        assert_eq!(rt; output.as_slice(), text.as_bytes(), "at {bag}");
+    }
+    Ok(())
+}
+
+// Each line: the words, the call of the shelf that fails (0: none), the status and the text. The calls are
+// those of opening each file, of one read that gives it, and of one that answers 0.
+#[test]
+fn a_call_that_fails_names_its_file(rt: HostRuntime) -> Result<(), Fail> {
+    let alloc = rt.alloc();
+    for (line, failing, code, text) in [
+        ("read s A b", 1, 2, "refused: read s\n"),
+        ("read s A b", 2, 2, "refused: read s\n"),
+        ("read s A b", 3, 2, "refused: read s\n"),
+        ("read s A b", 4, 2, "refused: read b\n"),
+        ("read s A b", 5, 2, "refused: read b\n"),
+        ("read s A b", 6, 2, "refused: read b\n"),
+        ("read s A b", 7, 0, "a{n:7,m:17}\n"),
+        ("read s A gone", 0, 2, "refused: read gone\n"),
+        ("read gone A b", 0, 2, "refused: read gone\n"),
+        ("read b Nope gone", 0, 2, "refused: read gone\n"),
+        ("hash b", 3, 2, "refused: read b\n"),
+        ("", 0, 1, "refused: usage\n"),
+        ("read s A", 0, 1, "refused: usage\n"),
+        ("read s A b b", 0, 1, "refused: usage\n"),
+        ("reads s A b", 0, 1, "refused: usage\n"),
+        ("--help", 0, 1, "refused: usage\n"),
+        ("--version", 0, 1, "refused: usage\n"),
+    ] {
+        let held = files(alloc, "a$101 n:uint8 m:uint5 = A;", BITS)?;
+        let (status, output) = answer(alloc, line, held, failing, 0)?;
+        assert_eq!(rt; status, code, "at {line}");
+        assert_eq!(rt; output.as_slice(), text.as_bytes(), "at {line}");
     }
     Ok(())
 }
@@ -266,7 +277,8 @@ fn a_put_that_fails_leaves_the_pieces_before_it(rt: HostRuntime) -> Result<(), F
     let line = padded(alloc, "read s Unit ", "n", 300, "")?;
     let refusal = padded(alloc, "refused: read ", "n", 300, "\n")?;
     for (failing, code, count) in [(1, 3, 0), (2, 3, 256), (3, 2, 315)] {
-        let (status, output) = answer(alloc, line.as_str(), UNIT.as_bytes(), 0, failing)?;
+        let held = files(alloc, UNIT, EMPTY)?;
+        let (status, output) = answer(alloc, line.as_str(), held, 0, failing)?;
         assert_eq!(rt; status, code, "at put {failing}");
         assert_eq!(rt; output.len(), count, "at put {failing}");
         assert!(rt; refusal.as_bytes().starts_with(&output), "at put {failing}");
@@ -287,7 +299,8 @@ fn a_schema_of_one_byte_too_many_is_too_long(rt: HostRuntime) -> Result<(), Fail
         (1_048_563, 259, 4, "refused: long s\n"),
     ] {
         let schema = padded(alloc, "", " ", spaces, UNIT)?;
-        let (status, output) = answer(alloc, "read s Unit b", schema.as_bytes(), failing, 0)?;
+        let held = files(alloc, schema.as_str(), EMPTY)?;
+        let (status, output) = answer(alloc, "read s Unit b", held, failing, 0)?;
         assert_eq!(rt; status, code, "at call {failing}");
         assert_eq!(rt; output.as_slice(), text.as_bytes(), "at call {failing}");
     }
@@ -299,7 +312,7 @@ fn a_word_of_one_byte_too_many_is_no_word(rt: HostRuntime) -> Result<(), Fail> {
     let alloc = rt.alloc();
     for (count, code) in [(1_048_576, 7), (1_048_577, 1)] {
         let line = padded(alloc, "read s ", "T", count, " b")?;
-        let (status, _output) = answer(alloc, line.as_str(), UNIT.as_bytes(), 0, 0)?;
+        let (status, _output) = answer(alloc, line.as_str(), files(alloc, UNIT, EMPTY)?, 0, 0)?;
         assert_eq!(rt; status, code, "at {count}");
     }
     Ok(())
@@ -309,12 +322,12 @@ fn a_word_of_one_byte_too_many_is_no_word(rt: HostRuntime) -> Result<(), Fail> {
 fn over_an_honest_outside_the_outcome_comes(rt: HostRuntime) -> Result<(), Fail> {
     let alloc = rt.alloc();
     let words = split(alloc, "read s Unit b")?;
-    let mut shelf = MemShelf::new(files(alloc, UNIT.as_bytes())?, Vec::new(alloc));
+    let mut shelf = MemShelf::new(files(alloc, UNIT, EMPTY)?, Vec::new(alloc));
     let mut sink = MemSink::new(alloc, 2000, Vec::new(alloc))?;
     let status = run_honestly(alloc, words.as_slice(), &mut shelf, &mut sink);
     assert_eq!(rt; status.code(), 0);
     assert_eq!(rt; sink.bytes(), b"unit{}\n".as_slice());
-    let mut sure = SureShelf::new(files(alloc, UNIT.as_bytes())?);
+    let mut sure = SureShelf::new(files(alloc, UNIT, EMPTY)?);
     let status = run_surely(alloc, words.as_slice(), &mut sure, &mut SureSink::new());
     assert_eq!(rt; status.code(), 0);
     Ok(())

@@ -1,9 +1,9 @@
-use Rattle.std.proofs.Common.{◌∙◌, ap, Err, refl}
+use Rattle.std.proofs.Common.{ap, Err}
 use Rattle.std.proofs.lemmas.Result.{IfOk-weaker}
 use Rattle.tlb_cli.proofs.Opened.{opened-first, opened-second, rose_later}
-use Rattle.tlb_cli.proofs.Judging.{judges_both, judged-answers, judged-refused, judged-reads, judged-fits}
+use Rattle.tlb_cli.proofs.Judging.{judges-both}
 use Rattle.tlb_cli.proofs.Refusing.{file-refused}
-use Rattle.tlb_cli.specs.Schema.{schema_of}
+use Rattle.tlb_cli.proofs.Said.{schema-said, said-refused}
 use Rattle.tlb_cli.specs.View.{words_by, verdict_by}
 use Rattle.tlb_cli.proofs.answer.answer_read.Goals as goal
 
@@ -34,21 +34,14 @@ returns-in-Err-load-clause-too_long g c = IfOk-weaker c.refuse_file-in-Err-load.
 
 pub returns-clause-judged : goal.returns-clause-judged
 returns-clause-judged g c = IfOk-weaker c.judge_read.result _ _
-    (λ a is other. judges_both (g.H.Shelf.held c.args.shelf.now) (words_by c.args.words.now) c.in-Ok.bytes.items c.in-Ok-load.bytes.items (verdict_by a)
-    c.in-Ok.ensures.told c.in-Ok.ensures.whole (rw c.in-Ok.ensures.held at c.in-Ok-load.ensures.told) c.in-Ok-load.ensures.whole (is ∙ rw (c.deref.ensures.value, c.deref-2.ensures.value) refl))
+    (λ a is other. judges-both (g.H.Shelf.held c.args.shelf.now) (words_by c.args.words.now) c.in-Ok.bytes.items c.in-Ok-load.bytes.items (verdict_by a)
+    c.in-Ok.ensures.told c.in-Ok.ensures.whole (rw c.in-Ok.ensures.held at c.in-Ok-load.ensures.told) c.in-Ok-load.ensures.whole is)
     c.judge_read.ensures
 
-pub returns-clause-kind : goal.returns-clause-kind
-returns-clause-kind g c = IfOk-weaker c.judge_read.result _ _ (λ a is. judged-answers (verdict_by a) c.args.words.now.type_word.now (schema_of c.deref.result.now) c.deref-2.result.now is) c.judge_read.ensures
-
-pub returns-clause-read_fault : goal.returns-clause-read_fault
-returns-clause-read_fault g c = IfOk-weaker c.judge_read.result _ _ (λ a is fault. absurd (judged-reads (verdict_by a) c.args.words.now.type_word.now (schema_of c.deref.result.now) c.deref-2.result.now is fault)) c.judge_read.ensures
-
-pub returns-clause-too_long : goal.returns-clause-too_long
-returns-clause-too_long g c = IfOk-weaker c.judge_read.result _ _ (λ a is long. absurd (judged-fits (verdict_by a) c.args.words.now.type_word.now (schema_of c.deref.result.now) c.deref-2.result.now is long)) c.judge_read.ensures
-
 pub returns-clause-refused : goal.returns-clause-refused
-returns-clause-refused g c = IfOk-weaker c.judge_read.result _ _ (λ a is. judged-refused (verdict_by a) c.args.words.now.type_word.now (schema_of c.deref.result.now) c.deref-2.result.now is) c.judge_read.ensures
+returns-clause-refused g c = IfOk-weaker c.judge_read.result _ _
+    (λ a is. said-refused (verdict_by a) (schema-said c.args.words.now.type_word.now c.in-Ok.bytes.items c.in-Ok-load.bytes.items (verdict_by a) is))
+    c.judge_read.ensures
 
 pub returns-in-Err-clause-refused : goal.returns-in-Err-clause-refused
 returns-in-Err-clause-refused g c = file-refused c.refuse_file.result _ _ _ c.refuse_file.ensures.kind c.refuse_file.ensures.fault c.refuse_file.ensures.too_long

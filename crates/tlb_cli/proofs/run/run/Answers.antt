@@ -1,5 +1,5 @@
 use Rattle.std.proofs.Common.{refl, Some, inl, map, string_bytes, codes}
-use Rattle.tlb_cli.proofs.Shown.{shown, judged_reads, outcome_is, usage_judged, judges_text, read_fails}
+use Rattle.tlb_cli.proofs.Shown.{shown, judged_reads, outcome_is, usage_judged, usage_outcome, judges_text, read_fails}
 use Rattle.tlb_cli.specs.Outcome.{usage_line}
 use Rattle.tlb_cli.specs.View.{form_by, verdict_by}
 use Rattle.tlb_cli.specs.Words.{form_of}
@@ -7,6 +7,10 @@ use Rattle.tlb_cli.proofs.run.run.Goals as goal
 
 pub returns-in-Err-clause-front : goal.returns-in-Err-clause-front
 returns-in-Err-clause-front g c is = (usage_line, c.in-Err.ensures.err, inl (usage_judged (g.H.Shelf.held c.args.shelf.now) _ c.in_default.ensures))
+
+pub returns-in-Ok-clause-outcome : goal.returns-in-Ok-clause-outcome
+returns-in-Ok-clause-outcome g c judged =
+    usage_outcome (g.H.Shelf.held c.args.shelf.now) (map string_bytes c.args.words.now) _ _ c.in_default.ensures c.in-Ok.ensures.ok
 
 pub returns-in-Ok-put_all-clause-outcome : goal.returns-in-Ok-put_all-clause-outcome
 returns-in-Ok-put_all-clause-outcome g c judged =

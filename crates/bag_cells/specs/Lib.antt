@@ -1,0 +1,13 @@
+pub mod Numbers
+pub mod First
+pub mod Form
+pub mod Header
+pub mod Cells
+pub mod Trees
+pub mod Unfolds
+pub mod Bag
+pub mod Known
+pub mod Post
+pub mod Listing
+pub mod Nodes
+pub mod Written

@@ -1,0 +1,53 @@
+//! Laws of bags: functions of no parameters, whose contracts speak of the definitions alone.
+ghost use Rattle.std.specs.Prelude.{◌≡◌, ◌<◌, ◌≤◌, ◌^◌, ◌⊎◌, ℕ, List, Err, Some, slice_get, true};
+ghost use Rattle.cell_nodes.specs.declared.tree.Tree.{Tree};
+ghost use Rattle.cell_nodes.specs.Good.{IsGood};
+ghost use Rattle.cell_nodes.specs.Tree.{unfolded};
+ghost use Rattle.bag_cells.specs.Form.{raw_of_hex, IsBadHex};
+ghost use Rattle.bag_cells.specs.declared.error.BagError.TheVariants as refusals;
+ghost use Rattle.bag_cells.specs.Bag.{BagHolds, BagRefused};
+ghost use Rattle.bag_cells.specs.Post.{same, post, IsSubtree};
+ghost use Rattle.bag_cells.specs.Written.{width_of, bag_of};
+ghost use Rattle.bag_cells.specs.declared.error.BagError.{BagError as Refusal};
+
+/// A file holds at most one tree, has at most one refusal, and not both.
+pub fn at_most_one()
+    ensures tree { (file : List ℕ) (a b : Tree) → BagHolds file a → BagHolds file b → a ≡ b }
+    ensures refusal { (file : List ℕ) (a b : Refusal) → BagRefused file a → BagRefused file b → a ≡ b }
+    ensures not_both { (file : List ℕ) (t : Tree) (e : Refusal) → BagHolds file t → BagRefused file e → ⊥ }
+{}
+
+/// A file holds a tree or has a refusal.
+pub fn at_least_one()
+    ensures { (file : List ℕ) → ((t : Tree) × BagHolds file t) ⊎ ((e : Refusal) × BagRefused file e) }
+{}
+
+/// A hexadecimal text of an odd length is told by its length, another by the place of its first byte that is no digit.
+pub fn bad_hex_place()
+    ensures { (text : List ℕ) (place : ℕ) → raw_of_hex text ≡ Err (refusals.BadHex place) → IsBadHex text place }
+{}
+
+/// The list of distinct subtrees has each subtree, has nothing else, and has none twice.
+pub fn each_subtree_once()
+    ensures each { (t u : Tree) → IsSubtree u t → (i : ℕ) × (slice_get (post t) i ≡ Some u) }
+    ensures only { (t u : Tree) (i : ℕ) → slice_get (post t) i ≡ Some u → IsSubtree u t }
+    ensures once { (t u : Tree) (i j : ℕ) → slice_get (post t) i ≡ Some u → slice_get (post t) j ≡ Some u → i ≡ j }
+{}
+
+/// The test for equal trees tells equality.
+pub fn same_is_equality()
+    ensures equal { (t u : Tree) → same t u ≡ true → t ≡ u }
+    ensures itself { (t : Tree) → same t t ≡ true }
+{}
+
+/// A number fits into its bytes, and into no fewer; it has at least one.
+pub fn width_is_least()
+    ensures some { (n : ℕ) → 1 ≤ width_of n }
+    ensures fits { (n : ℕ) → n < 256 ^ width_of n }
+    ensures least { (n w : ℕ) → 1 ≤ w → n < 256 ^ w → width_of n ≤ w }
+{}
+
+/// The bag that is written for a good tree of at most 262,144 cells holds that tree.
+pub fn written_bag_holds()
+    ensures { (t : Tree) → IsGood t → unfolded t ≤ 262144 → BagHolds (bag_of t) t }
+{}

@@ -1,0 +1,75 @@
+-- The words of the lines that are put. This project's own.
+use Rattle.std.specs.Prelude.{ℕ, zero, suc, List, [], ◌∷◌, ◌++◌, codes, decimal, unwrap_or, slice_get}
+use Rattle.std.specs.Option.{option_map}
+use Rattle.std.specs.Int.{to_be_bytes, w32}
+use Rattle.hex.specs.Hex.{encode_lower}
+use Rattle.bag_cells.specs.declared.error.BagError.{BagError}
+use Rattle.bag_cells.specs.declared.error.BagError.TheVariants.{BadHex, BadBase64, BadMagic, Truncated, BadHeader, TooManyCells, ManyRoots, AbsentCells, Trailing, BadSum, StoredHashes, BadCell, BackReference, BadExotic, BadMask, TooDeep, Sprawl, NoMemory}
+use Rattle.cell_nodes.specs.Tree.{hash, depth}
+use Rattle.cell_nodes.specs.declared.tree.Tree.{Tree}
+use Rattle.flat_records.specs.Form.{field_name}
+use Rattle.flat_records.specs.declared.declaration.Declaration.{Declaration}
+use Rattle.flat_records.specs.declared.declaration.Field.{Field}
+use Rattle.flat_records.specs.declared.read.Cause.{Cause}
+use Rattle.flat_records.specs.declared.read.Cause.TheVariants.{NoConstructor, ShortBits, Leftover}
+use Rattle.flat_records.specs.declared.read.Spot.{Spot}
+use Rattle.flat_records.specs.declared.read.Spot.TheVariants.{Root, InField}
+
+-- a text and a line feed
+abbrev pub line_of : List ℕ → List ℕ
+line_of text = text ++ 10 ∷ []
+
+-- words and, behind a space, a number or other words
+abbrev pub spaced : List ℕ → List ℕ → List ℕ
+spaced front back = front ++ 32 ∷ back
+
+abbrev pub numbered : List ℕ → ℕ → List ℕ
+numbered cause number = spaced cause (decimal number)
+
+-- a sum of 32 bits: eight digits, lower case
+abbrev pub sum_text : ℕ → List ℕ
+sum_text sum = encode_lower (to_be_bytes w32 sum)
+
+-- the cause and the numbers of a bag's refusal; no bag is refused for want of memory
+abbrev pub bag_cause : BagError → List ℕ
+bag_cause (BadHex place) = numbered (codes "BadHex") place
+bag_cause BadBase64 = codes "BadBase64"
+bag_cause BadMagic = codes "BadMagic"
+bag_cause (Truncated size) = numbered (codes "Truncated") size
+bag_cause (BadHeader place) = numbered (codes "BadHeader") place
+bag_cause (TooManyCells count) = numbered (codes "TooManyCells") count
+bag_cause (ManyRoots count) = numbered (codes "ManyRoots") count
+bag_cause (AbsentCells count) = numbered (codes "AbsentCells") count
+bag_cause (Trailing place) = numbered (codes "Trailing") place
+bag_cause (BadSum kept computed) = spaced (spaced (codes "BadSum") (sum_text kept)) (sum_text computed)
+bag_cause (StoredHashes cell) = numbered (codes "StoredHashes") cell
+bag_cause (BadCell cell) = numbered (codes "BadCell") cell
+bag_cause (BackReference cell) = numbered (codes "BackReference") cell
+bag_cause (BadExotic cell) = numbered (codes "BadExotic") cell
+bag_cause (BadMask cell) = numbered (codes "BadMask") cell
+bag_cause (TooDeep cell) = numbered (codes "TooDeep") cell
+bag_cause Sprawl = codes "Sprawl"
+bag_cause NoMemory = []
+
+-- the name of the field with that number, where there is one
+abbrev pub name_at : List Field → ℕ → List ℕ
+name_at fields number = unwrap_or (option_map field_name (slice_get fields number)) []
+
+-- root:TYPE, or TYPE.CONSTRUCTOR.FIELD
+abbrev pub spot_text : Declaration → Spot → List ℕ
+spot_text d Root = codes "root:" ++ d.type_name
+spot_text d (InField number) = d.type_name ++ 46 ∷ d.name ++ 46 ∷ name_at d.fields number
+
+abbrev pub cause_text : Cause → List ℕ
+cause_text NoConstructor = codes "NoConstructor"
+cause_text ShortBits = codes "ShortBits"
+cause_text Leftover = codes "Leftover"
+
+-- a level, and the cell's hash and depth at it
+abbrev pub level_line : Tree → ℕ → List ℕ
+level_line t level = line_of (spaced (spaced (decimal level) (encode_lower (hash t level))) (decimal (depth t level)))
+
+-- the lines of the levels from 0 to this one
+abbrev pub level_lines : Tree → ℕ → List ℕ
+level_lines t zero = level_line t 0
+level_lines t (suc level) = level_lines t level ++ level_line t (suc level)

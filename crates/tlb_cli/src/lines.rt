@@ -1,0 +1,152 @@
+//! The words of the lines that are put.
+ghost use Rattle.std.specs.Prelude.{◌≡◌, ◌≢◌, ◌≤◌, decimal, IfOk};
+ghost use Rattle.bag_cells.specs.declared.error.BagError.TheVariants.{NoMemory as OutOfMemory};
+ghost use Rattle.cell_nodes.specs.Tree.{mask};
+ghost use Rattle.tlb_cli.specs.Lines.{bag_cause, cause_text, level_line, level_lines, name_at, numbered, spaced, spot_text, sum_text};
+
+use bag_cells::BagError;
+use cell_nodes::Cell;
+use flat_records::{Cause, Declaration, Field, Spot};
+use std::alloc::Global;
+use tlb_memory::NoMemory;
+
+// Words, a space, and other words.
+fn spaced(alloc: Global, front: &[u8], back: &[u8]) -> Result<Vec<u8>, NoMemory>
+    ensures { IfOk result (λ text. text.items ≡ spaced front.now back.now) }
+{
+    let mut text = Vec::from_slice(alloc, front)?;
+    text.extend_from_slice(b" ")?;
+    text.extend_from_slice(back)?;
+    Ok(text)
+}
+
+fn digits(alloc: Global, number: u64) -> Result<Vec<u8>, NoMemory>
+    ensures { IfOk result (λ text. text.items ≡ decimal number) }
+{
+    let digits = format!(in alloc; "{number}")?;
+    Ok(digits.into_bytes())
+}
+
+fn numbered(alloc: Global, cause: &[u8], number: u64) -> Result<Vec<u8>, NoMemory>
+    ensures { IfOk result (λ text. text.items ≡ numbered cause.now number) }
+{
+    spaced(alloc, cause, &digits(alloc, number)?)
+}
+
+fn words(alloc: Global, cause: &[u8]) -> Result<Vec<u8>, NoMemory>
+    ensures { IfOk result (λ text. text.items ≡ cause.now) }
+{
+    let text = Vec::from_slice(alloc, cause)?;
+    Ok(text)
+}
+
+// The eight digits of a sum.
+fn sum_digits(alloc: Global, sum: u32) -> Result<Vec<u8>, NoMemory>
+    ensures { IfOk result (λ text. text.items ≡ sum_text sum) }
+{
+    let digits = hex::encode(alloc, sum.to_be_bytes())?;
+    Ok(digits.into_bytes())
+}
+
+fn sums(alloc: Global, kept: u32, computed: u32) -> Result<Vec<u8>, NoMemory>
+    ensures { IfOk result (λ text. text.items ≡ bag_cause (BagError.BadSum kept computed)) }
+{
+    let front = spaced(alloc, b"BadSum", &sum_digits(alloc, kept)?)?;
+    spaced(alloc, &front, &sum_digits(alloc, computed)?)
+}
+
+/// The cause of a bag's refusal, and its numbers.
+pub fn bag_words(alloc: Global, error: BagError) -> Result<Vec<u8>, NoMemory>
+    ensures words { IfOk result (λ text. text.items ≡ bag_cause error) }
+    ensures memory { IfOk result (λ _. error ≢ OutOfMemory) }
+{
+    match error {
+        BagError::BadHex(place) => numbered(alloc, b"BadHex", place),
+        BagError::BadBase64 => words(alloc, b"BadBase64"),
+        BagError::BadMagic => words(alloc, b"BadMagic"),
+        BagError::Truncated(size) => numbered(alloc, b"Truncated", size),
+        BagError::BadHeader(place) => numbered(alloc, b"BadHeader", place),
+        BagError::TooManyCells(count) => numbered(alloc, b"TooManyCells", count),
+        BagError::ManyRoots(count) => numbered(alloc, b"ManyRoots", count),
+        BagError::AbsentCells(count) => numbered(alloc, b"AbsentCells", count),
+        BagError::Trailing(place) => numbered(alloc, b"Trailing", place),
+        BagError::BadSum(kept, computed) => sums(alloc, kept, computed),
+        BagError::StoredHashes(cell) => numbered(alloc, b"StoredHashes", cell),
+        BagError::BadCell(cell) => numbered(alloc, b"BadCell", cell),
+        BagError::BackReference(cell) => numbered(alloc, b"BackReference", cell),
+        BagError::BadExotic(cell) => numbered(alloc, b"BadExotic", cell),
+        BagError::BadMask(cell) => numbered(alloc, b"BadMask", cell),
+        BagError::TooDeep(cell) => numbered(alloc, b"TooDeep", cell),
+        BagError::Sprawl => words(alloc, b"Sprawl"),
+        BagError::NoMemory => Err(NoMemory),
+    }
+}
+
+/// Why reading stops.
+pub fn cause_words(cause: Cause) -> &'static [u8]
+    ensures { result.now ≡ cause_text cause }
+{
+    match cause {
+        Cause::NoConstructor => b"NoConstructor",
+        Cause::ShortBits => b"ShortBits",
+        Cause::Leftover => b"Leftover",
+    }
+}
+
+fn name_at(fields: &[Field], number: usize) -> &[u8]
+    ensures { result.now ≡ name_at fields.now number }
+{
+    match fields.get(number) {
+        Some(field) => field.name.text(),
+        None => b"",
+    }
+}
+
+// The type, the constructor and the field with that number.
+fn field_words(alloc: Global, declaration: &Declaration, number: usize) -> Result<Vec<u8>, NoMemory>
+    ensures { IfOk result (λ text. text.items ≡ spot_text declaration.now (Spot.InField number)) }
+{
+    let mut text = Vec::from_slice(alloc, declaration.type_name.text())?;
+    text.extend_from_slice(b".")?;
+    text.extend_from_slice(declaration.name.text())?;
+    text.extend_from_slice(b".")?;
+    text.extend_from_slice(name_at(declaration.fields.as_slice(), number))?;
+    Ok(text)
+}
+
+/// Where reading stops.
+pub fn spot_words(alloc: Global, declaration: &Declaration, spot: Spot) -> Result<Vec<u8>, NoMemory>
+    ensures { IfOk result (λ text. text.items ≡ spot_text declaration.now spot) }
+{
+    match spot {
+        Spot::InField(number) => field_words(alloc, declaration, number),
+        Spot::Root => {
+            let mut text = words(alloc, b"root:")?;
+            text.extend_from_slice(declaration.type_name.text())?;
+            Ok(text)
+        }
+    }
+}
+
+// The line of one level: its number, the hash and the depth.
+fn level_line(alloc: Global, cell: &Cell, level: u32) -> Result<Vec<u8>, NoMemory>
+    requires { level ≤ 1 }
+    ensures { IfOk result (λ text. text.items ≡ level_line cell.now level) }
+{
+    let hash = hex::encode(alloc, cell.hash(level))?;
+    let front = spaced(alloc, &digits(alloc, u64::from(level))?, hash.as_bytes())?;
+    let mut line = spaced(alloc, &front, &digits(alloc, u64::from(cell.depth(level)))?)?;
+    line.extend_from_slice(b"\n")?;
+    Ok(line)
+}
+
+/// The lines of a cell's levels.
+pub fn level_lines(alloc: Global, cell: &Cell) -> Result<Vec<u8>, NoMemory>
+    ensures { IfOk result (λ text. text.items ≡ level_lines cell.now (mask cell.now)) }
+{
+    let mut lines = level_line(alloc, cell, 0)?;
+    'levels: for level in 0..u32::from(cell.mask()) {
+        lines.extend_from_slice(&level_line(alloc, cell, level + 1)?)?;
+    }
+    Ok(lines)
+}
