@@ -1,0 +1,4 @@
+//! Whether the tokens of a text write a schema or a type word, and else their first refusal.
+#![tactic(auto)]
+
+mod machine;
