@@ -5,3 +5,4 @@ pub mod Digits
 pub mod Shapes
 pub mod Parts
 pub mod Single
+pub mod Told

@@ -1,5 +1,5 @@
 //! Laws of reading and of the form: functions of no parameters, whose contracts speak of the definitions alone.
-ghost use Rattle.std.specs.Prelude.{◌≡◌, ℕ, List};
+ghost use Rattle.std.specs.Prelude.{◌≡◌, ◌⊎◌, ℕ, List};
 ghost use Rattle.typed_value.specs.Val.{Val};
 ghost use Rattle.flat_records.specs.Lexemes.{Lexeme};
 ghost use Rattle.flat_records.specs.Form.{Declares};
@@ -22,6 +22,11 @@ pub fn one_stop()
 /// Bits that have a reading don't stop it.
 pub fn read_or_stuck()
     ensures { (d : Declaration) (bits : List ℕ) (refs : ℕ) (v : Val) (s : Spot) (a : Cause) → Reading d bits refs v → Stuck d bits refs s a → ⊥ }
+{}
+
+/// Bits have a reading, or there is a place where it stops.
+pub fn reading_or_stop()
+    ensures { (d : Declaration) (bits : List ℕ) (refs : ℕ) → ((v : Val) × Reading d bits refs v) ⊎ ((s : Spot) × (a : Cause) × Stuck d bits refs s a) }
 {}
 
 /// Lexemes are of one list of declarations at most.

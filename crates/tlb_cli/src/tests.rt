@@ -1,4 +1,4 @@
-//! The worked rows of `read` and of `hash`, and each status that they can end with.
+//! Examples of `read` and of `hash`, and each status that they can end with.
 use super::*;
 use crate::run::{run_honestly, run_surely};
 use std::alloc::Global;
@@ -292,6 +292,7 @@ fn a_put_that_fails_leaves_the_pieces_before_it(rt: HostRuntime) -> Result<(), F
 fn a_schema_of_one_byte_too_many_is_too_long(rt: HostRuntime) -> Result<(), Fail> {
     let alloc = rt.alloc();
     for (spaces, failing, code, text) in [
+        (1_048_561, 0, 0, "unit{}\n"),
         (1_048_562, 0, 0, "unit{}\n"),
         (1_048_562, 258, 2, "refused: read s\n"),
         (1_048_562, 259, 2, "refused: read b\n"),

@@ -2,6 +2,8 @@
 #![tactic(auto)]
 
 mod path;
+#[cfg(test)]
+mod tests;
 mod value;
 
 pub use bit_slice::Name;
