@@ -85,7 +85,7 @@ static REFUSED: [(&str, BagError); 46] = [
 ];
 
 // Texts in which a tree is held: a level, and the root's hash and depth there.
-static HELD: [(&str, u32, &str, u16); 13] = [
+pub(crate) static HELD: [(&str, u32, &str, u16); 13] = [
     (
         "b5ee9c72010101010002000000",
         0,

@@ -2,6 +2,7 @@
 //! format alone; of the long ones the length and the CRC-32C are compared.
 ghost use Rattle.std.specs.Prelude.{◌≤◌, ◌*◌, length};
 
+use crate::tests::HELD;
 use crate::{read_bag, write_bag};
 use bit_slice::BitString;
 use cell_nodes::Cell;
@@ -55,7 +56,7 @@ fn writes(rt: &impl Abort, alloc: Global, cell: &Cell, expected: &str) -> bool {
 }
 
 #[test]
-fn small_trees(rt: HostRuntime) {
+fn small_trees_have_their_bags(rt: HostRuntime) {
     let empty = ordinary(&rt, rt.alloc(), &[], 0, &[]);
     assert!(rt; writes(&rt, rt.alloc(), &empty, "b5ee9c72010101010002000000"));
     let bit = ordinary(&rt, rt.alloc(), &[0], 1, &[]);
@@ -83,7 +84,7 @@ fn small_trees(rt: HostRuntime) {
 }
 
 #[test]
-fn a_map_of_four_entries(rt: HostRuntime) {
+fn a_map_of_four_entries_has_its_bag(rt: HostRuntime) {
     let low = [
         ordinary(&rt, rt.alloc(), &[0, 0x40], 10, &[]),
         ordinary(&rt, rt.alloc(), &[0, 0x80], 10, &[]),
@@ -109,7 +110,7 @@ fn a_map_of_four_entries(rt: HostRuntime) {
 }
 
 #[test]
-fn exotic_cells_and_their_masks(rt: HostRuntime) {
+fn exotic_cells_are_written_with_their_masks(rt: HostRuntime) {
     let empty = ordinary(&rt, rt.alloc(), &[], 0, &[]);
     let proof = exotic(&rt, rt.alloc(), &PROOF, &[empty]);
     assert!(rt;
@@ -136,7 +137,7 @@ fn exotic_cells_and_their_masks(rt: HostRuntime) {
 }
 
 #[test]
-fn cells_that_are_alike_in_part(rt: HostRuntime) {
+fn cells_that_are_alike_in_part_are_all_written(rt: HostRuntime) {
     let mut library = [0u8; 33];
     library[0] = 2;
     let kinds = [
@@ -182,7 +183,7 @@ fn cells_that_are_alike_in_part(rt: HostRuntime) {
 }
 
 #[test]
-fn the_order_of_first_completion(rt: HostRuntime) {
+fn cells_stand_in_the_order_of_first_completion(rt: HostRuntime) {
     let one = ordinary(&rt, rt.alloc(), &[1], 8, &[]);
     let two = ordinary(&rt, rt.alloc(), &[2], 8, &[]);
     let both = ordinary(
@@ -261,4 +262,20 @@ fn what_is_read_is_written_and_read_again(rt: HostRuntime) {
         .expect(&rt, "a tree");
     assert!(rt; first.hash(0) == second.hash(0) && first.hash(1) == second.hash(1));
     assert!(rt; written(&rt, rt.alloc(), &second).as_slice() == bag.as_slice());
+}
+
+// The bags of every form that the tests of reading hold.
+#[test]
+fn bags_of_each_form_are_written_and_read_again(rt: HostRuntime) {
+    for (file, _, _, _) in HELD.iter() {
+        let first = read_bag(rt.alloc(), file.as_bytes())
+            .ok()
+            .expect(&rt, "a tree");
+        let bag = written(&rt, rt.alloc(), &first);
+        let second = read_bag(rt.alloc(), bag.as_slice())
+            .ok()
+            .expect(&rt, "a tree");
+        assert!(rt; first.hash(0) == second.hash(0) && first.hash(1) == second.hash(1));
+        assert!(rt; written(&rt, rt.alloc(), &second).as_slice() == bag.as_slice());
+    }
 }

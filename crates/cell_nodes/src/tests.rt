@@ -182,7 +182,7 @@ static PROOF_CELL: Told = Told {
 };
 
 #[test]
-fn cells_without_references(rt: HostRuntime) {
+fn cells_without_references_tell_their_trees(rt: HostRuntime) {
     let empty = ordinary(&rt, rt.alloc(), &[], &[]);
     assert!(rt; tells(&empty, &EMPTY_CELL));
     assert!(rt; empty.hidden().is_none() && empty.child(0).is_none());
@@ -215,7 +215,7 @@ fn made(rt: &impl Abort, alloc: Global, bytes: &[u8], children: &[Cell]) -> Opti
 }
 
 #[test]
-fn cells_over_a_branch(rt: HostRuntime) {
+fn cells_over_a_branch_tell_both_levels(rt: HostRuntime) {
     let branch = exotic(&rt, rt.alloc(), &BRANCH, &[]);
     let over = ordinary(&rt, rt.alloc(), &[0xab], &[share(&rt, &branch)]);
     assert!(rt; tells(&over, &OVER_CELL));
@@ -226,8 +226,9 @@ fn cells_over_a_branch(rt: HostRuntime) {
             &BOTH_CELL
         )
     );
-    let (mask, proof) = made(&rt, rt.alloc(), &PROOF, &[over]).expect(&rt, "a layout");
+    let (mask, proof) = made(&rt, rt.alloc(), &PROOF, &[share(&rt, &over)]).expect(&rt, "a layout");
     assert!(rt; mask == 0 && tells(&proof, &PROOF_CELL));
+    assert!(rt; tells(&exotic(&rt, rt.alloc(), &PROOF, &[over]), &PROOF_CELL));
     let refs = proof.content().refs.again();
     assert!(rt; refs.len() == 1);
     let (child, _) = refs.first().expect(&rt, "a child");
@@ -241,7 +242,7 @@ fn kind_of(rt: &impl Abort, alloc: Global, bytes: &[u8], refs: u32) -> Option<Ki
 }
 
 #[test]
-fn layouts(rt: HostRuntime) {
+fn a_layout_has_its_length_its_first_bytes_and_its_references(rt: HostRuntime) {
     let library = bits(&rt, rt.alloc(), &LIBRARY);
     let (short, _) = library.slice().take(263).expect(&rt, "bits");
     assert!(rt; exotic_kind(short, 0).is_none());
@@ -260,7 +261,7 @@ fn refusal(rt: &impl Abort, alloc: Global, bytes: &[u8]) -> Option<CellError>
 }
 
 #[test]
-fn branches_of_mask_2_and_of_depth_1025(rt: HostRuntime) {
+fn branches_of_mask_2_and_of_depth_1025_are_refused(rt: HostRuntime) {
     let mut branch = BRANCH;
     branch[1] = 2;
     assert!(rt; refusal(&rt, rt.alloc(), &branch) == Some(CellError::BadExotic));
@@ -273,7 +274,7 @@ fn branches_of_mask_2_and_of_depth_1025(rt: HostRuntime) {
 }
 
 #[test]
-fn a_thousand_levels_of_two_equal_children(rt: HostRuntime) {
+fn a_thousand_levels_of_two_equal_children_are_made(rt: HostRuntime) {
     let mut cell = ordinary(&rt, rt.alloc(), &[], &[]);
     for _ in 0..1000u32 {
         cell = ordinary(&rt, rt.alloc(), &[], &[share(&rt, &cell), cell]);

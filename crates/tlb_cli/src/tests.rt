@@ -20,6 +20,14 @@ const FORK: &str = "b5ee9c720101020100070002000101000205";
 const PRUNED: &str =
     "b5ee9c72010101010026002848010100000000000000000000000000000000000000000000000000000000000000000000";
 
+// A bag of a map of four entries.
+const MAP: &str =
+    "b5ee9c72010108010023000101c0010201200502020120040300030120000300e00201200706000300a000030060";
+
+// A bag of 17 cells, of which each has two references to the next one, and the empty cell behind them.
+const DOUBLES: &str =
+    "b5ee9c720101120100460002000101020002020200030302000404020005050200060602000707020008080200090902000a0a02000b0b02000c0c02000d0d02000e0e02000f0f02001010020011110000";
+
 // The words of a command line.
 fn split(alloc: Global, line: &str) -> Result<Vec<String>, AllocError> {
     let mut words = Vec::new(alloc);
@@ -177,6 +185,8 @@ fn hash_prints_each_level_or_the_refusal(rt: HostRuntime) -> Result<(), Fail> {
     let alloc = rt.alloc();
     let empty = "0 96a296d224f285c67bee93c30f8a309157f0daa35dc5b87e410b78630a09cfc7 0\n";
     let fork = "0 47cff3ea668ec082f24b93a78977d14cdf633de267698e92f599665fbcc96216 1\n";
+    let map = "0 4de272246711c8d8cc5157d38712d1a6a4edf7dc5b4123c495ec4ade59782f9b 3\n";
+    let doubles = "0 9ddd29625d57ff0fd18cfeb5d8e3aef475e340e2fbe791fe4bfd4242fa8fed84 17\n";
     let pruned =
         "0 0000000000000000000000000000000000000000000000000000000000000000 0\n1 384952d8a005bf18db7cc2d871bf8671fe3a34658c6553d7486338a041af8628 0\n";
     for (bag, line, code, text) in [
@@ -185,6 +195,8 @@ fn hash_prints_each_level_or_the_refusal(rt: HostRuntime) -> Result<(), Fail> {
         ("te6cckEBAQEAAgAAAEysuc0=", "hash b", 0, empty),
         (FORK, "hash b", 0, fork),
         (PRUNED, "hash b", 0, pruned),
+        (MAP, "hash b", 0, map),
+        (DOUBLES, "hash b", 0, doubles),
         (EMPTY, "hash gone", 2, "refused: read gone\n"),
         (EMPTY, "hash", 1, "refused: usage\n"),
         (EMPTY, "hash b b", 1, "refused: usage\n"),
@@ -204,6 +216,9 @@ fn a_refused_bag_is_shown_with_its_numbers(rt: HostRuntime) -> Result<(), Fail> 
     // Cells whose two references are both the next cell: the tree of 18 has 2 ^ 19 - 1 cells.
     let sprawl =
         "b5ee9c7201011301004a0002000101020002020200030302000404020005050200060602000707020008080200090902000a0a02000b0b02000c0c02000d0d02000e0e02000f0f0200101002001111020012120000";
+    // The tree of 30 has 2 ^ 31 - 1 cells.
+    let large_sprawl =
+        "b5ee9c7201011f01007a0002000101020002020200030302000404020005050200060602000707020008080200090902000a0a02000b0b02000c0c02000d0d02000e0e02000f0f0200101002001111020012120200131302001414020015150200161602001717020018180200191902001a1a02001b1b02001c1c02001d1d02001e1e0000";
     for (bag, cause) in [
         ("b5ee9c7", "BadHex 7"),
         ("b5eg9c72", "BadHex 3"),
@@ -228,11 +243,46 @@ fn a_refused_bag_is_shown_with_its_numbers(rt: HostRuntime) -> Result<(), Fail> 
         ("b5ee9c72010101010002000800", "BadExotic 0"),
         ("b5ee9c72010101010002002000", "BadMask 0"),
         (sprawl, "Sprawl"),
+        (large_sprawl, "Sprawl"),
     ] {
         let (status, output) = answer(alloc, "hash b", files(alloc, UNIT, bag)?, 0, 0)?;
         let text = padded(alloc, "refused: bag ", cause, 1, "\n")?;
         assert_eq!(rt; status, 6, "at {bag}");
         assert_eq!(rt; output.as_slice(), text.as_bytes(), "at {bag}");
+    }
+    Ok(())
+}
+
+// A bag that begins so, and then has a chain of cells without bits, each with a reference to the next.
+fn chain(alloc: Global, front: &str, depth: u32) -> Result<String, Fail> {
+    let mut text = String::from_str(alloc, front)?;
+    for next in 0..depth {
+        text.push_str("0100")?;
+        text.push_str(format!(in alloc; "{:04x}", next + 1)?.as_str())?;
+    }
+    text.push_str("0000")?;
+    Ok(text)
+}
+
+// Each line: the bag's header, the depth, the status and the text. The hash is the one that Python's hashlib gives
+// for the representations from the last cell to the first.
+#[test]
+fn a_chain_of_depth_1024_is_the_deepest(rt: HostRuntime) -> Result<(), Fail> {
+    let alloc = rt.alloc();
+    let deepest = "0 ea7c6ba5f74b115fefda298277610d21f25ecbf5c8bda4a73dc97fcce907f9fd 1024\n";
+    for (front, depth, code, text) in [
+        ("b5ee9c72020204010001000010020000", 1024, 0, deepest),
+        (
+            "b5ee9c72020204020001000010060000",
+            1025,
+            6,
+            "refused: bag TooDeep 0\n",
+        ),
+    ] {
+        let bag = chain(alloc, front, depth)?;
+        let (status, output) = answer(alloc, "hash b", files(alloc, UNIT, bag.as_str())?, 0, 0)?;
+        assert_eq!(rt; status, code, "at {depth}");
+        assert_eq!(rt; output.as_slice(), text.as_bytes(), "at {depth}");
     }
     Ok(())
 }
