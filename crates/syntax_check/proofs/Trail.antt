@@ -1,0 +1,38 @@
+-- Runs of the machine, with the names of the types that are declared in them.
+use Rattle.std.proofs.Common.{◌≡◌, ℕ, List, [], ◌∷◌, ◌++◌, Result, Ok, Err, refl}
+use Rattle.tlb_syntax.specs.Lexeme.{Lexeme, word}
+use Rattle.tlb_syntax.specs.Grammar.{Count, Bounds}
+use Rattle.syntax_check.specs.declared.machine.Mode.{Mode}
+use Rattle.syntax_check.specs.declared.machine.Mode.TheVariants as modes
+use Rattle.syntax_check.specs.declared.machine.Cause.{Cause}
+use Rattle.syntax_check.specs.Machine.{State, at, Outcome, and_then, step, run}
+
+-- the name that a lexeme declares, before further ones
+abbrev pub declared_by : Mode → Lexeme → List (List ℕ) → List (List ℕ)
+declared_by modes.Result (word x) further = x ∷ further
+declared_by mode t further = further
+
+abbrev pub named_in : State → Lexeme → List (List ℕ) → List (List ℕ)
+named_in (at mode lv below) t further = declared_by mode t further
+
+abbrev pub if_taken : Outcome → (State → List (List ℕ)) → List (List ℕ)
+if_taken (Ok st) further = further st
+if_taken (Err why) further = []
+
+-- the names of the types that are declared, in their order
+abbrev pub results : Bounds → State → List Lexeme → List (List ℕ)
+results m st [] = []
+results m st (t ∷ ts) = named_in st t (if_taken (step m st t) (λ next. results m next ts))
+
+-- where a run arrives, and the names in it
+abbrev pub trail : Bounds → State → List Lexeme → Outcome × List (List ℕ)
+trail m st ls = (run m st ls, results m st ls)
+
+pub runs_on : (m : Bounds) (st : State) (front rest : List Lexeme) → run m st (front ++ rest) ≡ and_then (run m st front) (λ mid. run m mid rest)
+runs_on m st [] rest = refl
+runs_on m st (t ∷ ts) rest = go (step m st t) (λ next. runs_on m next ts rest)
+  where
+    go : (o : Outcome) → ((next : State) → run m next (ts ++ rest) ≡ and_then (run m next ts) (λ mid. run m mid rest))
+        → and_then o (λ next. run m next (ts ++ rest)) ≡ and_then (and_then o (λ next. run m next ts)) (λ mid. run m mid rest)
+    go (Ok next) further = further next
+    go (Err why) further = refl
