@@ -1,10 +1,9 @@
 -- Runs of the machine, with the names of the types that are declared in them.
-use Rattle.std.proofs.Common.{◌≡◌, ℕ, List, [], ◌∷◌, ◌++◌, Result, Ok, Err, refl}
+use Rattle.std.proofs.Common.{◌≡◌, ℕ, List, [], ◌∷◌, ◌++◌, Ok, Err, refl}
 use Rattle.tlb_syntax.specs.Lexeme.{Lexeme, word}
-use Rattle.tlb_syntax.specs.Grammar.{Count, Bounds}
+use Rattle.tlb_syntax.specs.Grammar.{Bounds}
 use Rattle.syntax_check.specs.declared.machine.Mode.{Mode}
 use Rattle.syntax_check.specs.declared.machine.Mode.TheVariants as modes
-use Rattle.syntax_check.specs.declared.machine.Cause.{Cause}
 use Rattle.syntax_check.specs.Machine.{State, at, Outcome, and_then, step, run}
 
 -- the name that a lexeme declares, before further ones
