@@ -1,2 +1,4 @@
 pub mod Trail
 pub mod Runs
+pub mod Says
+pub mod Said
