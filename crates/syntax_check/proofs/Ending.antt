@@ -1,5 +1,5 @@
 -- Each state that a run can be in is brought to an end, whatever the bounds, and at most one name is declared so.
-use Rattle.std.proofs.Common.{◌≡◌, ◌⊎◌, inl, inr, ◌||◌, ℕ, Bool, true, false, List, [], ◌∷◌, Option, Some, None, Ok, refl, subst, sym, ap, ◌∙◌}
+use Rattle.std.proofs.Common.{◌≡◌, ◌⊎◌, inl, inr, ◌||◌, ℕ, Bool, true, false, List, [], ◌∷◌, Some, Ok, refl, sym, ap, ◌∙◌}
 use Rattle.std.proofs.lemmas.Bool.{false≢true}
 use Rattle.tlb_syntax.specs.declared.sign.Sign.TheVariants.{Hash, Colon, Semicolon, Equal, CloseParen, CloseBrace, CloseBracket, Question}
 use Rattle.tlb_syntax.specs.Lexeme.{Lexeme, word, number, sign}
@@ -54,7 +54,8 @@ may_end a_word st = is_word_end st
 
 abbrev Closing : Text → Bounds → List ℕ → State → Bool → Type 0
 Closing t m x st is_behind =
-    (more : List Lexeme) × (last : State) × (run m st more ≡ Ok last) × (may_end t last ≡ true) × (results m st more ≡ names_left t is_behind x)
+    (more : List Lexeme) × (last : State) × (run m st more ≡ Ok last) × (may_end t last ≡ true)
+    × (results m st more ≡ names_left t is_behind x)
 
 -- behind an operand: a name, or anything else
 abbrev behind : Bool → Side → Bool → Mode
@@ -70,27 +71,42 @@ paused half k = modes.Typed k
 paused bare k = modes.ItemName k
 
 mutual
-  close_sum : {t : Text} {p : Side} {below : List Frame} → SumFits t p below → (m : Bounds) (x : List ℕ) (is_name b : Bool) (lv : Count)
+  close_sum : {t : Text} {p : Side} {below : List Frame} → SumFits t p below
+      → (m : Bounds) (x : List ℕ) (is_name b : Bool) (lv : Count)
       → Closing t m x (at (behind is_name p b) lv below) (is_frame_behind below)
-  close_sum (in_paren {outer = outer} f) m x true b lv = let k = close_spot f m x outer in (sign CloseParen ∷ k.0, k.1, k.2, k.3, k.4)
-  close_sum (in_paren {outer = outer} f) m x false b lv = let k = close_spot f m x outer in (sign CloseParen ∷ k.0, k.1, k.2, k.3, k.4)
-  close_sum (on_left {k = n} f) m x true b lv = let k = close_items f m x settled n lv in (sign Equal ∷ word x ∷ sign CloseBrace ∷ k.0, k.1, k.2, k.3, k.4)
-  close_sum (on_left {k = n} f) m x false b lv = let k = close_items f m x settled n lv in (sign Equal ∷ word x ∷ sign CloseBrace ∷ k.0, k.1, k.2, k.3, k.4)
-  close_sum (on_right {k = n} f) m x true b lv = let k = close_items f m x settled n lv in (sign CloseBrace ∷ k.0, k.1, k.2, k.3, k.4)
-  close_sum (on_right {k = n} f) m x false b lv = let k = close_items f m x settled n lv in (sign CloseBrace ∷ k.0, k.1, k.2, k.3, k.4)
+  close_sum (in_paren {outer = outer} f) m x true b lv =
+      let k = close_spot f m x outer in (sign CloseParen ∷ k.0, k.1, k.2, k.3, k.4)
+  close_sum (in_paren {outer = outer} f) m x false b lv =
+      let k = close_spot f m x outer in (sign CloseParen ∷ k.0, k.1, k.2, k.3, k.4)
+  close_sum (on_left {k = n} f) m x true b lv =
+      let k = close_items f m x settled n lv in (sign Equal ∷ word x ∷ sign CloseBrace ∷ k.0, k.1, k.2, k.3, k.4)
+  close_sum (on_left {k = n} f) m x false b lv =
+      let k = close_items f m x settled n lv in (sign Equal ∷ word x ∷ sign CloseBrace ∷ k.0, k.1, k.2, k.3, k.4)
+  close_sum (on_right {k = n} f) m x true b lv =
+      let k = close_items f m x settled n lv in (sign CloseBrace ∷ k.0, k.1, k.2, k.3, k.4)
+  close_sum (on_right {k = n} f) m x false b lv =
+      let k = close_items f m x settled n lv in (sign CloseBrace ∷ k.0, k.1, k.2, k.3, k.4)
   close_sum in_word m x true b lv = ([], at (modes.Applied sides.Word b) lv [], refl, refl, refl)
   close_sum in_word m x false b lv = ([], at (modes.Operated sides.Word b) lv [], refl, refl, refl)
 
-  close_items : {t : Text} {below : List Frame} → ItemsFit t below → (m : Bounds) (x : List ℕ) (w : Pause) (n lv : Count)
+  close_items : {t : Text} {below : List Frame} → ItemsFit t below
+      → (m : Bounds) (x : List ℕ) (w : Pause) (n lv : Count)
       → Closing t m x (at (paused w n) lv below) (is_frame_behind below)
-  close_items in_declaration m x settled n lv = (sign Equal ∷ word x ∷ sign Semicolon ∷ [], at modes.Start lv [], refl, refl, refl)
-  close_items in_declaration m x half n lv = (sign Equal ∷ word x ∷ sign Semicolon ∷ [], at modes.Start lv [], refl, refl, refl)
-  close_items in_declaration m x bare n lv = (sign Equal ∷ word x ∷ sign Semicolon ∷ [], at modes.Start lv [], refl, refl, refl)
-  close_items (in_record {outer = outer} f) m x settled n lv = let k = close_spot f m x outer in (sign CloseBracket ∷ k.0, k.1, k.2, k.3, k.4)
-  close_items (in_record {outer = outer} f) m x half n lv = let k = close_spot f m x outer in (sign CloseBracket ∷ k.0, k.1, k.2, k.3, k.4)
-  close_items (in_record {outer = outer} f) m x bare n lv = let k = close_spot f m x outer in (sign CloseBracket ∷ k.0, k.1, k.2, k.3, k.4)
+  close_items in_declaration m x settled n lv =
+      (sign Equal ∷ word x ∷ sign Semicolon ∷ [], at modes.Start lv [], refl, refl, refl)
+  close_items in_declaration m x half n lv =
+      (sign Equal ∷ word x ∷ sign Semicolon ∷ [], at modes.Start lv [], refl, refl, refl)
+  close_items in_declaration m x bare n lv =
+      (sign Equal ∷ word x ∷ sign Semicolon ∷ [], at modes.Start lv [], refl, refl, refl)
+  close_items (in_record {outer = outer} f) m x settled n lv =
+      let k = close_spot f m x outer in (sign CloseBracket ∷ k.0, k.1, k.2, k.3, k.4)
+  close_items (in_record {outer = outer} f) m x half n lv =
+      let k = close_spot f m x outer in (sign CloseBracket ∷ k.0, k.1, k.2, k.3, k.4)
+  close_items (in_record {outer = outer} f) m x bare n lv =
+      let k = close_spot f m x outer in (sign CloseBracket ∷ k.0, k.1, k.2, k.3, k.4)
 
-  close_spot : {t : Text} {spot : Spot} {below : List Frame} → SpotFits t spot below → (m : Bounds) (x : List ℕ) (lv : Count)
+  close_spot : {t : Text} {spot : Spot} {below : List Frame} → SpotFits t spot below
+      → (m : Bounds) (x : List ℕ) (lv : Count)
       → Closing t m x (at (given_to spot) lv below) (is_spot_behind spot || is_frame_behind below)
   close_spot (operand {b = b} f) m x lv = close_sum f m x false b lv
   close_spot (argument {b = b} f) m x lv = close_sum f m x true b lv
@@ -104,23 +120,32 @@ closing : {t : Text} {mode : Mode} {below : List Frame} → Fits t mode below �
 closing fits_start m x lv = ([], at modes.Start lv [], refl, refl, refl)
 closing fits_headed m x lv = (sign Equal ∷ word x ∷ sign Semicolon ∷ [], at modes.Start lv [], refl, refl, refl)
 closing (fits_items {k = n} f) m x lv = close_items f m x settled n lv
-closing (fits_brace {k = n} f) m x lv = let k = close_items f m x settled n lv in (word x ∷ sign Colon ∷ sign Hash ∷ sign CloseBrace ∷ k.0, k.1, k.2, k.3, k.4)
-closing (fits_brace_name {k = n} f) m x lv = let k = close_items f m x settled n lv in (sign Colon ∷ sign Hash ∷ sign CloseBrace ∷ k.0, k.1, k.2, k.3, k.4)
-closing (fits_kind {k = n} f) m x lv = let k = close_items f m x settled n lv in (sign Hash ∷ sign CloseBrace ∷ k.0, k.1, k.2, k.3, k.4)
-closing (fits_kind_end {k = n} f) m x lv = let k = close_items f m x settled n lv in (sign CloseBrace ∷ k.0, k.1, k.2, k.3, k.4)
+closing (fits_brace {k = n} f) m x lv =
+    let k = close_items f m x settled n lv in
+    (word x ∷ sign Colon ∷ sign Hash ∷ sign CloseBrace ∷ k.0, k.1, k.2, k.3, k.4)
+closing (fits_brace_name {k = n} f) m x lv =
+    let k = close_items f m x settled n lv in (sign Colon ∷ sign Hash ∷ sign CloseBrace ∷ k.0, k.1, k.2, k.3, k.4)
+closing (fits_kind {k = n} f) m x lv =
+    let k = close_items f m x settled n lv in (sign Hash ∷ sign CloseBrace ∷ k.0, k.1, k.2, k.3, k.4)
+closing (fits_kind_end {k = n} f) m x lv =
+    let k = close_items f m x settled n lv in (sign CloseBrace ∷ k.0, k.1, k.2, k.3, k.4)
 closing (fits_item_name {k = n} f) m x lv = close_items f m x bare n lv
-closing (fits_item_blank {k = n} f) m x lv = let k = close_items f m x half n lv in (sign Colon ∷ word x ∷ k.0, k.1, k.2, k.3, k.4)
+closing (fits_item_blank {k = n} f) m x lv =
+    let k = close_items f m x half n lv in (sign Colon ∷ word x ∷ k.0, k.1, k.2, k.3, k.4)
 closing (fits_term f) m x lv = let k = close_spot f m x lv in (word x ∷ k.0, k.1, k.2, k.3, k.4)
 closing (fits_apply {b = b} f) m x lv = let k = close_sum f m x true b lv in (word x ∷ k.0, k.1, k.2, k.3, k.4)
 closing (fits_applied {b = b} f) m x lv = close_sum f m x true b lv
 closing (fits_operated {b = b} f) m x lv = close_sum f m x false b lv
 closing (fits_typed {k = n} f) m x lv = close_items f m x half n lv
-closing (fits_bit {k = n} f) m x lv = let k = close_items f m x settled n lv in (number (Some 0) ∷ sign Question ∷ word x ∷ k.0, k.1, k.2, k.3, k.4)
-closing (fits_bit_end {k = n} f) m x lv = let k = close_items f m x settled n lv in (sign Question ∷ word x ∷ k.0, k.1, k.2, k.3, k.4)
+closing (fits_bit {k = n} f) m x lv =
+    let k = close_items f m x settled n lv in (number (Some 0) ∷ sign Question ∷ word x ∷ k.0, k.1, k.2, k.3, k.4)
+closing (fits_bit_end {k = n} f) m x lv =
+    let k = close_items f m x settled n lv in (sign Question ∷ word x ∷ k.0, k.1, k.2, k.3, k.4)
 closing fits_result m x lv = (word x ∷ sign Semicolon ∷ [], at modes.Start lv [], refl, refl, refl)
 closing fits_params m x lv = (sign Semicolon ∷ [], at modes.Start lv [], refl, refl, refl)
 
-state_closing : (t : Text) (m : Bounds) (x : List ℕ) (st : State) → FitsState t st → Closing t m x st (is_result_behind st)
+state_closing : (t : Text) (m : Bounds) (x : List ℕ) (st : State) → FitsState t st
+    → Closing t m x st (is_result_behind st)
 state_closing t m x (at mode lv below) f = closing f m x lv
 
 -- ---- ends
@@ -133,27 +158,40 @@ end_behind (at mode lv below) e = absurd (false≢true e)
 -- how a schema goes on to an end: by nothing where it may end, and by x for a result that is not behind
 abbrev pub SchemaEnding : Bounds → List ℕ → State → Type 0
 SchemaEnding m x st =
-    (more : List Lexeme) × (last : State) × (run m st more ≡ Ok last) × (is_schema_end last ≡ true) × ((results m st more ≡ []) ⊎ (results m st more ≡ x ∷ []))
+    (more : List Lexeme) × (last : State) × (run m st more ≡ Ok last) × (is_schema_end last ≡ true)
+    × ((results m st more ≡ []) ⊎ (results m st more ≡ x ∷ []))
     × (is_schema_end st ≡ true → more ≡ []) × (results m st more ≡ named_later (is_result_behind st) x)
 
-none_or_one : {names : List (List ℕ)} (is_behind : Bool) (x : List ℕ) → names ≡ named_later is_behind x → (names ≡ []) ⊎ (names ≡ x ∷ [])
+none_or_one : {names : List (List ℕ)} (is_behind : Bool) (x : List ℕ) → names ≡ named_later is_behind x
+    → (names ≡ []) ⊎ (names ≡ x ∷ [])
 none_or_one true x e = inl e
 none_or_one false x e = inr e
 
-pub schema_ending : (m : Bounds) (front : List Lexeme) (st : State) → run m (schema_start m) front ≡ Ok st → (x : List ℕ) → SchemaEnding m x st
-schema_ending m front st e x = go (is_schema_end st) refl (state_closing a_schema m x st (run_keeps a_schema m front modes.Start m.levels [] st fits_start e))
+pub schema_ending : (m : Bounds) (front : List Lexeme) (st : State) → run m (schema_start m) front ≡ Ok st
+    → (x : List ℕ) → SchemaEnding m x st
+schema_ending m front st e x =
+    go (is_schema_end st) refl
+    (state_closing a_schema m x st (run_keeps a_schema m front modes.Start m.levels [] st fits_start e))
   where
-    go : (is_end : Bool) → is_schema_end st ≡ is_end → Closing a_schema m x st (is_result_behind st) → SchemaEnding m x st
+    go : (is_end : Bool) → is_schema_end st ≡ is_end → Closing a_schema m x st (is_result_behind st)
+        → SchemaEnding m x st
     go true f k = ([], st, refl, f, inl refl, (λ g. refl), ap (λ z. named_later z x) (sym (end_behind st f)))
-    go false f k = (k.0, k.1, k.2, k.3, none_or_one (is_result_behind st) x k.4, (λ g. absurd (false≢true (sym f ∙ g))), k.4)
+    go false f k =
+        (k.0, k.1, k.2, k.3, none_or_one (is_result_behind st) x k.4, (λ g. absurd (false≢true (sym f ∙ g))), k.4)
 
 -- how a type word goes on to an end: by nothing where it may end
 abbrev pub WordEnding : Bounds → State → Type 0
-WordEnding m st = (more : List Lexeme) × (last : State) × (run m st more ≡ Ok last) × (is_word_end last ≡ true) × (is_word_end st ≡ true → more ≡ [])
+WordEnding m st =
+    (more : List Lexeme) × (last : State) × (run m st more ≡ Ok last) × (is_word_end last ≡ true)
+    × (is_word_end st ≡ true → more ≡ [])
 
 -- by names x alone
-pub word_ending : (m : Bounds) (front : List Lexeme) (st : State) → run m (word_start m) front ≡ Ok st → (x : List ℕ) → WordEnding m st
-word_ending m front st e x = go (is_word_end st) refl (state_closing a_word m x st (run_keeps a_word m front (modes.Apply sides.Word false) m.levels [] st (fits_apply in_word) e))
+pub word_ending : (m : Bounds) (front : List Lexeme) (st : State) → run m (word_start m) front ≡ Ok st → (x : List ℕ)
+    → WordEnding m st
+word_ending m front st e x =
+    go (is_word_end st) refl
+    (state_closing a_word m x st
+    (run_keeps a_word m front (modes.Apply sides.Word false) m.levels [] st (fits_apply in_word) e))
   where
     go : (is_end : Bool) → is_word_end st ≡ is_end → Closing a_word m x st (is_result_behind st) → WordEnding m st
     go true f k = ([], st, refl, f, (λ g. refl))

@@ -27,11 +27,13 @@ results m st (t ∷ ts) = named_in st t (if_taken (step m st t) (λ next. result
 abbrev pub trail : Bounds → State → List Lexeme → Outcome × List (List ℕ)
 trail m st ls = (run m st ls, results m st ls)
 
-pub runs_on : (m : Bounds) (st : State) (front rest : List Lexeme) → run m st (front ++ rest) ≡ and_then (run m st front) (λ mid. run m mid rest)
+pub runs_on : (m : Bounds) (st : State) (front rest : List Lexeme)
+    → run m st (front ++ rest) ≡ and_then (run m st front) (λ mid. run m mid rest)
 runs_on m st [] rest = refl
 runs_on m st (t ∷ ts) rest = go (step m st t) (λ next. runs_on m next ts rest)
   where
     go : (o : Outcome) → ((next : State) → run m next (ts ++ rest) ≡ and_then (run m next ts) (λ mid. run m mid rest))
-        → and_then o (λ next. run m next (ts ++ rest)) ≡ and_then (and_then o (λ next. run m next ts)) (λ mid. run m mid rest)
+        → and_then o (λ next. run m next (ts ++ rest)) ≡ and_then (and_then o (λ next. run m next ts))
+        (λ mid. run m mid rest)
     go (Ok next) further = further next
     go (Err why) further = refl
