@@ -2,4 +2,5 @@
 #![tactic(auto)]
 
 mod machine;
+mod modes;
 mod step;

@@ -56,7 +56,7 @@ pub struct Machine {
 }
 
 // One more comes, where one may.
-fn spend(count: Option<u32>, why: Cause) -> Result<Option<u32>, Cause>
+pub(crate) fn spend(count: Option<u32>, why: Cause) -> Result<Option<u32>, Cause>
     ensures { result ≡ spec.spend count why }
 {
     match count {
@@ -78,7 +78,7 @@ fn begin_of_sign(sign: Sign) -> Option<Begin>
     }
 }
 
-fn begin_of(next: Lexeme) -> Option<Begin>
+pub(crate) fn begin_of(next: Lexeme) -> Option<Begin>
     ensures { spec.begin_of (lexeme next.entry) ≡ option_map begin_as result }
 {
     match next {
@@ -126,14 +126,14 @@ fn given_to(spot: Spot) -> Mode
 
 impl Machine {
     // The brackets stay as they are.
-    fn stay(&self, mode: Mode) -> Move
+    pub(crate) fn stay(&self, mode: Mode) -> Move
         ensures { (outcome (Ok result) (below self.now)) ≡ Ok (spec.at mode self.now.levels (below self.now)) }
     {
         Move { mode, levels: self.levels, change: Change::Keep }
     }
 
     // A term begins, and so many levels may be opened in it.
-    fn begins(&self, begin: Begin, spot: Spot, inner: Option<u32>) -> Result<Move, Cause>
+    pub(crate) fn begins(&self, begin: Begin, spot: Spot, inner: Option<u32>) -> Result<Move, Cause>
         ensures { spec.begins (bounds_of self.now) (begin_as begin) spot self.now.levels inner (below self.now) ≡ outcome result (below self.now) }
     {
         match begin {
@@ -162,7 +162,7 @@ impl Machine {
         }
     }
 
-    fn term(&self, begin: Option<Begin>, spot: Spot, inner: Option<u32>) -> Result<Move, Cause>
+    pub(crate) fn term(&self, begin: Option<Begin>, spot: Spot, inner: Option<u32>) -> Result<Move, Cause>
         ensures { spec.term (bounds_of self.now) (option_map begin_as begin) spot self.now.levels inner (below self.now) ≡ outcome result (below self.now) }
     {
         match begin {
@@ -210,7 +210,7 @@ impl Machine {
     }
 
     // Behind a whole operand.
-    fn operated(&self, side: Side, starred: bool, next: Lexeme) -> Result<Move, Cause>
+    pub(crate) fn operated(&self, side: Side, starred: bool, next: Lexeme) -> Result<Move, Cause>
         ensures { spec.operated side starred self.now.levels (below self.now) (lexeme next.entry) ≡ outcome result (below self.now) }
     {
         match next {
@@ -227,7 +227,7 @@ impl Machine {
     }
 
     // Behind a name and maybe arguments: a further argument, or else the name is a whole operand.
-    fn applied(&self, side: Side, starred: bool, next: Lexeme) -> Result<Move, Cause>
+    pub(crate) fn applied(&self, side: Side, starred: bool, next: Lexeme) -> Result<Move, Cause>
         ensures { spec.applied (bounds_of self.now) (spec.begin_of (lexeme next.entry)) side starred self.now.levels (below self.now) (lexeme next.entry) ≡ outcome result (below self.now) }
     {
         match begin_of(next) {
@@ -237,7 +237,7 @@ impl Machine {
     }
 
     // Where an operand is wanted.
-    fn apply(&self, side: Side, starred: bool, next: Lexeme) -> Result<Move, Cause>
+    pub(crate) fn apply(&self, side: Side, starred: bool, next: Lexeme) -> Result<Move, Cause>
         ensures { spec.apply (bounds_of self.now) side starred self.now.levels (below self.now) (lexeme next.entry) ≡ outcome result (below self.now) }
     {
         match next {
@@ -307,7 +307,7 @@ impl Machine {
     }
 
     // Between items.
-    fn items(&self, items: Option<u32>, next: Lexeme) -> Result<Move, Cause>
+    pub(crate) fn items(&self, items: Option<u32>, next: Lexeme) -> Result<Move, Cause>
         ensures { spec.items (bounds_of self.now) items self.now.levels (below self.now) (lexeme next.entry) ≡ outcome result (below self.now) }
     {
         match next {
@@ -328,7 +328,7 @@ impl Machine {
     }
 
     // Behind the first term of a field.
-    fn typed(&self, items: Option<u32>, next: Lexeme) -> Result<Move, Cause>
+    pub(crate) fn typed(&self, items: Option<u32>, next: Lexeme) -> Result<Move, Cause>
         ensures { spec.typed (bounds_of self.now) items self.now.levels (below self.now) (lexeme next.entry) ≡ outcome result (below self.now) }
     {
         match next {
