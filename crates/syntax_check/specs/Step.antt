@@ -1,6 +1,5 @@
 -- What the program keeps of the machine's state, and what a step changes in it.
-use Rattle.std.specs.Prelude.{ℕ, ◌≡◌, Bool, true, false, List, [], ◌∷◌, reverse, Option, Some, None, Result, Ok, Err}
-use Rattle.tlb_syntax.specs.Lexeme.{Lexeme, tag}
+use Rattle.std.specs.Prelude.{List, [], ◌∷◌, reverse, Option, Some, None, Result, Ok, Err}
 use Rattle.tlb_syntax.specs.Grammar.{Bounds}
 use Rattle.syntax_check.specs.declared.machine.Frame.{Frame}
 use Rattle.syntax_check.specs.declared.machine.Cause.{Cause}
@@ -51,8 +50,3 @@ outcome (Err why) fs = Err why
 abbrev pub innermost : List Frame → Option Frame
 innermost [] = None
 innermost (f ∷ fs) = Some f
-
--- a tag with bits
-abbrev pub is_fit_tag : Lexeme → Bool
-is_fit_tag (tag (Some b)) = true
-is_fit_tag _ = false

@@ -1,12 +1,13 @@
 //! A step of the machine in each of its modes.
 ghost use Rattle.std.specs.Prelude.{◌≡◌, bytes_eq, codes};
 ghost use Rattle.tlb_syntax.specs.Lexeme.{lexeme};
+ghost use Rattle.tlb_syntax.specs.Placed.{IsSpelled};
 ghost use Rattle.syntax_check.specs.Machine as spec;
-ghost use Rattle.syntax_check.specs.Step.{bounds_of, state, below, outcome, is_fit_tag};
+ghost use Rattle.syntax_check.specs.Step.{bounds_of, state, below, outcome};
 
 use crate::machine::{Cause, Mode, Side, Spot};
 use crate::step::{Machine, Move, begin_of, spend};
-use tlb_syntax::{Lexeme, Sign};
+use tlb_syntax::{Lexeme, Sign, has_tag_bits};
 
 // Whether it is the name `Type`.
 fn is_type(name: &[u8]) -> bool
@@ -25,13 +26,13 @@ impl Machine {
         }
     }
 
-    fn headed(&self, next: Lexeme, is_fit: bool) -> Result<Move, Cause>
-        requires { is_fit ≡ is_fit_tag (lexeme next) }
+    fn headed(&self, next: Lexeme) -> Result<Move, Cause>
+        requires { IsSpelled next }
         ensures { spec.step_mode (bounds_of self.now) (Mode.Headed) self.now.levels (below self.now) (lexeme next.entry) ≡ outcome result (below self.now) }
     {
         match next {
             Lexeme::BinaryTag(_) | Lexeme::HexTag(_) => {
-                if is_fit {
+                if has_tag_bits(&next) {
                     Ok(self.stay(Mode::Items(self.limits.items)))
                 } else {
                     Err(Cause::Syntax)
@@ -162,14 +163,14 @@ impl Machine {
         }
     }
 
-    /// Where the next lexeme leads; `is_fit`: it is a tag with bits.
-    pub(crate) fn step(&self, next: Lexeme, is_fit: bool) -> Result<Move, Cause>
-        requires { is_fit ≡ is_fit_tag (lexeme next) }
+    /// Where the next lexeme leads.
+    pub(crate) fn step(&self, next: Lexeme) -> Result<Move, Cause>
+        requires { IsSpelled next }
         ensures { spec.step (bounds_of self.now) (state self.now) (lexeme next.entry) ≡ outcome result (below self.now) }
     {
         match self.mode {
             Mode::Start => self.starts(next),
-            Mode::Headed => self.headed(next, is_fit),
+            Mode::Headed => self.headed(next),
             Mode::Items(items) => self.items(items, next),
             Mode::Brace(items) => self.brace(items, next),
             Mode::BraceName(items) => self.brace_name(items, next),

@@ -3,7 +3,7 @@ ghost use Rattle.std.specs.Prelude.{◌≡◌, option_map, IsTrue, Option, Some,
 ghost use Rattle.tlb_syntax.specs.Lexeme.{lexeme};
 ghost use Rattle.syntax_check.specs.Machine as spec;
 ghost use Rattle.tlb_syntax.specs.Lexeme.{sign as spelled};
-ghost use Rattle.syntax_check.specs.Step.{begin_as, bounds_of, below, innermost, outcome, is_fit_tag};
+ghost use Rattle.syntax_check.specs.Step.{begin_as, bounds_of, below, innermost, outcome};
 
 use crate::machine::{Cause, Frame, Mode, Side, Spot};
 use tlb_syntax::{Lexeme, Sign};
