@@ -2,6 +2,7 @@
 #![tactic(auto)]
 
 mod freed;
+mod judge;
 mod machine;
 mod modes;
 mod step;
