@@ -2,7 +2,7 @@
 ghost use Rattle.std.specs.Prelude.{◌≡◌, ◌+◌, ◌<◌, ◌^◌, ℕ, length, map, IfOk, OnOk, is_ok, Option, Some, None, Ok, Err};
 ghost use Rattle.tlb_syntax.specs.Lexeme.{lexeme};
 ghost use Rattle.tlb_syntax.specs.Placed.{IsSpelled};
-ghost use Rattle.tlb_syntax.specs.Written.{standard};
+ghost use Rattle.tlb_syntax.specs.Written.{standard, unbounded};
 ghost use Rattle.syntax_check.specs.Machine as spec;
 ghost use Rattle.syntax_check.specs.Judge as verdicts;
 ghost use Rattle.syntax_check.specs.Step.{bounds_of, state, below, outcome, behind};
@@ -206,5 +206,68 @@ impl<'a> Judge<'a> {
         self.machine.go(to)?;
         self.place += 1;
         Ok(())
+    }
+
+    // The limit that was met already, or else that nothing goes on with the next lexeme.
+    fn stop(&self) -> Refusal
+        ensures { told result ≡ verdicts.met_or (told_verdict self.now.met) (Cause.Syntax, self.now.place) }
+    {
+        self.met.unwrap_or(self.refusal(Cause::Syntax))
+    }
+
+    // Behind a limit the declaration goes on, to its result or to the first lexeme that nothing goes on with.
+    fn go_beyond(&mut self, why: Cause, next: Lexeme<'a>) -> Result<Option<Refusal>, NoMemory>
+        requires spelled { IsSpelled next }
+        requires room { self.old.place + 1 < 2 ^ 32 }
+        ensures { IfOk result (λ found. verdicts.freed (stand self.old) (lexeme next.entry) why (spec.step unbounded (verdicts.free (state self.old.machine)) (lexeme next.entry)) ≡ goes_to found (stand self.new)) }
+    {
+        let refusal = self.refusal(why);
+        self.machine.lift_limits();
+        match self.machine.step(next) {
+            Ok(to) => {
+                self.met = Some(refusal);
+                self.go_on(next, to)?;
+                Ok(None)
+            }
+            Err(_) => Ok(Some(refusal)),
+        }
+    }
+
+    fn step(&mut self, next: Lexeme<'a>) -> Result<Option<Refusal>, NoMemory>
+        requires spelled { IsSpelled next }
+        requires room { self.old.place + 1 < 2 ^ 32 }
+        ensures { IfOk result (λ found. verdicts.after_step (stand self.old) (lexeme next.entry) (spec.step (bounds_of self.old.machine) (state self.old.machine) (lexeme next.entry)) ≡ goes_to found (stand self.new)) }
+    {
+        match self.machine.step(next) {
+            Ok(to) => {
+                self.go_on(next, to)?;
+                Ok(None)
+            }
+            Err(Cause::Syntax) => Ok(Some(self.stop())),
+            Err(why) => self.go_beyond(why, next),
+        }
+    }
+
+    /// One lexeme further.
+    pub(crate) fn advance(&mut self, next: Lexeme<'a>) -> Result<Option<Refusal>, NoMemory>
+        requires spelled { IsSpelled next }
+        requires room { self.old.place + 1 < 2 ^ 32 }
+        ensures { IfOk result (λ found. verdicts.advance (stand self.old) (lexeme next.entry) ≡ goes_to found (stand self.new)) }
+    {
+        match self.judged_name(next) {
+            Some(refusal) => Ok(Some(refusal)),
+            None => self.step(next),
+        }
+    }
+
+    /// At the end of the text.
+    pub(crate) fn finish(&self, whole: Whole) -> Option<Refusal>
+        ensures { told_verdict result ≡ verdicts.finish (may_end whole) (stand self.now) }
+    {
+        if self.machine.may_end(whole) {
+            self.met
+        } else {
+            Some(self.met.unwrap_or(self.refusal(Cause::Syntax)))
+        }
     }
 }
