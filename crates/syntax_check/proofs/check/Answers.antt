@@ -11,14 +11,11 @@ use Rattle.syntax_check.proofs.check.Goals as goal
 no_token : Token
 no_token = record { kind = Name; from = 0; to = 0 }
 
-pub lexeme_at-requires-clause-within : goal.lexeme_at-requires-clause-within
+pub lexeme_at-requires : goal.lexeme_at-requires
 unfolding no_token
-lexeme_at-requires-clause-within c =
+lexeme_at-requires c =
     let placed = placed_at c.args.text.now 0 c.args.tokens.now c.loop-token.token-index no_token c.requires.placed c.loop-token-test.true in
     record { forward = omega (arith, placed.1.forward); within = placed.1.within }
-
-pub lexeme_at-requires-clause-stub : goal.lexeme_at-requires-clause-stub
-lexeme_at-requires-clause-stub c = ?
 
 pub advance-requires-clause-spelled : goal.advance-requires-clause-spelled
 unfolding no_token

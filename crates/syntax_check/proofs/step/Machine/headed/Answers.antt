@@ -25,9 +25,6 @@ fit_at m lv fs t o e h = rw e (fit m lv fs o (rw e at h))
 unfit_at : (m : Bounds) (lv : Count) (fs : List Frame) (t : Lexeme) (o : Option (List ℕ)) → t ≡ tag o → (IsSome (bits_of t) → IsTrue false) → step_mode m Headed lv fs t ≡ Err Syntax
 unfit_at m lv fs t o e h = rw e (unfit m lv fs o (rw e at h))
 
-pub has_tag_bits-requires-clause-stub : goal.has_tag_bits-requires-clause-stub
-has_tag_bits-requires-clause-stub c = ?
-
 pub returns-then-has_tag_bits : goal.returns-then-has_tag_bits
 returns-then-has_tag_bits c = elim c.in-BinaryTag.is [
   | inl p ↦ fit_at (bounds_of c.args.self.now) _ _ (lexeme c.args.next) _ (ap lexeme p.1) (c.if-has_tag_bits.ensures.0 refl) ∙ sym c.stay.ensures
