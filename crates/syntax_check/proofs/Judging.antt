@@ -68,6 +68,13 @@ placed_at text start [] i d h lt = absurd (omega arith)
 placed_at text start (t ∷ ts) zero d h lt = (start, h.0)
 placed_at text start (t ∷ ts) (suc i) d h lt = placed_at text t.to ts i d h.1 (omega arith)
 
+pub tokens_before : (text : List ℕ) (start : ℕ) (ts : List Token) (i : ℕ) → PlacedFrom text start ts → i < length ts → start + i < length text
+tokens_before text start [] i h lt = absurd (omega arith)
+tokens_before text start (t ∷ ts) zero h lt = omega (arith, h.0.behind, h.0.forward, h.0.within)
+tokens_before text start (t ∷ ts) (suc i) h lt =
+    let later : t.to + i < length text = tokens_before text t.to ts i h.1 (omega arith) in
+    omega (arith, later, h.0.behind, h.0.forward)
+
 pub goes_on : (may_end : State → Bool) (a b : Stand) (text : List ℕ) (ts : List Token) (i : ℕ) (d : Token) (t : Lexeme) → i < length ts → t ≡ lexeme_of text (get_or ts i d) → advance a t ≡ Ok b →
     go may_end b (lexemes text (drop (i + 1) ts)) ≡ go may_end a (lexemes text (drop i ts))
 goes_on may_end a b text ts i d t lt f e =

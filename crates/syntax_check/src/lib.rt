@@ -25,7 +25,7 @@ use tlb_syntax::lexeme_at;
 
 fn check(alloc: Global, text: &[u8], tokens: &[Token], whole: Whole) -> Result<Option<Refusal>, NoMemory>
     requires placed { PlacedFrom text.now 0 tokens.now }
-    requires few { length tokens.now < 2 ^ 32 }
+    requires short { length text.now < 2 ^ 32 }
     ensures { IfOk result (λ found. told_verdict found ≡ go (may_end whole) (stand_at standard (start_of whole)) (lexemes text.now tokens.now)) }
 {
     let mut judge = Judge::new(alloc, whole);
@@ -41,7 +41,7 @@ fn check(alloc: Global, text: &[u8], tokens: &[Token], whole: Whole) -> Result<O
 /// The first refusal of the tokens of a text that is to be a schema. None: they write one.
 pub fn check_schema(alloc: Global, text: &[u8], tokens: &[Token]) -> Result<Option<Refusal>, NoMemory>
     requires placed { PlacedFrom text.now 0 tokens.now }
-    requires few { length tokens.now < 2 ^ 32 }
+    requires short { length text.now < 2 ^ 32 }
     ensures plain { IfOk result (λ found. option_map (λ r. (r.cause, r.place)) found ≡ schema_verdict (lexemes text.now tokens.now)) }
 {
     check(alloc, text, tokens, Whole::Schema)
@@ -50,7 +50,7 @@ pub fn check_schema(alloc: Global, text: &[u8], tokens: &[Token]) -> Result<Opti
 /// The first refusal of the tokens of a text that is to be a type word. None: they write one.
 pub fn check_word(alloc: Global, text: &[u8], tokens: &[Token]) -> Result<Option<Refusal>, NoMemory>
     requires placed { PlacedFrom text.now 0 tokens.now }
-    requires few { length tokens.now < 2 ^ 32 }
+    requires short { length text.now < 2 ^ 32 }
     ensures plain { IfOk result (λ found. option_map (λ r. (r.cause, r.place)) found ≡ word_verdict (lexemes text.now tokens.now)) }
 {
     check(alloc, text, tokens, Whole::Word)

@@ -4,7 +4,7 @@ use Rattle.tlb_lexer.specs.declared.Token.{Token}
 use Rattle.tlb_syntax.specs.Lexeme.{lexeme}
 use Rattle.syntax_check.specs.Judge.{advance}
 use Rattle.syntax_check.specs.Judged.{stand, may_end}
-use Rattle.syntax_check.proofs.Judging.{placed_at, advance_place, not_refused, goes_on}
+use Rattle.syntax_check.proofs.Judging.{placed_at, tokens_before, advance_place, not_refused, goes_on}
 use Rattle.syntax_check.proofs.check.Goals as goal
 
 -- what is read past the end of the tokens
@@ -21,6 +21,10 @@ pub advance-requires-clause-spelled : goal.advance-requires-clause-spelled
 unfolding no_token
 advance-requires-clause-spelled c =
     c.lexeme_at.ensures.spelled (placed_at c.args.text.now 0 c.args.tokens.now c.loop-token.token-index no_token c.requires.placed c.loop-token-test.true).1.spelled
+
+pub advance-requires-clause-room : goal.advance-requires-clause-room
+advance-requires-clause-room c =
+    omega (arith, tokens_before c.args.text.now 0 c.args.tokens.now c.loop-token.token-index c.requires.placed c.loop-token-test.true)
 
 pub loop-token-preserved : goal.loop-token-preserved
 unfolding no_token
