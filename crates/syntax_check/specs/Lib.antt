@@ -1,2 +1,4 @@
 pub mod Machine
 pub mod Judge
+pub mod Step
+pub mod Judged

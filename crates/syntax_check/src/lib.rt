@@ -1,4 +1,57 @@
 //! Whether the tokens of a text write a schema or a type word, and else their first refusal.
 #![tactic(auto)]
 
+ghost use Rattle.std.specs.Prelude.{◌≡◌, ◌<◌, ◌^◌, length, option_map, IfOk};
+ghost use Rattle.tlb_lexer.specs.Cut.{PlacedFrom};
+ghost use Rattle.tlb_syntax.specs.Lexeme.{lexemes};
+ghost use Rattle.tlb_syntax.specs.Written.{standard};
+ghost use Rattle.syntax_check.specs.Judge.{go, stand_at, schema_verdict, word_verdict};
+ghost use Rattle.syntax_check.specs.Judged.{told_verdict, start_of, may_end};
+
+mod freed;
+mod judge;
 mod machine;
+mod modes;
+mod step;
+
+pub use judge::Refusal;
+pub use machine::Cause;
+
+use judge::{Judge, Whole};
+use std::alloc::Global;
+use tlb_lexer::Token;
+use tlb_memory::NoMemory;
+use tlb_syntax::lexeme_at;
+
+fn check(alloc: Global, text: &[u8], tokens: &[Token], whole: Whole) -> Result<Option<Refusal>, NoMemory>
+    requires placed { PlacedFrom text.now 0 tokens.now }
+    requires short { length text.now < 2 ^ 32 }
+    ensures { IfOk result (λ found. told_verdict found ≡ go (may_end whole) (stand_at standard (start_of whole)) (lexemes text.now tokens.now)) }
+{
+    let mut judge = Judge::new(alloc, whole);
+    for token in tokens {
+        let refused = judge.advance(lexeme_at(text, token))?;
+        if refused.is_some() {
+            return Ok(refused);
+        }
+    }
+    Ok(judge.finish(whole))
+}
+
+/// The first refusal of the tokens of a text that is to be a schema. None: they write one.
+pub fn check_schema(alloc: Global, text: &[u8], tokens: &[Token]) -> Result<Option<Refusal>, NoMemory>
+    requires placed { PlacedFrom text.now 0 tokens.now }
+    requires short { length text.now < 2 ^ 32 }
+    ensures plain { IfOk result (λ found. option_map (λ r. (r.cause, r.place)) found ≡ schema_verdict (lexemes text.now tokens.now)) }
+{
+    check(alloc, text, tokens, Whole::Schema)
+}
+
+/// The first refusal of the tokens of a text that is to be a type word. None: they write one.
+pub fn check_word(alloc: Global, text: &[u8], tokens: &[Token]) -> Result<Option<Refusal>, NoMemory>
+    requires placed { PlacedFrom text.now 0 tokens.now }
+    requires short { length text.now < 2 ^ 32 }
+    ensures plain { IfOk result (λ found. option_map (λ r. (r.cause, r.place)) found ≡ word_verdict (lexemes text.now tokens.now)) }
+{
+    check(alloc, text, tokens, Whole::Word)
+}

@@ -1,0 +1,13 @@
+use Rattle.std.proofs.Common.{ℕ, ◌≡◌, drop, length}
+use Rattle.tlb_lexer.specs.Cut.{PlacedFrom}
+use Rattle.tlb_syntax.specs.Lexeme.{lexemes}
+use Rattle.tlb_syntax.specs.Written.{standard}
+use Rattle.syntax_check.specs.Judge.{go, stand_at}
+use Rattle.syntax_check.specs.Judged.{stand, start_of, may_end}
+use Rattle.syntax_check.proofs.check.Given as goal
+
+abbrev pub invariant-loop-token : goal.invariant-loop-token
+invariant-loop-token l = record {
+  place : l.judge.place ≡ l.token-index;
+  verdict : go (may_end l.whole) (stand l.judge) (lexemes l.text (drop l.token-index l.tokens)) ≡ go (may_end l.whole) (stand_at standard (start_of l.whole)) (lexemes l.text l.tokens)
+}

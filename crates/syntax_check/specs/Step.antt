@@ -1,0 +1,52 @@
+-- What the program keeps of the machine's state, and what a step changes in it.
+use Rattle.std.specs.Prelude.{List, [], ◌∷◌, reverse, Option, Some, None, Result, Ok, Err}
+use Rattle.tlb_syntax.specs.Grammar.{Bounds}
+use Rattle.syntax_check.specs.declared.machine.Frame.{Frame}
+use Rattle.syntax_check.specs.declared.machine.Cause.{Cause}
+use Rattle.syntax_check.specs.declared.step.Begin.{Begin as ABegin}
+use Rattle.syntax_check.specs.declared.step.Begin.TheVariants.{Leaf, NoLeaf, Prefix, Paren, Record}
+use Rattle.syntax_check.specs.declared.step.Limits.{Limits}
+use Rattle.syntax_check.specs.declared.step.Change.{Change}
+use Rattle.syntax_check.specs.declared.step.Change.TheVariants.{Keep, Open, Close}
+use Rattle.syntax_check.specs.declared.step.Move.{Move}
+use Rattle.syntax_check.specs.declared.step.Machine.{Machine}
+use Rattle.syntax_check.specs.Machine.{State, at, Outcome, Begin, leaf, no_leaf, prefix, paren, record_}
+
+abbrev pub begin_as : ABegin → Begin
+begin_as Leaf = leaf
+begin_as NoLeaf = no_leaf
+begin_as Prefix = prefix
+begin_as Paren = paren
+begin_as Record = record_
+
+abbrev pub bounds_as : Limits → Bounds
+bounds_as m = record { levels = m.levels; items = m.items; params = m.params }
+
+-- the open brackets, the innermost first
+abbrev pub below : Machine → List Frame
+below a = reverse a.open.items
+
+abbrev pub state : Machine → State
+state a = at a.mode a.levels (below a)
+
+abbrev pub bounds_of : Machine → Bounds
+bounds_of a = bounds_as a.limits
+
+-- ---- what a step changes
+
+abbrev pub changed : Change → List Frame → List Frame
+changed Keep fs = fs
+changed (Open f) fs = f ∷ fs
+changed Close [] = []
+changed Close (f ∷ fs) = fs
+
+abbrev pub behind : Move → List Frame → State
+behind to fs = at to.mode to.levels (changed to.change fs)
+
+abbrev pub outcome : Result Move Cause → List Frame → Outcome
+outcome (Ok to) fs = Ok (behind to fs)
+outcome (Err why) fs = Err why
+
+abbrev pub innermost : List Frame → Option Frame
+innermost [] = None
+innermost (f ∷ fs) = Some f

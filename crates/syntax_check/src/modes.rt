@@ -1,0 +1,192 @@
+//! A step of the machine in each of its modes.
+ghost use Rattle.std.specs.Prelude.{◌≡◌, bytes_eq, codes};
+ghost use Rattle.tlb_syntax.specs.Lexeme.{lexeme};
+ghost use Rattle.tlb_syntax.specs.Placed.{IsSpelled};
+ghost use Rattle.syntax_check.specs.Machine as spec;
+ghost use Rattle.syntax_check.specs.Step.{bounds_of, state, below, outcome};
+
+use crate::machine::{Cause, Mode, Side, Spot};
+use crate::step::{Machine, Move, begin_of, spend};
+use tlb_syntax::{Lexeme, Sign, has_tag_bits};
+
+// Whether it is the name `Type`.
+fn is_type(name: &[u8]) -> bool
+    ensures { result ≡ bytes_eq name.now (codes "Type") }
+{
+    name == b"Type".as_slice()
+}
+
+impl Machine {
+    fn starts(&self, next: Lexeme) -> Result<Move, Cause>
+        ensures { spec.step_mode (bounds_of self.now) (Mode.Start) self.now.levels (below self.now) (lexeme next.entry) ≡ outcome result (below self.now) }
+    {
+        match next {
+            Lexeme::Name(_) | Lexeme::Blank => Ok(self.stay(Mode::Headed)),
+            _ => Err(Cause::Syntax),
+        }
+    }
+
+    fn headed(&self, next: Lexeme) -> Result<Move, Cause>
+        requires { IsSpelled next }
+        ensures { spec.step_mode (bounds_of self.now) (Mode.Headed) self.now.levels (below self.now) (lexeme next.entry) ≡ outcome result (below self.now) }
+    {
+        match next {
+            Lexeme::BinaryTag(_) | Lexeme::HexTag(_) => {
+                if has_tag_bits(&next) {
+                    Ok(self.stay(Mode::Items(self.limits.items)))
+                } else {
+                    Err(Cause::Syntax)
+                }
+            }
+            _ => self.items(self.limits.items, next),
+        }
+    }
+
+    fn brace(&self, items: Option<u32>, next: Lexeme) -> Result<Move, Cause>
+        ensures { spec.step_mode (bounds_of self.now) (Mode.Brace items) self.now.levels (below self.now) (lexeme next.entry) ≡ outcome result (below self.now) }
+    {
+        match next {
+            Lexeme::Name(_) => Ok(self.stay(Mode::BraceName(items))),
+            _ => self.apply(Side::Left(items), false, next),
+        }
+    }
+
+    fn brace_name(&self, items: Option<u32>, next: Lexeme) -> Result<Move, Cause>
+        ensures { spec.step_mode (bounds_of self.now) (Mode.BraceName items) self.now.levels (below self.now) (lexeme next.entry) ≡ outcome result (below self.now) }
+    {
+        match next {
+            Lexeme::Sign(Sign::Colon) => Ok(self.stay(Mode::Kind(items))),
+            _ => self.applied(Side::Left(items), false, next),
+        }
+    }
+
+    fn kind(&self, items: Option<u32>, next: Lexeme) -> Result<Move, Cause>
+        ensures { spec.step_mode (bounds_of self.now) (Mode.Kind items) self.now.levels (below self.now) (lexeme next.entry) ≡ outcome result (below self.now) }
+    {
+        match next {
+            Lexeme::Sign(Sign::Hash) => Ok(self.stay(Mode::KindEnd(items))),
+            Lexeme::Name(name) => {
+                if is_type(name) {
+                    Ok(self.stay(Mode::KindEnd(items)))
+                } else {
+                    Err(Cause::Syntax)
+                }
+            }
+            _ => Err(Cause::Syntax),
+        }
+    }
+
+    fn kind_end(&self, items: Option<u32>, next: Lexeme) -> Result<Move, Cause>
+        ensures { spec.step_mode (bounds_of self.now) (Mode.KindEnd items) self.now.levels (below self.now) (lexeme next.entry) ≡ outcome result (below self.now) }
+    {
+        match next {
+            Lexeme::Sign(Sign::CloseBrace) => Ok(self.stay(Mode::Items(items))),
+            _ => Err(Cause::Syntax),
+        }
+    }
+
+    fn item_name(&self, items: Option<u32>, next: Lexeme) -> Result<Move, Cause>
+        ensures { spec.step_mode (bounds_of self.now) (Mode.ItemName items) self.now.levels (below self.now) (lexeme next.entry) ≡ outcome result (below self.now) }
+    {
+        match next {
+            Lexeme::Sign(Sign::Colon) => {
+                Ok(self.stay(Mode::Term(Spot::Field(items), self.levels)))
+            }
+            _ => self.typed(items, next),
+        }
+    }
+
+    fn item_blank(&self, items: Option<u32>, next: Lexeme) -> Result<Move, Cause>
+        ensures { spec.step_mode (bounds_of self.now) (Mode.ItemBlank items) self.now.levels (below self.now) (lexeme next.entry) ≡ outcome result (below self.now) }
+    {
+        match next {
+            Lexeme::Sign(Sign::Colon) => {
+                Ok(self.stay(Mode::Term(Spot::Field(items), self.levels)))
+            }
+            _ => Err(Cause::Syntax),
+        }
+    }
+
+    fn bit(&self, items: Option<u32>, next: Lexeme) -> Result<Move, Cause>
+        ensures { spec.step_mode (bounds_of self.now) (Mode.Bit items) self.now.levels (below self.now) (lexeme next.entry) ≡ outcome result (below self.now) }
+    {
+        match next {
+            Lexeme::Number(Some(place)) => {
+                if place <= 31 {
+                    Ok(self.stay(Mode::BitEnd(items)))
+                } else {
+                    Err(Cause::Syntax)
+                }
+            }
+            _ => Err(Cause::Syntax),
+        }
+    }
+
+    fn bit_end(&self, items: Option<u32>, next: Lexeme) -> Result<Move, Cause>
+        ensures { spec.step_mode (bounds_of self.now) (Mode.BitEnd items) self.now.levels (below self.now) (lexeme next.entry) ≡ outcome result (below self.now) }
+    {
+        match next {
+            Lexeme::Sign(Sign::Question) => {
+                Ok(self.stay(Mode::Term(Spot::Guarded(items), self.levels)))
+            }
+            _ => Err(Cause::Syntax),
+        }
+    }
+
+    fn named_result(&self, next: Lexeme) -> Result<Move, Cause>
+        ensures { spec.step_mode (bounds_of self.now) (Mode.Result) self.now.levels (below self.now) (lexeme next.entry) ≡ outcome result (below self.now) }
+    {
+        match next {
+            Lexeme::Name(_) => Ok(self.stay(Mode::Params(self.limits.params))),
+            _ => Err(Cause::Syntax),
+        }
+    }
+
+    fn params(&self, params: Option<u32>, next: Lexeme) -> Result<Move, Cause>
+        ensures { spec.step_mode (bounds_of self.now) (Mode.Params params) self.now.levels (below self.now) (lexeme next.entry) ≡ outcome result (below self.now) }
+    {
+        match begin_of(next) {
+            Some(begin) => {
+                let params = spend(params, Cause::TooManyParams)?;
+                self.begins(begin, Spot::Param(params), self.levels)
+            }
+            None => self.ends_params(next),
+        }
+    }
+
+    fn ends_params(&self, next: Lexeme) -> Result<Move, Cause>
+        ensures { spec.params (bounds_of self.now) None None self.now.levels (below self.now) (lexeme next.entry) ≡ outcome result (below self.now) }
+    {
+        match next {
+            Lexeme::Sign(Sign::Semicolon) => Ok(self.stay(Mode::Start)),
+            _ => Err(Cause::Syntax),
+        }
+    }
+
+    /// Where the next lexeme leads.
+    pub(crate) fn step(&self, next: Lexeme) -> Result<Move, Cause>
+        requires { IsSpelled next }
+        ensures { spec.step (bounds_of self.now) (state self.now) (lexeme next.entry) ≡ outcome result (below self.now) }
+    {
+        match self.mode {
+            Mode::Start => self.starts(next),
+            Mode::Headed => self.headed(next),
+            Mode::Items(items) => self.items(items, next),
+            Mode::Brace(items) => self.brace(items, next),
+            Mode::BraceName(items) => self.brace_name(items, next),
+            Mode::Kind(items) => self.kind(items, next),
+            Mode::KindEnd(items) => self.kind_end(items, next),
+            Mode::ItemName(items) => self.item_name(items, next),
+            Mode::ItemBlank(items) => self.item_blank(items, next),
+            Mode::Term(spot, inner) => self.term(begin_of(next), spot, inner),
+            Mode::Apply(side, starred) => self.apply(side, starred, next),
+            Mode::Applied(side, starred) => self.applied(side, starred, next),
+            Mode::Operated(side, starred) => self.operated(side, starred, next),
+            Mode::Typed(items) => self.typed(items, next),
+            Mode::Bit(items) => self.bit(items, next),
+            Mode::BitEnd(items) => self.bit_end(items, next),
+            Mode::Result => self.named_result(next),
+            Mode::Params(params) => self.params(params, next),
+        }
+    }
+}
