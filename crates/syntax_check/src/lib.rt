@@ -13,6 +13,8 @@ mod judge;
 mod machine;
 mod modes;
 mod step;
+#[cfg(test)]
+mod tests;
 
 pub use judge::Refusal;
 pub use machine::Cause;
