@@ -1,3 +1,5 @@
 pub mod Forgetting
 pub mod Phase
 pub mod Steps
+pub mod Given
+pub mod Runs
