@@ -3,3 +3,5 @@ pub mod Phase
 pub mod Steps
 pub mod Given
 pub mod Runs
+pub mod Fronts
+pub mod Firsts
