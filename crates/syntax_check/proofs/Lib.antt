@@ -5,3 +5,5 @@ pub mod Given
 pub mod Runs
 pub mod Fronts
 pub mod Firsts
+pub mod Judged
+pub mod Words
