@@ -7,3 +7,5 @@ pub mod Fronts
 pub mod Firsts
 pub mod Judged
 pub mod Words
+pub mod Counts
+pub mod Named
