@@ -9,3 +9,4 @@ pub mod Judged
 pub mod Words
 pub mod Counts
 pub mod Named
+pub mod Few

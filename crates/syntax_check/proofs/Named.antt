@@ -84,37 +84,21 @@ pub named_form : (st : State) (t : Lexeme) → named st (form_of t) ≡ named st
 named_form st t = ap (λ z. if is_result st then z else []) (spelled_form t)
 
 -- the judge's list of names
+none_more : (b : Bool) (names : List (List ℕ)) → names ≡ names ++ (if b then [] else [])
+none_more true names = sym (append-nil names)
+none_more false names = sym (append-nil names)
+
+one_more : (b : Bool) (names : List (List ℕ)) (x : List ℕ) → (if b then names ++ x ∷ [] else names) ≡ names ++ (if b then x ∷ [] else [])
+one_more true names x = refl
+one_more false names x = sym (append-nil names)
+
 pub names_with_is : (a : Stand) (t : Lexeme) → names_with a t ≡ a.names ++ named a.state t
-names_with_is a (word x) = go (is_result a.state)
-  where
-    go : (b : Bool) → (if b then a.names ++ x ∷ [] else a.names) ≡ a.names ++ (if b then x ∷ [] else [])
-    go true = refl
-    go false = sym (append-nil a.names)
-names_with_is a blank = none (is_result a.state)
-  where
-    none : (b : Bool) → a.names ≡ a.names ++ (if b then [] else [])
-    none true = sym (append-nil a.names)
-    none false = sym (append-nil a.names)
-names_with_is a (number n) = none (is_result a.state)
-  where
-    none : (b : Bool) → a.names ≡ a.names ++ (if b then [] else [])
-    none true = sym (append-nil a.names)
-    none false = sym (append-nil a.names)
-names_with_is a (tag n) = none (is_result a.state)
-  where
-    none : (b : Bool) → a.names ≡ a.names ++ (if b then [] else [])
-    none true = sym (append-nil a.names)
-    none false = sym (append-nil a.names)
-names_with_is a (sign n) = none (is_result a.state)
-  where
-    none : (b : Bool) → a.names ≡ a.names ++ (if b then [] else [])
-    none true = sym (append-nil a.names)
-    none false = sym (append-nil a.names)
-names_with_is a other = none (is_result a.state)
-  where
-    none : (b : Bool) → a.names ≡ a.names ++ (if b then [] else [])
-    none true = sym (append-nil a.names)
-    none false = sym (append-nil a.names)
+names_with_is a (word x) = one_more (is_result a.state) a.names x
+names_with_is a blank = none_more (is_result a.state) a.names
+names_with_is a (number n) = none_more (is_result a.state) a.names
+names_with_is a (tag b) = none_more (is_result a.state) a.names
+names_with_is a (sign s) = none_more (is_result a.state) a.names
+names_with_is a other = none_more (is_result a.state) a.names
 
 -- ---- phases of a schema
 
