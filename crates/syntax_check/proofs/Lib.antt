@@ -10,3 +10,4 @@ pub mod Words
 pub mod Counts
 pub mod Named
 pub mod Few
+pub mod Going
