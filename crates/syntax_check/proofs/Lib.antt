@@ -11,3 +11,4 @@ pub mod Counts
 pub mod Named
 pub mod Few
 pub mod Going
+pub mod Schemas
