@@ -14,8 +14,8 @@ use Rattle.syntax_check.proofs.Forgetting.{Switches, every, without, bounds_with
 use Rattle.syntax_check.proofs.Phase.{Phase, between, before, behind, in_word, broken, phase_of, Turn}
 use Rattle.syntax_check.proofs.Steps.{IsOk, IsLimit}
 use Rattle.syntax_check.proofs.Given.{spelled, named, results, schema_said, schema_results}
-use Rattle.syntax_check.proofs.Runs.{err_one, clash, run_more, step_ok, no_constructors, Sound, sound_run}
-use Rattle.syntax_check.proofs.Counts.{equal_number, types_of, FewNames, few_types}
+use Rattle.syntax_check.proofs.Runs.{err_one, clash, run_more, step_ok, step_syntax, no_constructors, Sound, sound_run}
+use Rattle.syntax_check.proofs.Counts.{equal_number, number_equal, types_of, FewNames, few_types}
 use Rattle.syntax_check.proofs.Named.{result_without, start_without, named_without, names_with_is, results_without, in_schema, schema_turn, before_turn, naming_turn, behind_turn, three, between_start, start_between, result_before, not_at_start, not_at_result, start_goes, start_stops, result_goes, at_result}
 use Rattle.syntax_check.proofs.Fronts.{runs_without, end_is}
 use Rattle.syntax_check.proofs.Firsts.{Plain, below_or, below_or_same, plain_later, plain_here, plain_first, end_first, no_limit}
@@ -266,3 +266,212 @@ past_right (t ∷ ts) ls front st place begun names why met g ph m =
         steps (Err TooManyConstructors) h = absurd (no_constructors unbounded st t h)
         steps (Err TooManyFields) h = absurd (no_limit schemas front st t TooManyFields g.taken tt h)
         steps (Err TooManyParams) h = absurd (no_limit schemas front st t TooManyParams g.taken tt h)
+
+-- ---- within the limits
+
+sound_schema : (front : List Lexeme) (st : State) → run standard (schema_start standard) front ≡ Ok st → Sound standard st
+sound_schema front st e = sound_run standard front (schema_start standard) st e (record { phase = refl; levels = refl })
+
+-- the names of the types are those that the machine read
+written_few : (ls : List Lexeme) (st : State) (place begun : ℕ) (names : List (List ℕ)) → run standard (schema_start standard) ls ≡ Ok st → Going ls ls [] (without every st) place begun names → is_schema_end st ≡ true →
+  (s : SchemaView) × Declarations standard ls s × HasFew s
+written_few ls st place begun names e g ends =
+    let w = schema_said standard ls st e ends in
+    let same = g.all_names ∙ results_without every standard ls (schema_start standard) st e ∙ schema_results standard ls w.0 w.1 in
+    let few : FewNames names = record { all = omega (arith, g.few.all); of_one = g.few.of_one } in
+    (w.0, w.1, few_types w.0 (subst FewNames same few))
+
+schema_right : (rest ls front : List Lexeme) (st : State) (place begun : ℕ) (names : List (List ℕ)) → run standard (schema_start standard) front ≡ Ok st → Going ls front rest (without every st) place begun names →
+  IsRight ls (go is_schema_end (within_limits st place begun names) rest)
+schema_right [] ls front st place begun names e g = ends (is_schema_end st) refl
+  where
+    same : front ≡ ls
+    same = sym (g.whole ∙ append-nil front)
+
+    e_all : run standard (schema_start standard) ls ≡ Ok st
+    e_all = let P : List Lexeme → Type 0 = λ z. run standard (schema_start standard) z ≡ Ok st in subst P same e
+
+    g_all : Going ls ls [] (without every st) place begun names
+    g_all = let P : List Lexeme → Type 0 = λ z. Going ls z [] (without every st) place begun names in subst P same g
+
+    pick : Bool → Verdict
+    pick b = if b then None else Some (Syntax, place)
+
+    ends : (b : Bool) → is_schema_end st ≡ b → IsRight ls (finish is_schema_end (within_limits st place begun names))
+    ends true h = let P : Verdict → Type 0 = IsRight ls in subst P (sym (ap pick h)) (written_few ls st place begun names e_all g_all h)
+    ends false h =
+        let P : Verdict → Type 0 = IsRight ls in
+        subst P (sym (ap pick h)) (met_first ls syntax place (inr (end_is schemas standard ls st place e_all g_all.size h)) (end_first schemas ls st place e_all g_all.size) (λ q later s d. absurd (none_at_end g later s)))
+schema_right (t ∷ ts) ls front st place begun names e g =
+    cases (is_start st) refl (is_result st) refl
+      (λ next h gn. schema_right ts ls (front ++ t ∷ []) next (place + 1) _ _ (run_more standard (schema_start standard) st next front t e h) gn)
+  where
+    a : Stand
+    a = within_limits st place begun names
+
+    ust : State
+    ust = without every st
+
+    P : Verdict → Type 0
+    P = IsRight ls
+
+    begun_next : ℕ
+    begun_next = if is_start st then place else begun
+
+    next_names : List (List ℕ)
+    next_names = names_with a t
+
+    same_names : names ++ named ust t ≡ next_names
+    same_names = ap (λ z. names ++ z) (named_without every st t) ∙ sym (names_with_is a t)
+
+    same_begun : (if is_start ust then place else begun) ≡ begun_next
+    same_begun = ap (λ b. if b then place else begun) (start_without every st)
+
+    free_step : (next : State) → step standard st t ≡ Ok next → step unbounded ust t ≡ Ok (without every next)
+    free_step next h = (step_ok standard st next t h).0 every
+
+    -- the machine goes on
+    goes_next : (next : State) → step unbounded ust t ≡ Ok next → Room (phase_of ust) (is_result ust) t names → Going ls (front ++ t ∷ []) ts next (place + 1) begun_next next_names
+    goes_next next h room =
+        let Q : List (List ℕ) → Type 0 = λ z. Going ls (front ++ t ∷ []) ts next (place + 1) begun_next z in
+        let R : ℕ → Type 0 = λ z. Going ls (front ++ t ∷ []) ts next (place + 1) z (names ++ named ust t) in
+        subst Q same_names (subst R same_begun (going_on t g next h room))
+
+    Further : Type 0
+    Further = (next : State) → step standard st t ≡ Ok next → Going ls (front ++ t ∷ []) ts (without every next) (place + 1) begun_next next_names → IsRight ls (go is_schema_end (onward a t standard None next) ts)
+
+    stopped : step standard st t ≡ Err Syntax → IsFirst (SchemaRefusal ls) syntax place
+    stopped h =
+        met_first ls syntax place (plain_here schemas ls front ts t st Syntax place e g.whole g.size h) (plain_first schemas ls front ts t st Syntax place e (sound_schema front st e) g.whole g.size h)
+          (λ q later s d. absurd (none_stopped t g Syntax later (unbounded_stops h) s))
+      where
+        unbounded_stops : step standard st t ≡ Err Syntax → step unbounded ust t ≡ Err Syntax
+        unbounded_stops h = (step_syntax standard st t h).0 every
+
+    -- ---- a limit is met
+
+    limit_first : (why : Cause) → step standard st t ≡ Err why → ((q later : ℕ) → Exceeds Declarations unbounded HasFew ls later → Declares ls q later → place < q) → IsFirst (SchemaRefusal ls) (cause_of why) place
+    limit_first why h many = met_first ls (cause_of why) place (plain_here schemas ls front ts t st why place e g.whole g.size h) (plain_first schemas ls front ts t st why place e (sound_schema front st e) g.whole g.size h) many
+
+    past_limit_right : (why : Cause) → IsLimit why → step standard st t ≡ Err why → (next : State) → step unbounded ust t ≡ Ok next → IsRight ls (go is_schema_end (past_limit next (place + 1) begun_next next_names (why, place)) ts)
+    past_limit_right why limit h next u = go_on_from (three (phase_of ust) g.phase)
+      where
+        inside : (is_start st ≡ false) × (is_result st ≡ false)
+        inside = limit_inside standard st t why limit h
+
+        not_start : is_start ust ≡ false
+        not_start = start_without every st ∙ inside.0
+
+        not_result : is_result ust ≡ false
+        not_result = result_without every st ∙ inside.1
+
+        g_next : Going ls (front ++ t ∷ []) ts next (place + 1) begun_next next_names
+        g_next = goes_next next u (room_inside ust t names not_start not_result)
+
+        turn : Turn (phase_of ust) (is_result ust) (phase_of next)
+        turn = next_turn t g next u
+
+        met : Met ls why place (place + 1) begun_next
+        met = record {
+          here = plain_here schemas ls front ts t st why place e g.whole g.size h;
+          first = plain_first schemas ls front ts t st why place e (sound_schema front st e) g.whole g.size h;
+          inside = let k = (g.inside not_start).before in let i : begun_next ≡ begun = ap (λ b. if b then place else begun) inside.0 in omega (arith, k, i);
+          passed = omega arith;
+        }
+
+        go_on_from : (phase_of ust ≡ between) ⊎ ((phase_of ust ≡ before) ⊎ (phase_of ust ≡ behind)) → IsRight ls (go is_schema_end (past_limit next (place + 1) begun_next next_names (why, place)) ts)
+        go_on_from (inl ph) = absurd (differ (is_start ust) (between_start ust ph) not_start)
+        go_on_from (inr (inl ph)) = past_right ts ls (front ++ t ∷ []) next (place + 1) begun_next next_names why place g_next (before_turn (phase_of ust) (phase_of next) (is_result ust) turn ph not_result) met
+        go_on_from (inr (inr ph)) =
+            subst P (sym (met_stands ts (front ++ t ∷ []) next (place + 1) begun_next next_names (why, place) g_next.taken g_next.phase (behind_turn (phase_of ust) (phase_of next) (is_result ust) turn ph)))
+              (limit_first why h (λ q later s d. behind_far (t ∷ ts) ls front ust place begun names q later g ph s d))
+
+    limits : (why : Cause) → IsLimit why → step standard st t ≡ Err why → IsRight ls (go_on (freed a t why (step unbounded (free st) t)) (λ next. go is_schema_end next ts))
+    limits why limit h = outcome (step unbounded (free st) t) (ap (λ z. step unbounded z t) (sym (free_is st)))
+      where
+        outcome : (o : Outcome) → step unbounded ust t ≡ o → IsRight ls (go_on (freed a t why o) (λ next. go is_schema_end next ts))
+        outcome (Ok next) u = past_limit_right why limit h next u
+        outcome (Err late) u = limit_first why h (λ q later s d. absurd (none_stopped t g late later u s))
+
+    -- ---- no name is judged here
+
+    steps : (o : Outcome) → step standard st t ≡ o → Room (phase_of ust) (is_result ust) t names → Further → IsRight ls (go_on (after_step a t o) (λ next. go is_schema_end next ts))
+    steps (Ok next) h room further = further next h (goes_next (without every next) (free_step next h) room)
+    steps (Err Syntax) h room further = stopped h
+    steps (Err DeepType) h room further = limits DeepType tt h
+    steps (Err TooManyConstructors) h room further = absurd (no_constructors standard st t h)
+    steps (Err TooManyFields) h room further = limits TooManyFields tt h
+    steps (Err TooManyParams) h room further = limits TooManyParams tt h
+
+    unnamed_right : judged_name a t ≡ None → Room (phase_of ust) (is_result ust) t names → Further → IsRight ls (go is_schema_end a (t ∷ ts))
+    unnamed_right none room further = subst P (sym (ap (λ z. go_on z (λ next. go is_schema_end next ts)) (advance_unjudged a t none))) (steps (step standard st t) refl room further)
+
+    -- where nothing goes on no name is judged
+    stopped_right : judged_name a t ≡ None → step standard st t ≡ Err Syntax → IsRight ls (go is_schema_end a (t ∷ ts))
+    stopped_right none h =
+        subst P (sym (ap (λ v. go_on (advance_past a t v) (λ next. go is_schema_end next ts)) none ∙ ap (λ o. go_on (after_step a t o) (λ next. go is_schema_end next ts)) h)) (stopped h)
+
+    -- ---- a declaration's name
+
+    at_head : is_start st ≡ true → (heads t ≡ true) ⊎ (heads t ≡ false) → (length names == 4096 ≡ true) ⊎ (length names == 4096 ≡ false) → Further → IsRight ls (go is_schema_end a (t ∷ ts))
+    at_head start (inr h) full further = stopped_right (judged_no_name a t h) (start_stops standard st t start h)
+    at_head start (inl h) (inl full) further =
+        subst P (sym (ap (λ v. go_on (advance_past a t v) (λ next. go is_schema_end next ts)) (judged_start a t start h ∙ ap (λ b. if b then Some (TooManyConstructors, place) else None) full)))
+          (many_first ls place place (too_many_in_all t g (start_without every st ∙ start) h (heads_form t h) (equal_number (length names) 4096 full)) (declares t g true (start_without every st ∙ start)) g.none_yet
+            (λ d q p.
+              let n = start_goes standard st t start h in
+              let k = plain_later schemas ls (front ++ t ∷ []) ts n.0 d q (run_more standard (schema_start standard) st n.0 front t e n.1) (one_further ls front ts t g.whole) p in
+              omega (arith, one_longer front t place g.size)))
+    at_head start (inl h) (inr few) further =
+        unnamed_right (judged_start a t start h ∙ ap (λ b. if b then Some (TooManyConstructors, place) else None) few)
+          (λ ph full. differ (length names == 4096) (number_equal (length names) 4096 full) few, λ f. absurd (differ (is_result st) (sym (result_without every st) ∙ f) (start_no_result st start)))
+          further
+
+    -- ---- a declaration's result
+
+    at_name : is_start st ≡ false → is_result st ≡ true → (x : List ℕ) → t ≡ word x → (count_of x names == 256 ≡ true) ⊎ (count_of x names == 256 ≡ false) → Further → IsRight ls (go is_schema_end a (t ∷ ts))
+    at_name later named x is (inl full) further =
+        subst P (sym (ap (λ v. go_on (advance_past a t v) (λ next. go is_schema_end next ts)) (judged_word a t x named is ∙ ap (λ b. if b then Some (TooManyConstructors, begun) else None) full)))
+          (many_first ls place begun (too_many_of_one t g x (result_without every st ∙ named) is (equal_number (count_of x names) 256 full)) (declares t g false (start_without every st ∙ later)) g.none_yet
+            (λ d q p.
+              let k = plain_later schemas ls front (t ∷ ts) st d q e g.whole p in
+              omega (arith, g.size, (g.inside (start_without every st ∙ later)).before)))
+    at_name later named x is (inr few) further =
+        unnamed_right (judged_word a t x named is ∙ ap (λ b. if b then Some (TooManyConstructors, begun) else None) few)
+          (λ ph. absurd (differ (is_start st) (sym (start_without every st) ∙ between_start ust ph) later), λ f y i full. few_of_it y (word_one x y (sym is ∙ i)) full)
+          further
+      where
+        word_one : (x y : List ℕ) → word x ≡ word y → x ≡ y
+        word_one x y e = cc
+
+        few_of_it : (y : List ℕ) → x ≡ y → count_of y names ≡ 256 → ⊥
+        few_of_it y s h = differ (count_of x names == 256) (number_equal (count_of x names) 256 (ap (λ z. count_of z names) s ∙ h)) few
+
+    cases : (b : Bool) → is_start st ≡ b → (c : Bool) → is_result st ≡ c → Further → IsRight ls (go is_schema_end a (t ∷ ts))
+    cases true start c named further = at_head start (true_or_false (heads t)) (true_or_false (length names == 4096)) further
+    cases false later false plain further =
+        unnamed_right (unjudged a t later plain) (room_inside ust t names (start_without every st ∙ later) (result_without every st ∙ plain)) further
+    cases false later true named further = a_word (at_result standard st t named)
+      where
+        a_word : ((x : List ℕ) × (t ≡ word x)) ⊎ ((step standard st t ≡ Err Syntax) × ((b : Stand) → is_start b.state ≡ false → judged_name b t ≡ None)) → IsRight ls (go is_schema_end a (t ∷ ts))
+        a_word (inl x) = at_name later named x.0 x.1 (true_or_false (count_of x.0 names == 256)) further
+        a_word (inr x) = stopped_right (x.1 a later) x.0
+
+-- before the first lexeme
+at_first : (ls : List Lexeme) → Going ls [] ls (without every (schema_start standard)) 0 0 []
+at_first ls = record {
+  whole = refl;
+  size = refl;
+  taken = refl;
+  phase = refl;
+  all_names = refl;
+  few = record { all = omega arith; of_one = λ x. omega arith };
+  inside = λ e. absurd (differ true refl e);
+  none_yet = λ later h s. absurd (omega arith);
+}
+
+pub schema_written : SchemaWritten
+schema_written ls e = let P : Verdict → Type 0 = IsRight ls in subst P e (schema_right ls ls [] (schema_start standard) 0 0 [] refl (at_first ls))
+
+pub schema_refused : SchemaIsRefused
+schema_refused ls c place e = let P : Verdict → Type 0 = IsRight ls in subst P e (schema_right ls ls [] (schema_start standard) 0 0 [] refl (at_first ls))
