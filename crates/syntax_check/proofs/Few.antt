@@ -106,7 +106,7 @@ quiet (t ∷ ts) st last e h w (inl ph) =
     (t ∷ q.0, q.1, run_join unbounded st k.0 q.1 (t ∷ []) q.0 k.1 q.2, q.3,
       results_join unbounded (t ∷ []) q.0 st k.0 k.1 ∙ ap (λ z. z ++ results unbounded k.0 q.0) (results_one unbounded st k.0 t s ∙ none) ∙ q.4)
 
-can_end : (front more : List Lexeme) (st last : State) → run unbounded (schema_start unbounded) front ≡ Ok st → run unbounded st more ≡ Ok last → is_schema_end last ≡ true →
+pub can_end : (front more : List Lexeme) (st last : State) → run unbounded (schema_start unbounded) front ≡ Ok st → run unbounded st more ≡ Ok last → is_schema_end last ≡ true →
   FewNames (results unbounded (schema_start unbounded) front ++ results unbounded st more) → CanGoOn Declarations unbounded HasFew front
 can_end front more st last e h ends few =
     let w = schema_said unbounded (front ++ more) last (run_join unbounded (schema_start unbounded) st last front more e h) ends in

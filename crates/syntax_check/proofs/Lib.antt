@@ -12,3 +12,4 @@ pub mod Named
 pub mod Few
 pub mod Going
 pub mod Schemas
+pub mod Laws
