@@ -94,7 +94,7 @@ differ_between ph a b = cc
 
 -- behind a result a declaration ends without a further one
 quiet : (more : List Lexeme) (st last : State) → run unbounded st more ≡ Ok last → is_schema_end last ≡ true → in_schema (phase_of st) ≡ true → (phase_of st ≡ behind) ⊎ (phase_of st ≡ between) →
-  (rest : List Lexeme) × (done : State) × (run unbounded st rest ≡ Ok done) × (is_schema_end done ≡ true) × (results unbounded st rest ≡ [])
+    (rest : List Lexeme) × (done : State) × (run unbounded st rest ≡ Ok done) × (is_schema_end done ≡ true) × (results unbounded st rest ≡ [])
 quiet [] st last e h w ph = ([], st, refl, ap is_schema_end (ok_one st last e) ∙ h, refl)
 quiet (t ∷ ts) st last e h w (inr ph) = ([], st, refl, sym (start_is_end st) ∙ between_start st ph, refl)
 quiet (t ∷ ts) st last e h w (inl ph) =
@@ -102,19 +102,23 @@ quiet (t ∷ ts) st last e h w (inl ph) =
     let s = one_run unbounded st k.0 t k.1 in
     let turn = (step_ok unbounded st k.0 t s).2.turn in
     let q = quiet ts k.0 last k.2 h (schema_turn (phase_of st) (phase_of k.0) (is_result st) turn w) (behind_turn (phase_of st) (phase_of k.0) (is_result st) turn ph) in
-    let none : named st t ≡ [] = ap (λ z. if z then spelled t else []) (not_at_result st w (differ_before (phase_of st) ph)) in
-    (t ∷ q.0, q.1, run_join unbounded st k.0 q.1 (t ∷ []) q.0 k.1 q.2, q.3,
-      results_join unbounded (t ∷ []) q.0 st k.0 k.1 ∙ ap (λ z. z ++ results unbounded k.0 q.0) (results_one unbounded st k.0 t s ∙ none) ∙ q.4)
+    let none : named st t ≡ [] = ap (λ z. if z then spelled t else []) (not_at_result st w (differ_before (phase_of st) ph)) in (
+      t ∷ q.0,
+      q.1,
+      run_join unbounded st k.0 q.1 (t ∷ []) q.0 k.1 q.2,
+      q.3,
+      results_join unbounded (t ∷ []) q.0 st k.0 k.1 ∙ ap (λ z. z ++ results unbounded k.0 q.0) (results_one unbounded st k.0 t s ∙ none) ∙ q.4,
+    )
 
 pub can_end : (front more : List Lexeme) (st last : State) → run unbounded (schema_start unbounded) front ≡ Ok st → run unbounded st more ≡ Ok last → is_schema_end last ≡ true →
-  FewNames (results unbounded (schema_start unbounded) front ++ results unbounded st more) → CanGoOn Declarations unbounded HasFew front
+    FewNames (results unbounded (schema_start unbounded) front ++ results unbounded st more) → CanGoOn Declarations unbounded HasFew front
 can_end front more st last e h ends few =
     let w = schema_said unbounded (front ++ more) last (run_join unbounded (schema_start unbounded) st last front more e h) ends in
     let names = sym (schema_results unbounded (front ++ more) w.0 w.1) ∙ results_join unbounded front more (schema_start unbounded) st e in
     record { more = more; tree = w.0; kept = few_types w.0 (subst FewNames (sym names) few); written = w.1 }
 
 pub few_goes : (front : List Lexeme) (st : State) (names : List (List ℕ)) → run unbounded (schema_start unbounded) front ≡ Ok st → in_schema (phase_of st) ≡ true → names ≡ results unbounded (schema_start unbounded) front → Few (phase_of st) names →
-  CanGoOn Declarations unbounded HasFew front
+    CanGoOn Declarations unbounded HasFew front
 few_goes front st names e w same few = go (three (phase_of st) w)
   where
     all_names : List (List ℕ)
@@ -139,7 +143,7 @@ few_goes front st names e w same few = go (three (phase_of st) w)
     })
       where
         each : (x : List ℕ) → ((x ≡ fresh all_names) × (count_of x (all_names ++ fresh all_names ∷ []) ≡ count_of (fresh all_names) all_names + 1)) ⊎ (count_of x (all_names ++ fresh all_names ∷ []) ≡ count_of x all_names) →
-          count_of x (all_names ++ fresh all_names ∷ []) ≤ 256
+            count_of x (all_names ++ fresh all_names ∷ []) ≤ 256
         each x (inl h) = omega (arith, h.1, count_fresh all_names)
         each x (inr h) = omega (arith, h, few_all.of_one x)
 
@@ -157,12 +161,14 @@ few_goes front st names e w same few = go (three (phase_of st) w)
 
 -- what a text with few constructors says of a front of it
 pub few_of : (front : List Lexeme) (st : State) → run unbounded (schema_start unbounded) front ≡ Ok st → CanGoOn Declarations unbounded HasFew front →
-  (rest : List (List ℕ)) × FewNames (results unbounded (schema_start unbounded) front ++ rest) × (phase_of st ≡ before → 1 ≤ length rest)
+    (rest : List (List ℕ)) × FewNames (results unbounded (schema_start unbounded) front ++ rest) × (phase_of st ≡ before → 1 ≤ length rest)
 few_of front st e c =
     let k = schema_runs unbounded (front ++ c.more) c.tree c.written in
     let w = run_front unbounded (schema_start unbounded) front c.more k.0 k.1 in
     let same = ok_one w.0 st (sym w.1 ∙ e) in
     let further : run unbounded st c.more ≡ Ok k.0 = let P : State → Type 0 = λ z. run unbounded z c.more ≡ Ok k.0 in subst P same w.2 in
-    let names = sym (schema_results unbounded (front ++ c.more) c.tree c.written) ∙ results_join unbounded front c.more (schema_start unbounded) st e in
-    (results unbounded st c.more, subst FewNames names (types_few c.tree c.kept),
-      λ ph. one_result unbounded c.more st k.0 further (schema_run unbounded (front ++ c.more) (schema_start unbounded) k.0 k.1 refl) k.2 ph)
+    let names = sym (schema_results unbounded (front ++ c.more) c.tree c.written) ∙ results_join unbounded front c.more (schema_start unbounded) st e in (
+      results unbounded st c.more,
+      subst FewNames names (types_few c.tree c.kept),
+      λ ph. one_result unbounded c.more st k.0 further (schema_run unbounded (front ++ c.more) (schema_start unbounded) k.0 k.1 refl) k.2 ph,
+    )

@@ -28,7 +28,6 @@ pub below_or_same : (a b : ℕ) → a ≤ b → (a < b) ⊎ (a ≡ b)
 below_or_same a b h = grind arith
 
 module _ {X : Type 0} {G : Grammar X} (l : Language G) where
-
   -- none stands before the machine's place
   pub plain_later : (ls front rest : List Lexeme) (st : State) (c : Reason) (place : ℕ) → run standard (l.start standard) front ≡ Ok st → ls ≡ front ++ rest → Plain G ls c place → length front ≤ place
   plain_later ls front rest st syntax place e whole h = syntax_later l standard ls front rest st place e whole h
@@ -55,7 +54,7 @@ module _ {X : Type 0} {G : Grammar X} (l : Language G) where
 
   -- there no other refusal comes before it
   before_it : (ls front later : List Lexeme) (t : Lexeme) (st : State) (why : Cause) (place : ℕ) (c : Reason) → run standard (l.start standard) front ≡ Ok st → Sound standard st → ls ≡ front ++ t ∷ later → length front ≡ place → step standard st t ≡ Err why →
-    (rank (cause_of why) ≤ rank c) ⊎ (Plain G ls c place → ⊥)
+      (rank (cause_of why) ≤ rank c) ⊎ (Plain G ls c place → ⊥)
   before_it ls front later t st Syntax place syntax e w whole size h = inl (omega arith)
   before_it ls front later t st Syntax place deep_type e w whole size h = inr (no_excess_here l but_levels standard ls front later t st place e whole size h)
   before_it ls front later t st Syntax place too_many_constructors e w whole size h = inr (λ z. z)
@@ -78,7 +77,7 @@ module _ {X : Type 0} {G : Grammar X} (l : Language G) where
   before_it ls front later t st TooManyParams place syntax e w whole size h = inl (omega arith)
 
   pub plain_first : (ls front later : List Lexeme) (t : Lexeme) (st : State) (why : Cause) (place : ℕ) → run standard (l.start standard) front ≡ Ok st → Sound standard st → ls ≡ front ++ t ∷ later → length front ≡ place → step standard st t ≡ Err why →
-    (c : Reason) (q : ℕ) → Plain G ls c q → ComesFirst place (cause_of why) q c
+      (c : Reason) (q : ℕ) → Plain G ls c q → ComesFirst place (cause_of why) q c
   plain_first ls front later t st why place e w whole size h c q p =
       go (below_or_same place q (let k = plain_later ls front (t ∷ later) st c q e whole p in omega arith)) (before_it ls front later t st why place c e w whole size h)
     where

@@ -34,7 +34,6 @@ abbrev pub but_params : Switches
 but_params = switches true true false
 
 module _ {X : Type 0} {G : Grammar X} (l : Language G) where
-
   pub runs_without : (f : Switches) (m : Bounds) (ls : List Lexeme) (st : State) → run m (l.start m) ls ≡ Ok st → run (bounds_without f m) (l.start (bounds_without f m)) ls ≡ Ok (without f st)
   runs_without f m ls st e =
       let P : State → Type 0 = λ z. run (bounds_without f m) z ls ≡ Ok (without f st) in
@@ -71,7 +70,7 @@ module _ {X : Type 0} {G : Grammar X} (l : Language G) where
 
   -- the lexeme at an earlier place goes on, with what is of its form
   earlier : (m : Bounds) (ls front rest : List Lexeme) (st : State) (place : ℕ) → run m (l.start m) front ≡ Ok st → ls ≡ front ++ rest → (sp : Splits ls place) → place < length front →
-    (mid next : State) × (run m (l.start m) sp.front ≡ Ok mid) × (step m mid sp.at ≡ Ok next)
+      (mid next : State) × (run m (l.start m) sp.front ≡ Ok mid) × (step m mid sp.at ≡ Ok next)
   earlier m ls front rest st place e whole sp h =
       let k = shorter sp.front front sp.later rest sp.at (sym sp.whole ∙ whole) (omega (arith, sp.size)) in
       let whole_front : front ≡ (sp.front ++ sp.at ∷ []) ++ k.0 = k.1 ∙ sym (append_assoc sp.front (sp.at ∷ []) k.0) in
@@ -121,7 +120,7 @@ module _ {X : Type 0} {G : Grammar X} (l : Language G) where
 
   -- an excess at that place, told of the machine's front
   excess_here : (m : Bounds) (P : X → Type 0) (ls front later : List Lexeme) (t : Lexeme) (place : ℕ) → ls ≡ front ++ t ∷ later → length front ≡ place → Exceeds G m P ls place →
-    CanGoOn G unbounded IsAny (ended front (form_of t)) × (CanGoOn G m P (ended front (form_of t)) → ⊥)
+      CanGoOn G unbounded IsAny (ended front (form_of t)) × (CanGoOn G m P (ended front (form_of t)) → ⊥)
   excess_here m P ls front later t place whole size s =
       let k = here ls front later t place whole size s.split in
       let A : List Lexeme → Lexeme → Type 0 = λ a b. CanGoOn G unbounded IsAny (ended a (form_of b)) × (CanGoOn G m P (ended a (form_of b)) → ⊥) in
@@ -131,7 +130,7 @@ module _ {X : Type 0} {G : Grammar X} (l : Language G) where
 
   -- where nothing goes on no limit is met
   pub no_excess_here : (f : Switches) (m : Bounds) (ls front later : List Lexeme) (t : Lexeme) (st : State) (place : ℕ) → run m (l.start m) front ≡ Ok st → ls ≡ front ++ t ∷ later → length front ≡ place → step m st t ≡ Err Syntax →
-    Exceeds G (bounds_without f m) IsAny ls place → ⊥
+      Exceeds G (bounds_without f m) IsAny ls place → ⊥
   no_excess_here f m ls front later t st place e whole size h s = go (step_syntax m st t h).1
     where
       k : CanGoOn G unbounded IsAny (ended front (form_of t)) × (CanGoOn G (bounds_without f m) IsAny (ended front (form_of t)) → ⊥)
@@ -143,7 +142,7 @@ module _ {X : Type 0} {G : Grammar X} (l : Language G) where
 
   -- nor where the step goes on without it
   pub no_excess_past : (f : Switches) (m : Bounds) (ls front later : List Lexeme) (t : Lexeme) (st : State) (place : ℕ) → run m (l.start m) front ≡ Ok st → ls ≡ front ++ t ∷ later → length front ≡ place → IsOk (step_by m st (form_of t) f) →
-    Exceeds G (bounds_without f m) IsAny ls place → ⊥
+      Exceeds G (bounds_without f m) IsAny ls place → ⊥
   no_excess_past f m ls front later t st place e whole size h s =
       (excess_here (bounds_without f m) IsAny ls front later t place whole size s).1 (formed_way f m front st h.0 (form_of t) e h.1)
 
@@ -155,7 +154,7 @@ module _ {X : Type 0} {G : Grammar X} (l : Language G) where
   lifts_every TooManyParams w = (refl, refl)
 
   pub excess_is : (f : Switches) (m : Bounds) (ls front later : List Lexeme) (t : Lexeme) (st : State) (why : Cause) (place : ℕ) → run m (l.start m) front ≡ Ok st → ls ≡ front ++ t ∷ later → length front ≡ place → IsLimit why → Keeps f why → step m st t ≡ Err why →
-    Exceeds G (bounds_without f m) IsAny ls place
+      Exceeds G (bounds_without f m) IsAny ls place
   excess_is f m ls front later t st why place e whole size limit keeps h =
       let k = step_limit m st t why limit h in
       let some = k.1 every (lifts_every why limit) in
@@ -178,9 +177,9 @@ module _ {X : Type 0} {G : Grammar X} (l : Language G) where
     size = size;
     so_far = goes_on unbounded ls (without every st) (runs_without every m ls st e);
     not_yet = λ tree w.
-      let k = l.runs unbounded ls tree w in
-      let same = ok_one (without every st) k.0 (sym (runs_without every m ls st e) ∙ k.1) in
-      differ (l.is_end st) (sym (l.end_without every st) ∙ ap l.is_end same ∙ k.2) h;
+        let k = l.runs unbounded ls tree w in
+        let same = ok_one (without every st) k.0 (sym (runs_without every m ls st e) ∙ k.1) in
+        differ (l.is_end st) (sym (l.end_without every st) ∙ ap l.is_end same ∙ k.2) h;
   }
     where
       differ : (b : Bool) → b ≡ true → b ≡ false → ⊥

@@ -39,7 +39,7 @@ pub word_said : (m : Bounds) (ls : List Lexeme) (st : State) → run m (word_sta
 word_said m ls st e h = ?
 
 pub schema_ending : (m : Bounds) (front : List Lexeme) (st : State) → run m (schema_start m) front ≡ Ok st → (x : List ℕ) →
-  (more : List Lexeme) × (last : State) × (run m st more ≡ Ok last) × (is_schema_end last ≡ true) × (results m st more ≡ [] ⊎ results m st more ≡ x ∷ [])
+    (more : List Lexeme) × (last : State) × (run m st more ≡ Ok last) × (is_schema_end last ≡ true) × (results m st more ≡ [] ⊎ results m st more ≡ x ∷ [])
 schema_ending m front st e x = ?
 
 pub word_ending : (m : Bounds) (front : List Lexeme) (st : State) → run m (word_start m) front ≡ Ok st → (more : List Lexeme) × (last : State) × (run m st more ≡ Ok last) × (is_word_end last ≡ true)

@@ -59,7 +59,6 @@ form_step front st next t e h =
 -- ---- one lexeme more
 
 module _ {ls front rest : List Lexeme} {st : State} {place begun : ℕ} {names : List (List ℕ)} (t : Lexeme) (g : Going ls front rest st place begun names) where
-
   pub next_taken : (next : State) → step unbounded st t ≡ Ok next → run unbounded (schema_start unbounded) (front ++ t ∷ []) ≡ Ok next
   next_taken next h = run_more unbounded (schema_start unbounded) st next front t g.taken h
 
@@ -96,7 +95,6 @@ same_form (sign s) = inl refl
 same_form other = inl refl
 
 module _ {ls front ts : List Lexeme} {st : State} {place begun : ℕ} {names : List (List ℕ)} (t : Lexeme) (g : Going ls front (t ∷ ts) st place begun names) where
-
   -- the declaration that the lexeme belongs to
   pub declares : (b : Bool) → is_start st ≡ b → Declares ls (if b then place else begun) place
   declares true e =
@@ -147,8 +145,8 @@ module _ {ls front ts : List Lexeme} {st : State} {place begun : ℕ} {names : L
   form_few next h room =
       let f = form_step front st next t g.taken h in
       few_goes (front ++ form_of t ∷ []) next (names ++ named st t) (run_more unbounded (schema_start unbounded) st next front (form_of t) g.taken f) (next_phase t g next h)
-        (ap (λ z. z ++ named st t) g.all_names ∙ ap (λ z. results unbounded (schema_start unbounded) front ++ z) (sym (named_form st t)) ∙ sym (results_more unbounded front (form_of t) (schema_start unbounded) st next g.taken f))
-        (next_few t g next h room)
+      (ap (λ z. z ++ named st t) g.all_names ∙ ap (λ z. results unbounded (schema_start unbounded) front ++ z) (sym (named_form st t)) ∙ sym (results_more unbounded front (form_of t) (schema_start unbounded) st next g.taken f))
+      (next_few t g next h room)
 
   pub going_on : (next : State) → step unbounded st t ≡ Ok next → Room (phase_of st) (is_result st) t names → Going ls (front ++ t ∷ []) ts next (place + 1) (if is_start st then place else begun) (names ++ named st t)
   going_on next h room = record {
@@ -232,25 +230,25 @@ module _ {ls front ts : List Lexeme} {st : State} {place begun : ℕ} {names : L
   too_many_in_all start head form full =
       let n = start_goes unbounded st t start head in
       exceeds_here n.0 n.1 form (λ c.
-        let k = few_with n.0 n.1 c in
-        let more = k.2 (opening_turn (phase_of st) (phase_of n.0) (is_result st) (next_turn t g n.0 n.1) (start_between st g.phase start)) in
-        absurd (omega (arith, full, more, k.1.all, length-append (names ++ named st t) k.0, length-append names (named st t))))
+      let k = few_with n.0 n.1 c in
+      let more = k.2 (opening_turn (phase_of st) (phase_of n.0) (is_result st) (next_turn t g n.0 n.1) (start_between st g.phase start)) in
+      absurd (omega (arith, full, more, k.1.all, length-append (names ++ named st t) k.0, length-append names (named st t))))
 
   pub too_many_of_one : (x : List ℕ) → is_result st ≡ true → t ≡ word x → count_of x names ≡ 256 → Exceeds Declarations unbounded HasFew ls place
   too_many_of_one x result is full =
       let P : Lexeme → Type 0 = λ z. IsOk (step unbounded st z) in
       let n = subst P (sym is) (result_goes unbounded st x result) in
       exceeds_here n.0 n.1 (ap form_of is ∙ sym is) (λ c.
-        let k = few_with n.0 n.1 c in
-        let one : named st t ≡ x ∷ [] = ap (λ z. if z then spelled t else []) result ∙ ap spelled is in
-        let counted : count_of x (named st t) ≡ 1 = ap (λ z. count_of x z) one ∙ count_itself x in
-        absurd (omega (arith, full, counted, k.1.of_one x, count_append x (names ++ named st t) k.0, count_append x names (named st t))))
+      let k = few_with n.0 n.1 c in
+      let one : named st t ≡ x ∷ [] = ap (λ z. if z then spelled t else []) result ∙ ap spelled is in
+      let counted : count_of x (named st t) ≡ 1 = ap (λ z. count_of x z) one ∙ count_itself x in
+      absurd (omega (arith, full, counted, k.1.of_one x, count_append x (names ++ named st t) k.0, count_append x names (named st t))))
 
 -- ---- behind a result
 
 -- a declaration that is one too many begins only later
 pub behind_far : (rest ls front : List Lexeme) (st : State) (place begun : ℕ) (names : List (List ℕ)) (q later : ℕ) → Going ls front rest st place begun names → phase_of st ≡ behind →
-  Exceeds Declarations unbounded HasFew ls later → Declares ls q later → place < q
+    Exceeds Declarations unbounded HasFew ls later → Declares ls q later → place < q
 behind_far [] ls front st place begun names q later g ph s d =
     absurd (g.none_yet later (omega (arith, g.size, s.split.size, ap length g.whole, length-append front [], ap length s.split.whole, length-append s.split.front (s.split.at ∷ s.split.later))) s)
 behind_far (t ∷ ts) ls front st place begun names q later g ph s d =

@@ -81,8 +81,8 @@ finish_met may_end st place begun names met = either (may_end st)
 
 -- a step that fails answers the limit that was met
 pub failed_met : (st : State) (place begun : ℕ) (names : List (List ℕ)) (met : Cause × ℕ) (t : Lexeme) (o : Outcome) → ((why : Cause) → IsLimit why → o ≡ Err why → ⊥) → (o ≡ Err TooManyConstructors → ⊥) →
-  (further : Stand → Verdict) → ((next : State) → o ≡ Ok next → further (onward (past_limit st place begun names met) t unbounded (Some met) next) ≡ Some met) →
-  go_on (after_step (past_limit st place begun names met) t o) further ≡ Some met
+    (further : Stand → Verdict) → ((next : State) → o ≡ Ok next → further (onward (past_limit st place begun names met) t unbounded (Some met) next) ≡ Some met) →
+    go_on (after_step (past_limit st place begun names met) t o) further ≡ Some met
 failed_met st place begun names met t (Ok next) none many further h = h next refl
 failed_met st place begun names met t (Err Syntax) none many further h = refl
 failed_met st place begun names met t (Err DeepType) none many further h = absurd (none DeepType tt refl)

@@ -26,7 +26,6 @@ split_below ls place sp = omega (arith, sp.size, ap length sp.whole, length-appe
 -- ---- written within the bounds, and not refused
 
 module _ {X : Type 0} {G : Grammar X} (l : Language G) where
-
   pub not_plain : (ls : List Lexeme) (st : State) → run standard (l.start standard) ls ≡ Ok st → l.is_end st ≡ true → (c : Reason) (place : ℕ) → Plain G ls c place → ⊥
   not_plain ls st e ends syntax place (inl s) = no_stop l standard ls ls [] st place e (sym (append-nil ls)) s (split_below ls place s.split)
   not_plain ls st e ends syntax place (inr s) =

@@ -228,7 +228,7 @@ result_goes m (at mode lv below) x e = cc
 
 -- at a result stands a word, or nothing goes on and no name is judged
 pub at_result : (m : Bounds) (st : State) (t : Lexeme) → is_result st ≡ true →
-  ((x : List ℕ) × (t ≡ word x)) ⊎ ((step m st t ≡ Err Syntax) × ((a : Stand) → is_start a.state ≡ false → judged_name a t ≡ None))
+    ((x : List ℕ) × (t ≡ word x)) ⊎ ((step m st t ≡ Err Syntax) × ((a : Stand) → is_start a.state ≡ false → judged_name a t ≡ None))
 at_result m (at ResultName lv below) (word x) e = inl (x, refl)
 at_result m (at ResultName lv below) blank e = inr (refl, λ a h. counted_not a h)
 at_result m (at ResultName lv below) (number n) e = inr (refl, λ a h. refl)
@@ -252,7 +252,7 @@ one_result m (t ∷ ts) st last e h ends b =
     go k.0 s (is_result st) refl (λ f. one_result m ts k.0 last k.2 h ends f) (w ∙ parts) v
   where
     go : (mid : State) → step m st t ≡ Ok mid → (b : Bool) → is_result st ≡ b → (phase_of mid ≡ before → 1 ≤ length (results m mid ts)) →
-      length (results m st (t ∷ ts)) ≡ length (results m st (t ∷ [])) + length (results m mid ts) → length (results m st (t ∷ [])) ≡ length (named st t) → 1 ≤ length (results m st (t ∷ ts))
+        length (results m st (t ∷ ts)) ≡ length (results m st (t ∷ [])) + length (results m mid ts) → length (results m st (t ∷ [])) ≡ length (named st t) → 1 ≤ length (results m st (t ∷ ts))
     go mid s false f ih w v =
         let k = ih (before_turn (phase_of st) (phase_of mid) (is_result st) (step_ok m st mid t s).2.turn b f) in
         omega (arith, w, k)

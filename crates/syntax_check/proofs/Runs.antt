@@ -81,7 +81,7 @@ last_step m st mid next front t e h =
 -- ---- what one step says
 
 facts_ok : {F G : Switches → Outcome} {Q : State → Type 0} {P : Type 0} (o : Outcome) → Facts F G Q P o → (next : State) → o ≡ Ok next →
-  ((f : Switches) → F f ≡ Ok (without f next)) × ((f : Switches) → G f ≡ Ok (without f next)) × Q next
+    ((f : Switches) → F f ≡ Ok (without f next)) × ((f : Switches) → G f ≡ Ok (without f next)) × Q next
 facts_ok {F} {G} {Q} _ (goes {next = n} e g q) next h =
     let same = ok_one n next h in
     (λ f. e f ∙ ap (λ z. Ok (without f z)) same, λ f. g f ∙ ap (λ z. Ok (without f z)) same, subst Q same q)
@@ -89,13 +89,13 @@ facts_ok _ (stops e g) next h = cc
 facts_ok _ (exceeds limit k l p) next h = cc
 
 facts_syntax : {F G : Switches → Outcome} {Q : State → Type 0} {P : Type 0} (o : Outcome) → Facts F G Q P o → o ≡ Err Syntax →
-  ((f : Switches) → F f ≡ Err Syntax) × (((f : Switches) → G f ≡ Err Syntax) ⊎ ((f : Switches) → IsOk (G f)))
+    ((f : Switches) → F f ≡ Err Syntax) × (((f : Switches) → G f ≡ Err Syntax) ⊎ ((f : Switches) → IsOk (G f)))
 facts_syntax _ (goes e g q) h = cc
 facts_syntax _ (stops e g) h = (e, g)
 facts_syntax _ (exceeds {why = why} limit k l p) h = absurd (subst IsLimit (err_one why Syntax h) limit)
 
 facts_limit : {F G : Switches → Outcome} {Q : State → Type 0} {P : Type 0} (o : Outcome) → Facts F G Q P o → (why : Cause) → IsLimit why → o ≡ Err why →
-  ((f : Switches) → Keeps f why → G f ≡ Err why) × ((f : Switches) → Lifts f why → IsOk (G f)) × (why ≡ TooManyParams → P)
+    ((f : Switches) → Keeps f why → G f ≡ Err why) × ((f : Switches) → Lifts f why → IsOk (G f)) × (why ≡ TooManyParams → P)
 facts_limit _ (goes e g q) why w h = cc
 facts_limit _ (stops e g) why w h = absurd (subst IsLimit (sym (err_one Syntax why h)) w)
 facts_limit {F} {G} {Q} {P} _ (exceeds {why = met} limit k l p) why w h =
@@ -103,15 +103,15 @@ facts_limit {F} {G} {Q} {P} _ (exceeds {why = met} limit k l p) why w h =
     subst R (err_one met why h) (k, l, p)
 
 pub step_ok : (m : Bounds) (st next : State) (t : Lexeme) → step m st t ≡ Ok next →
-  ((f : Switches) → step_by m st t f ≡ Ok (without f next)) × ((f : Switches) → step_by m st (form_of t) f ≡ Ok (without f next)) × Turned st next
+    ((f : Switches) → step_by m st t f ≡ Ok (without f next)) × ((f : Switches) → step_by m st (form_of t) f ≡ Ok (without f next)) × Turned st next
 step_ok m st next t e = facts_ok (step m st t) (step_facts m st t) next e
 
 pub step_syntax : (m : Bounds) (st : State) (t : Lexeme) → step m st t ≡ Err Syntax →
-  ((f : Switches) → step_by m st t f ≡ Err Syntax) × (((f : Switches) → step_by m st (form_of t) f ≡ Err Syntax) ⊎ ((f : Switches) → IsOk (step_by m st (form_of t) f)))
+    ((f : Switches) → step_by m st t f ≡ Err Syntax) × (((f : Switches) → step_by m st (form_of t) f ≡ Err Syntax) ⊎ ((f : Switches) → IsOk (step_by m st (form_of t) f)))
 step_syntax m st t e = facts_syntax (step m st t) (step_facts m st t) e
 
 pub step_limit : (m : Bounds) (st : State) (t : Lexeme) (why : Cause) → IsLimit why → step m st t ≡ Err why →
-  ((f : Switches) → Keeps f why → step_by m st (form_of t) f ≡ Err why) × ((f : Switches) → Lifts f why → IsOk (step_by m st (form_of t) f)) × (why ≡ TooManyParams → ManyAt m st t)
+    ((f : Switches) → Keeps f why → step_by m st (form_of t) f ≡ Err why) × ((f : Switches) → Lifts f why → IsOk (step_by m st (form_of t) f)) × (why ≡ TooManyParams → ManyAt m st t)
 step_limit m st t why w e = facts_limit (step m st t) (step_facts m st t) why w e
 
 -- no step answers that there are too many constructors

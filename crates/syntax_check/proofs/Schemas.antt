@@ -27,8 +27,8 @@ use Rattle.syntax_check.proofs.Going.{Going, Inside, one_longer, one_further, ne
 
 -- a place before all other refusals
 each_later : (ls : List Lexeme) (c : Reason) (place : ℕ) → ((d : Reason) (q : ℕ) → Plain Declarations ls d q → ComesFirst place c q d) →
-  ((q later : ℕ) → Exceeds Declarations unbounded HasFew ls later → Declares ls q later → ComesFirst place c q too_many_constructors) →
-  (d : Reason) (q : ℕ) → SchemaRefusal ls d q → ComesFirst place c q d
+    ((q later : ℕ) → Exceeds Declarations unbounded HasFew ls later → Declares ls q later → ComesFirst place c q too_many_constructors) →
+    (d : Reason) (q : ℕ) → SchemaRefusal ls d q → ComesFirst place c q d
 each_later ls c place plain many syntax q r = plain syntax q r
 each_later ls c place plain many deep_type q r = plain deep_type q r
 each_later ls c place plain many too_many_constructors q r = many q r.0 r.1 r.2
@@ -44,7 +44,7 @@ of_plain ls too_many_params q h = h
 
 -- the first that is told by the grammar alone, where no declaration that begins up to it is one too many
 met_first : (ls : List Lexeme) (c : Reason) (place : ℕ) → Plain Declarations ls c place → ((d : Reason) (q : ℕ) → Plain Declarations ls d q → ComesFirst place c q d) →
-  ((q later : ℕ) → Exceeds Declarations unbounded HasFew ls later → Declares ls q later → place < q) → IsFirst (SchemaRefusal ls) c place
+    ((q later : ℕ) → Exceeds Declarations unbounded HasFew ls later → Declares ls q later → place < q) → IsFirst (SchemaRefusal ls) c place
 met_first ls c place here plain many = record {
   refused = of_plain ls c place here;
   first = each_later ls c place plain (λ q later s d. inl (many q later s d));
@@ -52,7 +52,7 @@ met_first ls c place here plain many = record {
 
 -- the first declaration that is one too many, where nothing is refused before it
 many_first : (ls : List Lexeme) (place begun : ℕ) → Exceeds Declarations unbounded HasFew ls place → Declares ls begun place → ((later : ℕ) → later < place → Exceeds Declarations unbounded HasFew ls later → ⊥) →
-  ((d : Reason) (q : ℕ) → Plain Declarations ls d q → begun < q) → IsFirst (SchemaRefusal ls) too_many_constructors begun
+    ((d : Reason) (q : ℕ) → Plain Declarations ls d q → begun < q) → IsFirst (SchemaRefusal ls) too_many_constructors begun
 many_first ls place begun s d none early = record {
   refused = (place, s, d);
   first = each_later ls too_many_constructors begun (λ c q p. inl (early c q p)) (λ q later s_2 d_2. go q later s_2 d_2 (below_or q begun) (below_or later place));
@@ -156,13 +156,13 @@ later_or_same place c q d (inr x) = omega (arith, x.0)
 
 -- behind the result the limit is answered, whatever follows
 met_stands : (rest front : List Lexeme) (st : State) (place begun : ℕ) (names : List (List ℕ)) (met : Cause × ℕ) → run unbounded (schema_start unbounded) front ≡ Ok st → in_schema (phase_of st) ≡ true → (phase_of st ≡ behind) ⊎ (phase_of st ≡ between) →
-  go is_schema_end (past_limit st place begun names met) rest ≡ Some met
+    go is_schema_end (past_limit st place begun names met) rest ≡ Some met
 met_stands [] front st place begun names met e w ph = finish_met is_schema_end st place begun names met
 met_stands (t ∷ ts) front st place begun names met e w (inl ph) =
     ap (λ z. go_on z (λ next. go is_schema_end next ts)) (advance_unjudged a t (unjudged a t (not_at_start st w (differ_1 (phase_of st) ph)) (not_at_result st w (differ_2 (phase_of st) ph))))
-      ∙ failed_met st place begun names met t (step unbounded st t) (λ why limit h. no_limit schemas front st t why e limit h) (no_constructors unbounded st t) (λ next. go is_schema_end next ts)
-          (λ next h. let turn = (step_ok unbounded st next t h).2.turn in
-            met_stands ts (front ++ t ∷ []) next _ _ _ met (run_more unbounded (schema_start unbounded) st next front t e h) (schema_turn (phase_of st) (phase_of next) (is_result st) turn w) (behind_turn (phase_of st) (phase_of next) (is_result st) turn ph))
+    ∙ failed_met st place begun names met t (step unbounded st t) (λ why limit h. no_limit schemas front st t why e limit h) (no_constructors unbounded st t) (λ next. go is_schema_end next ts)
+    (λ next h. let turn = (step_ok unbounded st next t h).2.turn in
+    met_stands ts (front ++ t ∷ []) next _ _ _ met (run_more unbounded (schema_start unbounded) st next front t e h) (schema_turn (phase_of st) (phase_of next) (is_result st) turn w) (behind_turn (phase_of st) (phase_of next) (is_result st) turn ph))
   where
     a : Stand
     a = past_limit st place begun names met
@@ -188,7 +188,7 @@ met_stands (t ∷ ts) front st place begun names met e w (inr ph) = head (true_o
 
 -- before the result the machine goes on to it
 past_right : (rest ls front : List Lexeme) (st : State) (place begun : ℕ) (names : List (List ℕ)) (why : Cause) (met : ℕ) → Going ls front rest st place begun names → phase_of st ≡ before → Met ls why met place begun →
-  IsRight ls (go is_schema_end (past_limit st place begun names (why, met)) rest)
+    IsRight ls (go is_schema_end (past_limit st place begun names (why, met)) rest)
 past_right [] ls front st place begun names why met g ph m =
     let P : Verdict → Type 0 = IsRight ls in
     subst P (sym (finish_met is_schema_end st place begun names (why, met))) (met_first ls (cause_of why) met m.here m.first (λ q later s d. absurd (none_at_end g later s)))
@@ -225,13 +225,13 @@ past_right (t ∷ ts) ls front st place begun names why met g ph m =
     result : (x : List ℕ) → is_result st ≡ true → t ≡ word x → (count_of x names == 256 ≡ true) ⊎ (count_of x names == 256 ≡ false) → IsRight ls (go is_schema_end a (t ∷ ts))
     result x e is (inl full) =
         subst P (sym (ap (λ v. go_on (advance_past a t v) (λ next. go is_schema_end next ts)) (judged_word a t x e is ∙ ap (λ b. if b then Some (TooManyConstructors, begun) else Some (why, met)) full)))
-          (many_first ls place begun (too_many_of_one t g x e is (equal_number (count_of x names) 256 full)) (declares t g false not_start) g.none_yet
-            (λ d q p. let k = later_or_same met (cause_of why) q d (m.first d q p) in omega (arith, m.inside)))
+        (many_first ls place begun (too_many_of_one t g x e is (equal_number (count_of x names) 256 full)) (declares t g false not_start) g.none_yet
+        (λ d q p. let k = later_or_same met (cause_of why) q d (m.first d q p) in omega (arith, m.inside)))
     result x e is (inr few) =
         subst P (sym (ap (λ v. go_on (advance_past a t v) (λ next. go is_schema_end next ts)) (judged_word a t x e is ∙ ap (λ b. if b then Some (TooManyConstructors, begun) else Some (why, met)) few)))
-          (met_first ls (cause_of why) met m.here m.first (λ q later s d.
-            let k = behind_far ts ls (front ++ t ∷ []) n.0 (place + 1) _ _ q later (going_on t g n.0 n.1 room) (naming_turn (phase_of st) (phase_of n.0) (is_result st) (next_turn t g n.0 n.1) ph e) s d in
-            omega (arith, m.passed)))
+        (met_first ls (cause_of why) met m.here m.first (λ q later s d.
+        let k = behind_far ts ls (front ++ t ∷ []) n.0 (place + 1) _ _ q later (going_on t g n.0 n.1 room) (naming_turn (phase_of st) (phase_of n.0) (is_result st) (next_turn t g n.0 n.1) ph e) s d in
+        omega (arith, m.passed)))
       where
         n : IsOk (step unbounded st t)
         n = let Q : Lexeme → Type 0 = λ z. IsOk (step unbounded st z) in subst Q (sym is) (result_goes unbounded st x e)
@@ -246,8 +246,8 @@ past_right (t ∷ ts) ls front st place begun names why met g ph m =
         room = (λ p. absurd (differ (is_start st) (between_start st p) not_start), λ f y i h. number_equal_no y (word_one x y (sym is ∙ i)) h)
 
     named_or_not : (b : Bool) → is_result st ≡ b →
-      ((next : State) → step unbounded st t ≡ Ok next → Going ls (front ++ t ∷ []) ts next (place + 1) begun_next (names_with a t) → phase_of next ≡ before → Met ls why met (place + 1) begun_next → IsRight ls (go is_schema_end (onward a t unbounded (Some (why, met)) next) ts)) →
-      IsRight ls (go is_schema_end a (t ∷ ts))
+        ((next : State) → step unbounded st t ≡ Ok next → Going ls (front ++ t ∷ []) ts next (place + 1) begun_next (names_with a t) → phase_of next ≡ before → Met ls why met (place + 1) begun_next → IsRight ls (go is_schema_end (onward a t unbounded (Some (why, met)) next) ts)) →
+        IsRight ls (go is_schema_end a (t ∷ ts))
     named_or_not true e ih = at_name (at_result unbounded st t e)
       where
         at_name : ((x : List ℕ) × (t ≡ word x)) ⊎ ((step unbounded st t ≡ Err Syntax) × ((b : Stand) → is_start b.state ≡ false → judged_name b t ≡ None)) → IsRight ls (go is_schema_end a (t ∷ ts))
@@ -274,7 +274,7 @@ sound_schema front st e = sound_run standard front (schema_start standard) st e 
 
 -- the names of the types are those that the machine read
 written_few : (ls : List Lexeme) (st : State) (place begun : ℕ) (names : List (List ℕ)) → run standard (schema_start standard) ls ≡ Ok st → Going ls ls [] (without every st) place begun names → is_schema_end st ≡ true →
-  (s : SchemaView) × Declarations standard ls s × HasFew s
+    (s : SchemaView) × Declarations standard ls s × HasFew s
 written_few ls st place begun names e g ends =
     let w = schema_said standard ls st e ends in
     let same = g.all_names ∙ results_without every standard ls (schema_start standard) st e ∙ schema_results standard ls w.0 w.1 in
@@ -282,7 +282,7 @@ written_few ls st place begun names e g ends =
     (w.0, w.1, few_types w.0 (subst FewNames same few))
 
 schema_right : (rest ls front : List Lexeme) (st : State) (place begun : ℕ) (names : List (List ℕ)) → run standard (schema_start standard) front ≡ Ok st → Going ls front rest (without every st) place begun names →
-  IsRight ls (go is_schema_end (within_limits st place begun names) rest)
+    IsRight ls (go is_schema_end (within_limits st place begun names) rest)
 schema_right [] ls front st place begun names e g = ends (is_schema_end st) refl
   where
     same : front ≡ ls
@@ -304,7 +304,7 @@ schema_right [] ls front st place begun names e g = ends (is_schema_end st) refl
         subst P (sym (ap pick h)) (met_first ls syntax place (inr (end_is schemas standard ls st place e_all g_all.size h)) (end_first schemas ls st place e_all g_all.size) (λ q later s d. absurd (none_at_end g later s)))
 schema_right (t ∷ ts) ls front st place begun names e g =
     cases (is_start st) refl (is_result st) refl
-      (λ next h gn. schema_right ts ls (front ++ t ∷ []) next (place + 1) _ _ (run_more standard (schema_start standard) st next front t e h) gn)
+    (λ next h gn. schema_right ts ls (front ++ t ∷ []) next (place + 1) _ _ (run_more standard (schema_start standard) st next front t e h) gn)
   where
     a : Stand
     a = within_limits st place begun names
@@ -343,7 +343,7 @@ schema_right (t ∷ ts) ls front st place begun names e g =
     stopped : step standard st t ≡ Err Syntax → IsFirst (SchemaRefusal ls) syntax place
     stopped h =
         met_first ls syntax place (plain_here schemas ls front ts t st Syntax place e g.whole g.size h) (plain_first schemas ls front ts t st Syntax place e (sound_schema front st e) g.whole g.size h)
-          (λ q later s d. absurd (none_stopped t g Syntax later (unbounded_stops h) s))
+        (λ q later s d. absurd (none_stopped t g Syntax later (unbounded_stops h) s))
       where
         unbounded_stops : step standard st t ≡ Err Syntax → step unbounded ust t ≡ Err Syntax
         unbounded_stops h = (step_syntax standard st t h).0 every
@@ -384,7 +384,7 @@ schema_right (t ∷ ts) ls front st place begun names e g =
         go_on_from (inr (inl ph)) = past_right ts ls (front ++ t ∷ []) next (place + 1) begun_next next_names why place g_next (before_turn (phase_of ust) (phase_of next) (is_result ust) turn ph not_result) met
         go_on_from (inr (inr ph)) =
             subst P (sym (met_stands ts (front ++ t ∷ []) next (place + 1) begun_next next_names (why, place) g_next.taken g_next.phase (behind_turn (phase_of ust) (phase_of next) (is_result ust) turn ph)))
-              (limit_first why h (λ q later s d. behind_far (t ∷ ts) ls front ust place begun names q later g ph s d))
+            (limit_first why h (λ q later s d. behind_far (t ∷ ts) ls front ust place begun names q later g ph s d))
 
     limits : (why : Cause) → IsLimit why → step standard st t ≡ Err why → IsRight ls (go_on (freed a t why (step unbounded (free st) t)) (λ next. go is_schema_end next ts))
     limits why limit h = outcome (step unbounded (free st) t) (ap (λ z. step unbounded z t) (sym (free_is st)))
@@ -417,29 +417,29 @@ schema_right (t ∷ ts) ls front st place begun names e g =
     at_head start (inr h) full further = stopped_right (judged_no_name a t h) (start_stops standard st t start h)
     at_head start (inl h) (inl full) further =
         subst P (sym (ap (λ v. go_on (advance_past a t v) (λ next. go is_schema_end next ts)) (judged_start a t start h ∙ ap (λ b. if b then Some (TooManyConstructors, place) else None) full)))
-          (many_first ls place place (too_many_in_all t g (start_without every st ∙ start) h (heads_form t h) (equal_number (length names) 4096 full)) (declares t g true (start_without every st ∙ start)) g.none_yet
-            (λ d q p.
-              let n = start_goes standard st t start h in
-              let k = plain_later schemas ls (front ++ t ∷ []) ts n.0 d q (run_more standard (schema_start standard) st n.0 front t e n.1) (one_further ls front ts t g.whole) p in
-              omega (arith, one_longer front t place g.size)))
+        (many_first ls place place (too_many_in_all t g (start_without every st ∙ start) h (heads_form t h) (equal_number (length names) 4096 full)) (declares t g true (start_without every st ∙ start)) g.none_yet
+        (λ d q p.
+        let n = start_goes standard st t start h in
+        let k = plain_later schemas ls (front ++ t ∷ []) ts n.0 d q (run_more standard (schema_start standard) st n.0 front t e n.1) (one_further ls front ts t g.whole) p in
+        omega (arith, one_longer front t place g.size)))
     at_head start (inl h) (inr few) further =
         unnamed_right (judged_start a t start h ∙ ap (λ b. if b then Some (TooManyConstructors, place) else None) few)
-          (λ ph full. differ (length names == 4096) (number_equal (length names) 4096 full) few, λ f. absurd (differ (is_result st) (sym (result_without every st) ∙ f) (start_no_result st start)))
-          further
+        (λ ph full. differ (length names == 4096) (number_equal (length names) 4096 full) few, λ f. absurd (differ (is_result st) (sym (result_without every st) ∙ f) (start_no_result st start)))
+        further
 
     -- ---- a declaration's result
 
     at_name : is_start st ≡ false → is_result st ≡ true → (x : List ℕ) → t ≡ word x → (count_of x names == 256 ≡ true) ⊎ (count_of x names == 256 ≡ false) → Further → IsRight ls (go is_schema_end a (t ∷ ts))
     at_name later named x is (inl full) further =
         subst P (sym (ap (λ v. go_on (advance_past a t v) (λ next. go is_schema_end next ts)) (judged_word a t x named is ∙ ap (λ b. if b then Some (TooManyConstructors, begun) else None) full)))
-          (many_first ls place begun (too_many_of_one t g x (result_without every st ∙ named) is (equal_number (count_of x names) 256 full)) (declares t g false (start_without every st ∙ later)) g.none_yet
-            (λ d q p.
-              let k = plain_later schemas ls front (t ∷ ts) st d q e g.whole p in
-              omega (arith, g.size, (g.inside (start_without every st ∙ later)).before)))
+        (many_first ls place begun (too_many_of_one t g x (result_without every st ∙ named) is (equal_number (count_of x names) 256 full)) (declares t g false (start_without every st ∙ later)) g.none_yet
+        (λ d q p.
+        let k = plain_later schemas ls front (t ∷ ts) st d q e g.whole p in
+        omega (arith, g.size, (g.inside (start_without every st ∙ later)).before)))
     at_name later named x is (inr few) further =
         unnamed_right (judged_word a t x named is ∙ ap (λ b. if b then Some (TooManyConstructors, begun) else None) few)
-          (λ ph. absurd (differ (is_start st) (sym (start_without every st) ∙ between_start ust ph) later), λ f y i full. few_of_it y (word_one x y (sym is ∙ i)) full)
-          further
+        (λ ph. absurd (differ (is_start st) (sym (start_without every st) ∙ between_start ust ph) later), λ f y i full. few_of_it y (word_one x y (sym is ∙ i)) full)
+        further
       where
         word_one : (x y : List ℕ) → word x ≡ word y → x ≡ y
         word_one x y e = cc

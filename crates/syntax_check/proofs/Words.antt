@@ -61,8 +61,8 @@ word_met : (rest front : List Lexeme) (st : State) (place begun : ℕ) (names : 
 word_met [] front st place begun names met e = finish_met is_word_end st place begun names met
 word_met (t ∷ ts) front st place begun names met e =
     ap (λ z. go_on z (λ next. go is_word_end next ts)) (advance_unjudged (past_limit st place begun names met) t (unjudged_word (past_limit st place begun names met) t (word_phase unbounded front st e)))
-      ∙ failed_met st place begun names met t (step unbounded st t) (λ why limit h. no_limit words front st t why e limit h) (no_constructors unbounded st t) (λ next. go is_word_end next ts)
-          (λ next h. word_met ts (front ++ t ∷ []) next _ _ _ met (run_more unbounded (word_start unbounded) st next front t e h))
+    ∙ failed_met st place begun names met t (step unbounded st t) (λ why limit h. no_limit words front st t why e limit h) (no_constructors unbounded st t) (λ next. go is_word_end next ts)
+    (λ next h. word_met ts (front ++ t ∷ []) next _ _ _ met (run_more unbounded (word_start unbounded) st next front t e h))
 
 -- ---- what is answered
 
@@ -101,7 +101,7 @@ no_many front t st why e h is = go ((step_limit standard st t TooManyParams tt (
         differ ph a b = cc
 
 first_here : (ls front later : List Lexeme) (t : Lexeme) (st : State) (why : Cause) (place : ℕ) → run standard (word_start standard) front ≡ Ok st → ls ≡ front ++ t ∷ later → length front ≡ place → step standard st t ≡ Err why →
-  IsFirst (WordRefusal ls) (cause_of why) place
+    IsFirst (WordRefusal ls) (cause_of why) place
 first_here ls front later t st why place e whole size h = record {
   refused = word_of_plain ls why place (no_many front t st why e h) (plain_here words ls front later t st why place e whole size h);
   first = λ c q r. plain_first words ls front later t st why place e (sound_word front st e) whole size h c q (plain_of_word ls c q r);
@@ -115,7 +115,7 @@ first_at_end ls st place e size h = record {
 
 -- where a limit is met it is answered
 met_here : (front : List Lexeme) (st : State) (place begun : ℕ) (names : List (List ℕ)) (t : Lexeme) (ts : List Lexeme) (why : Cause) (o : Outcome) → run standard (word_start standard) front ≡ Ok st → step unbounded (free st) t ≡ o →
-  go_on (freed (within_limits st place begun names) t why o) (λ next. go is_word_end next ts) ≡ Some (why, place)
+    go_on (freed (within_limits st place begun names) t why o) (λ next. go is_word_end next ts) ≡ Some (why, place)
 met_here front st place begun names t ts why (Ok next) e h =
     let k = runs_without words every standard front st e in
     let P : State → Type 0 = λ z. run unbounded (word_start unbounded) front ≡ Ok z in
@@ -123,7 +123,7 @@ met_here front st place begun names t ts why (Ok next) e h =
 met_here front st place begun names t ts why (Err late) e h = refl
 
 word_right : (rest ls front : List Lexeme) (st : State) (place begun : ℕ) (names : List (List ℕ)) → run standard (word_start standard) front ≡ Ok st → ls ≡ front ++ rest → length front ≡ place →
-  IsRight ls (go is_word_end (within_limits st place begun names) rest)
+    IsRight ls (go is_word_end (within_limits st place begun names) rest)
 word_right [] ls front st place begun names e whole size = ends (is_word_end st) refl
   where
     same : front ≡ ls
@@ -141,8 +141,8 @@ word_right [] ls front st place begun names e whole size = ends (is_word_end st)
 word_right (t ∷ ts) ls front st place begun names e whole size =
     let P : Result Stand (Cause × ℕ) → Type 0 = λ z. IsRight ls (go_on z (λ next. go is_word_end next ts)) in
     subst P (sym (advance_unjudged (within_limits st place begun names) t (unjudged_word (within_limits st place begun names) t (word_phase standard front st e))))
-      (steps (step standard st t) refl
-        (λ next h. word_right ts ls (front ++ t ∷ []) next _ _ _ (run_more standard (word_start standard) st next front t e h) (whole ∙ sym (append_assoc front (t ∷ []) ts)) (omega (arith, size, length-append front (t ∷ [])))))
+    (steps (step standard st t) refl
+    (λ next h. word_right ts ls (front ++ t ∷ []) next _ _ _ (run_more standard (word_start standard) st next front t e h) (whole ∙ sym (append_assoc front (t ∷ []) ts)) (omega (arith, size, length-append front (t ∷ [])))))
   where
     a : Stand
     a = within_limits st place begun names
