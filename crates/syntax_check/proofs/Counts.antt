@@ -36,14 +36,21 @@ pub count_cons : (x y : List ℕ) (ys : List (List ℕ)) → count_of x (y ∷ y
 count_cons x y ys = count_append x (y ∷ []) ys ∙ ap (λ n. n + count_of x ys) (count_one x y)
 
 -- one more name changes the count of no other
-pub count_more : (x y : List ℕ) (names : List (List ℕ)) → ((x ≡ y) × (count_of x (names ++ y ∷ []) ≡ count_of y names + 1)) ⊎ (count_of x (names ++ y ∷ []) ≡ count_of x names)
+pub count_more : (x y : List ℕ) (names : List (List ℕ))
+    → ((x ≡ y) × (count_of x (names ++ y ∷ []) ≡ count_of y names + 1))
+    ⊎ (count_of x (names ++ y ∷ []) ≡ count_of x names)
 count_more x y names = go (bytes_eq y x) refl
   where
-    go : (b : Bool) → bytes_eq y x ≡ b → ((x ≡ y) × (count_of x (names ++ y ∷ []) ≡ count_of y names + 1)) ⊎ (count_of x (names ++ y ∷ []) ≡ count_of x names)
+    go : (b : Bool) → bytes_eq y x ≡ b → ((x ≡ y) × (count_of x (names ++ y ∷ []) ≡ count_of y names + 1))
+        ⊎ (count_of x (names ++ y ∷ []) ≡ count_of x names)
     go true e =
         let same : x ≡ y = sym (same_name y x e) in
         let k : count_of x (y ∷ []) ≡ 1 = count_one x y ∙ ap one_if e in
-        inl (same, count_append x names (y ∷ []) ∙ ap (λ n. count_of x names + n) k ∙ ap (λ z. count_of z names + 1) same)
+        inl (
+          same,
+          count_append x names (y ∷ []) ∙ ap (λ n. count_of x names + n) k ∙ ap (λ z. count_of z names + 1)
+              same,
+        )
     go false e =
         let k : count_of x (y ∷ []) ≡ 0 = count_one x y ∙ ap one_if e in
         let s = count_append x names (y ∷ []) in
@@ -83,7 +90,9 @@ types_of s = map (λ (c : ConstructorView). c.result) s
 pub count_types : (s : SchemaView) (x : List ℕ) → count_of x (types_of s) ≡ constructors_of s x
 count_types [] x = refl
 count_types (c ∷ s) x =
-    count_cons x c.result (types_of s) ∙ ap (λ n. one_if (bytes_eq c.result x) + n) (count_types s x) ∙ sym (sum_by-append (λ (d : ConstructorView). cond (bytes_eq d.result x) 1 0) (c ∷ []) s ∙ ap (λ n. n + constructors_of s x) one)
+    count_cons x c.result (types_of s) ∙ ap (λ n. one_if (bytes_eq c.result x) + n) (count_types s x)
+    ∙ sym (sum_by-append (λ (d : ConstructorView). cond (bytes_eq d.result x) 1 0) (c ∷ []) s
+    ∙ ap (λ n. n + constructors_of s x) one)
   where
     one : 0 + one_if (bytes_eq c.result x) ≡ one_if (bytes_eq c.result x)
     one = omega arith

@@ -10,16 +10,30 @@ use Rattle.syntax_check.specs.declared.machine.Frame.{Frame}
 use Rattle.syntax_check.specs.Machine.{State, at, Outcome, and_then, step, run, is_schema_end}
 use Rattle.syntax_check.specs.Judge.{Verdict, Stand, is_start, is_result, count_of, counted, judged_result, judged_name, names_with, onward, freed, met_or, or_met, after_step, advance_past, advance, finish, go_on, go, free}
 use Rattle.syntax_check.proofs.Phase.{Phase, between, before, behind, in_word, broken, phase_of}
-use Rattle.syntax_check.proofs.Runs.{clash, sound}
+use Rattle.syntax_check.proofs.Stepwise.{clash, sound}
 use Rattle.syntax_check.proofs.Steps.{IsLimit}
 
 -- before any limit is met
 abbrev pub within_limits : State → ℕ → ℕ → List (List ℕ) → Stand
-within_limits st place begun names = record { bounds = standard; state = st; place = place; begun = begun; names = names; met = None }
+within_limits st place begun names = record {
+  bounds = standard;
+  state = st;
+  place = place;
+  begun = begun;
+  names = names;
+  met = None;
+}
 
 -- behind one
 abbrev pub past_limit : State → ℕ → ℕ → List (List ℕ) → Cause × ℕ → Stand
-past_limit st place begun names met = record { bounds = unbounded; state = st; place = place; begun = begun; names = names; met = Some met }
+past_limit st place begun names met = record {
+  bounds = unbounded;
+  state = st;
+  place = place;
+  begun = begun;
+  names = names;
+  met = Some met;
+}
 
 pub is_false : (b : Bool) → (b ≡ true → ⊥) → b ≡ false
 is_false true h = absurd (h refl)
@@ -49,15 +63,18 @@ phases_differ a b c never ok (inr e) = let k : sound a ≡ false = ap sound e in
     differ x e f = cc
 
 pub not_start : (st : State) → sound (phase_of st) ≡ true → (phase_of st ≡ between → ⊥) → is_start st ≡ false
-not_start st ok never = is_false (is_start st) (λ e. phases_differ (phase_of st) between between never ok (start_phase st e))
+not_start st ok never = is_false (is_start st) (λ e. phases_differ (phase_of st) between between never ok
+    (start_phase st e))
 
 pub not_result : (st : State) → sound (phase_of st) ≡ true → (phase_of st ≡ before → ⊥) → is_result st ≡ false
-not_result st ok never = is_false (is_result st) (λ e. phases_differ (phase_of st) before before never ok (result_phase st e))
+not_result st ok never = is_false (is_result st) (λ e. phases_differ (phase_of st) before before never ok
+    (result_phase st e))
 
 -- ---- names
 
 pub counted_not : (a : Stand) → is_start a.state ≡ false → counted a ≡ None
-counted_not a e = ap (λ b. if b then (if length a.names == 4096 then or_met a.met (TooManyConstructors, a.place) else a.met) else None) e
+counted_not a e = ap (λ b. if b then (if length a.names == 4096 then or_met a.met (TooManyConstructors, a.place) else
+    a.met) else None) e
 
 pub unjudged : (a : Stand) (t : Lexeme) → is_start a.state ≡ false → is_result a.state ≡ false → judged_name a t ≡ None
 unjudged a (word x) e f = ap (λ b. if b then judged_result a x else counted a) f ∙ counted_not a e
@@ -67,21 +84,26 @@ unjudged a (tag b) e f = refl
 unjudged a (sign s) e f = refl
 unjudged a other e f = refl
 
-pub advance_unjudged : (a : Stand) (t : Lexeme) → judged_name a t ≡ None → advance a t ≡ after_step a t (step a.bounds a.state t)
+pub advance_unjudged : (a : Stand) (t : Lexeme) → judged_name a t ≡ None → advance a t ≡ after_step a t
+    (step a.bounds a.state t)
 advance_unjudged a t e = ap (advance_past a t) e
 
 -- ---- behind a limit
 
-pub finish_met : (may_end : State → Bool) (st : State) (place begun : ℕ) (names : List (List ℕ)) (met : Cause × ℕ) → finish may_end (past_limit st place begun names met) ≡ Some met
+pub finish_met : (may_end : State → Bool) (st : State) (place begun : ℕ) (names : List (List ℕ)) (met : Cause × ℕ)
+    → finish may_end (past_limit st place begun names met) ≡ Some met
 finish_met may_end st place begun names met = either (may_end st)
   where
-    either : (b : Bool) → (if b then (past_limit st place begun names met).met else or_met (past_limit st place begun names met).met (Syntax, place)) ≡ Some met
+    either : (b : Bool) → (if b then (past_limit st place begun names met).met else or_met
+        (past_limit st place begun names met).met (Syntax, place)) ≡ Some met
     either true = refl
     either false = refl
 
 -- a step that fails answers the limit that was met
-pub failed_met : (st : State) (place begun : ℕ) (names : List (List ℕ)) (met : Cause × ℕ) (t : Lexeme) (o : Outcome) → ((why : Cause) → IsLimit why → o ≡ Err why → ⊥) → (o ≡ Err TooManyConstructors → ⊥) →
-    (further : Stand → Verdict) → ((next : State) → o ≡ Ok next → further (onward (past_limit st place begun names met) t unbounded (Some met) next) ≡ Some met) →
+pub failed_met : (st : State) (place begun : ℕ) (names : List (List ℕ)) (met : Cause × ℕ) (t : Lexeme) (o : Outcome)
+    → ((why : Cause) → IsLimit why → o ≡ Err why → ⊥) → (o ≡ Err TooManyConstructors → ⊥) →
+    (further : Stand → Verdict) → ((next : State) → o ≡ Ok next → further (onward (past_limit st place begun names met)
+    t unbounded (Some met) next) ≡ Some met) →
     go_on (after_step (past_limit st place begun names met) t o) further ≡ Some met
 failed_met st place begun names met t (Ok next) none many further h = h next refl
 failed_met st place begun names met t (Err Syntax) none many further h = refl

@@ -2,7 +2,7 @@ pub mod Forgetting
 pub mod Phase
 pub mod Steps
 pub mod Given
-pub mod Runs
+pub mod Stepwise
 pub mod Fronts
 pub mod Firsts
 pub mod Judged

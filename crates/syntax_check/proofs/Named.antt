@@ -20,25 +20,31 @@ use Rattle.syntax_check.proofs.Forgetting.{Switches, every, without, bounds_with
 use Rattle.syntax_check.proofs.Phase.{Phase, between, before, behind, in_word, broken, is_nil, only, side_phase, spot_phase, frames_phase, phase_of, Turn, opening, within, naming, further, closing, in_a_word, nowhere, Turned, Stays, stays_before, stays_behind, stays_in_word, stays_broken, side_stays, spot_stays, frames_stay}
 use Rattle.syntax_check.proofs.Steps.{IsOk}
 use Rattle.syntax_check.proofs.Given.{spelled, named, results, results_behind}
-use Rattle.syntax_check.proofs.Runs.{ok_one, clash, run_front, run_join, one_run, run_one, step_ok, sound}
+use Rattle.syntax_check.proofs.Stepwise.{ok_one, clash, run_front, run_join, one_run, run_one, step_ok, sound}
 use Rattle.syntax_check.proofs.Judged.{start_phase, result_phase, counted_not, is_false}
 
 -- ---- results
 
-pub results_join : (m : Bounds) (a b : List Lexeme) (st mid : State) → run m st a ≡ Ok mid → results m st (a ++ b) ≡ results m st a ++ results m mid b
+pub results_join : (m : Bounds) (a b : List Lexeme) (st mid : State) → run m st a ≡ Ok mid
+    → results m st (a ++ b) ≡ results m st a ++ results m mid b
 results_join m [] b st mid e = ap (λ z. results m z b) (ok_one st mid e)
 results_join m (t ∷ a) b st mid e =
     let k = run_front m st (t ∷ []) a mid e in
     let s = one_run m st k.0 t k.1 in
     let h = ap (λ o. named st t ++ results_behind o (λ next. results m next (a ++ b))) s in
     let g = ap (λ o. named st t ++ results_behind o (λ next. results m next a)) s in
-    h ∙ ap (λ z. named st t ++ z) (results_join m a b k.0 mid k.2) ∙ sym (append_assoc (named st t) (results m k.0 a) (results m mid b)) ∙ ap (λ z. z ++ results m mid b) (sym g)
+    h ∙ ap (λ z. named st t ++ z) (results_join m a b k.0 mid k.2) ∙ sym (append_assoc (named st t) (results m k.0 a)
+    (results m mid b)) ∙ ap (λ z. z ++ results m mid b) (sym g)
 
-pub results_one : (m : Bounds) (st next : State) (t : Lexeme) → step m st t ≡ Ok next → results m st (t ∷ []) ≡ named st t
-results_one m st next t e = ap (λ o. named st t ++ results_behind o (λ next. results m next [])) e ∙ append-nil (named st t)
+pub results_one : (m : Bounds) (st next : State) (t : Lexeme) → step m st t ≡ Ok next → results m st (t ∷ []) ≡ named
+    st t
+results_one m st next t e = ap (λ o. named st t ++ results_behind o (λ next. results m next [])) e
+    ∙ append-nil (named st t)
 
-pub results_more : (m : Bounds) (front : List Lexeme) (t : Lexeme) (st mid next : State) → run m st front ≡ Ok mid → step m mid t ≡ Ok next → results m st (front ++ t ∷ []) ≡ results m st front ++ named mid t
-results_more m front t st mid next e h = results_join m front (t ∷ []) st mid e ∙ ap (λ z. results m st front ++ z) (results_one m mid next t h)
+pub results_more : (m : Bounds) (front : List Lexeme) (t : Lexeme) (st mid next : State) → run m st front ≡ Ok mid
+    → step m mid t ≡ Ok next → results m st (front ++ t ∷ []) ≡ results m st front ++ named mid t
+results_more m front t st mid next e h = results_join m front (t ∷ []) st mid e ∙ ap (λ z. results m st front ++ z)
+    (results_one m mid next t h)
 
 -- ---- states without counts
 
@@ -61,7 +67,8 @@ start_is_end (at mode lv below) = refl
 pub named_without : (f : Switches) (st : State) (t : Lexeme) → named (without f st) t ≡ named st t
 named_without f st t = ap (λ b. if b then spelled t else []) (result_without f st)
 
-pub results_without : (f : Switches) (m : Bounds) (ls : List Lexeme) (st last : State) → run m st ls ≡ Ok last → results (bounds_without f m) (without f st) ls ≡ results m st ls
+pub results_without : (f : Switches) (m : Bounds) (ls : List Lexeme) (st last : State) → run m st ls ≡ Ok last
+    → results (bounds_without f m) (without f st) ls ≡ results m st ls
 results_without f m [] st last e = refl
 results_without f m (t ∷ ts) st last e =
     let k = run_front m st (t ∷ []) ts last e in
@@ -69,7 +76,8 @@ results_without f m (t ∷ ts) st last e =
     let w = (step_ok m st k.0 t s).0 f in
     let g = ap (λ o. named (without f st) t ++ results_behind o (λ next. results (bounds_without f m) next ts)) w in
     let h = ap (λ o. named st t ++ results_behind o (λ next. results m next ts)) s in
-    g ∙ ap (λ z. z ++ results (bounds_without f m) (without f k.0) ts) (named_without f st t) ∙ ap (λ z. named st t ++ z) (results_without f m ts k.0 last k.2) ∙ sym h
+    g ∙ ap (λ z. z ++ results (bounds_without f m) (without f k.0) ts) (named_without f st t)
+    ∙ ap (λ z. named st t ++ z) (results_without f m ts k.0 last k.2) ∙ sym h
 
 -- a lexeme of the same form spells the same
 pub spelled_form : (t : Lexeme) → spelled (form_of t) ≡ spelled t
@@ -88,7 +96,8 @@ none_more : (b : Bool) (names : List (List ℕ)) → names ≡ names ++ (if b th
 none_more true names = sym (append-nil names)
 none_more false names = sym (append-nil names)
 
-one_more : (b : Bool) (names : List (List ℕ)) (x : List ℕ) → (if b then names ++ x ∷ [] else names) ≡ names ++ (if b then x ∷ [] else [])
+one_more : (b : Bool) (names : List (List ℕ)) (x : List ℕ) → (if b then names ++ x ∷ [] else names) ≡ names ++
+    (if b then x ∷ [] else [])
 one_more true names x = refl
 one_more false names x = sym (append-nil names)
 
@@ -186,10 +195,14 @@ only_behind false e = cc
 pub between_start : (st : State) → phase_of st ≡ between → is_start st ≡ true
 between_start (at Start lv below) e = refl
 between_start (at Headed lv below) e = absurd (only_before (is_nil below) e)
-between_start (at (Term spot inner) lv below) e = absurd (not_between _ (spot_stays spot (is_nil below) (frames_phase below) (frames_stay below)) e)
-between_start (at (Apply p s) lv below) e = absurd (not_between _ (side_stays p (is_nil below) (frames_phase below) (frames_stay below)) e)
-between_start (at (Applied p s) lv below) e = absurd (not_between _ (side_stays p (is_nil below) (frames_phase below) (frames_stay below)) e)
-between_start (at (Operated p s) lv below) e = absurd (not_between _ (side_stays p (is_nil below) (frames_phase below) (frames_stay below)) e)
+between_start (at (Term spot inner) lv below) e = absurd
+    (not_between _ (spot_stays spot (is_nil below) (frames_phase below) (frames_stay below)) e)
+between_start (at (Apply p s) lv below) e = absurd (not_between _ (side_stays p (is_nil below) (frames_phase below)
+    (frames_stay below)) e)
+between_start (at (Applied p s) lv below) e = absurd (not_between _ (side_stays p (is_nil below) (frames_phase below)
+    (frames_stay below)) e)
+between_start (at (Operated p s) lv below) e = absurd (not_between _ (side_stays p (is_nil below) (frames_phase below)
+    (frames_stay below)) e)
 between_start (at ResultName lv below) e = absurd (only_before (is_nil below) e)
 between_start (at (Params k) lv below) e = absurd (only_behind (is_nil below) e)
 between_start (at mode lv below) e = absurd (not_between _ (frames_stay below) e)
@@ -216,7 +229,8 @@ start_goes m (at Start lv below) blank e h = (_, refl)
 start_goes m (at Start lv below) t e h = cc
 start_goes m (at mode lv below) t e h = cc
 
-pub start_stops : (m : Bounds) (st : State) (t : Lexeme) → is_start st ≡ true → heads t ≡ false → step m st t ≡ Err Syntax
+pub start_stops : (m : Bounds) (st : State) (t : Lexeme) → is_start st ≡ true → heads t ≡ false → step m st t ≡ Err
+    Syntax
 start_stops m (at Start lv below) (word x) e h = cc
 start_stops m (at Start lv below) blank e h = cc
 start_stops m (at Start lv below) t e h = refl
@@ -228,7 +242,8 @@ result_goes m (at mode lv below) x e = cc
 
 -- at a result stands a word, or nothing goes on and no name is judged
 pub at_result : (m : Bounds) (st : State) (t : Lexeme) → is_result st ≡ true →
-    ((x : List ℕ) × (t ≡ word x)) ⊎ ((step m st t ≡ Err Syntax) × ((a : Stand) → is_start a.state ≡ false → judged_name a t ≡ None))
+    ((x : List ℕ) × (t ≡ word x)) ⊎ ((step m st t ≡ Err Syntax) × ((a : Stand) → is_start a.state ≡ false
+    → judged_name a t ≡ None))
 at_result m (at ResultName lv below) (word x) e = inl (x, refl)
 at_result m (at ResultName lv below) blank e = inr (refl, λ a h. counted_not a h)
 at_result m (at ResultName lv below) (number n) e = inr (refl, λ a h. refl)
@@ -238,8 +253,10 @@ at_result m (at ResultName lv below) other e = inr (refl, λ a h. refl)
 at_result m (at mode lv below) t e = cc
 
 -- a run from before a result to an end reads one
-pub one_result : (m : Bounds) (ls : List Lexeme) (st last : State) → run m st ls ≡ Ok last → in_schema (phase_of last) ≡ true → is_schema_end last ≡ true → phase_of st ≡ before → 1 ≤ length (results m st ls)
-one_result m [] st last e h ends b = absurd (differ (phase_of last) (start_between last h (start_is_end last ∙ ends)) (ap phase_of (sym (ok_one st last e)) ∙ b))
+pub one_result : (m : Bounds) (ls : List Lexeme) (st last : State) → run m st ls ≡ Ok last
+    → in_schema (phase_of last) ≡ true → is_schema_end last ≡ true → phase_of st ≡ before → 1 ≤ length (results m st ls)
+one_result m [] st last e h ends b = absurd (differ (phase_of last) (start_between last h (start_is_end last ∙ ends))
+    (ap phase_of (sym (ok_one st last e)) ∙ b))
   where
     differ : (ph : Phase) → ph ≡ between → ph ≡ before → ⊥
     differ ph a b = cc
@@ -251,14 +268,17 @@ one_result m (t ∷ ts) st last e h ends b =
     let parts = length-append (results m st (t ∷ [])) (results m k.0 ts) in
     go k.0 s (is_result st) refl (λ f. one_result m ts k.0 last k.2 h ends f) (w ∙ parts) v
   where
-    go : (mid : State) → step m st t ≡ Ok mid → (b : Bool) → is_result st ≡ b → (phase_of mid ≡ before → 1 ≤ length (results m mid ts)) →
-        length (results m st (t ∷ ts)) ≡ length (results m st (t ∷ [])) + length (results m mid ts) → length (results m st (t ∷ [])) ≡ length (named st t) → 1 ≤ length (results m st (t ∷ ts))
+    go : (mid : State) → step m st t ≡ Ok mid → (b : Bool) → is_result st ≡ b
+        → (phase_of mid ≡ before → 1 ≤ length (results m mid ts)) →
+        length (results m st (t ∷ ts)) ≡ length (results m st (t ∷ [])) + length (results m mid ts)
+        → length (results m st (t ∷ [])) ≡ length (named st t) → 1 ≤ length (results m st (t ∷ ts))
     go mid s false f ih w v =
         let k = ih (before_turn (phase_of st) (phase_of mid) (is_result st) (step_ok m st mid t s).2.turn b f) in
         omega (arith, w, k)
     go mid s true f ih w v = spells (at_result m st t f)
       where
-        spells : ((x : List ℕ) × (t ≡ word x)) ⊎ ((step m st t ≡ Err Syntax) × ((a : Stand) → is_start a.state ≡ false → judged_name a t ≡ None)) → 1 ≤ length (results m st (t ∷ ts))
+        spells : ((x : List ℕ) × (t ≡ word x)) ⊎ ((step m st t ≡ Err Syntax) × ((a : Stand) → is_start a.state ≡ false
+            → judged_name a t ≡ None)) → 1 ≤ length (results m st (t ∷ ts))
         spells (inl x) =
             let n : named st t ≡ x.0 ∷ [] = ap (λ z. if z then spelled t else []) f ∙ ap spelled x.1 in
             omega (arith, w, v, ap length n)

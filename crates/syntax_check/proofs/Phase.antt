@@ -119,7 +119,8 @@ frames_stay [] = stays_before
 frames_stay (frames.Paren spot lv ∷ below) = spot_stays spot (is_nil below) (frames_phase below) (frames_stay below)
 frames_stay (frames.Record spot lv ∷ below) = spot_stays spot (is_nil below) (frames_phase below) (frames_stay below)
 
-pub given_phase : (spot : Spot) (nil : Bool) (rest : Phase) → mode_phase (given_to spot) nil rest ≡ spot_phase spot nil rest
+pub given_phase : (spot : Spot) (nil : Bool) (rest : Phase) → mode_phase (given_to spot) nil rest ≡ spot_phase spot nil
+    rest
 given_phase (Operand p s) nil rest = refl
 given_phase (Argument p s) nil rest = refl
 given_phase (Width p s) nil rest = refl

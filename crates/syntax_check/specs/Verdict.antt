@@ -21,14 +21,16 @@ abbrev pub SchemaWritten : Type 0
 SchemaWritten = (ls : List Lexeme) → schema_verdict ls ≡ None → (s : SchemaView) × Declarations standard ls s × HasFew s
 
 abbrev pub SchemaIsRefused : Type 0
-SchemaIsRefused = (ls : List Lexeme) (c : Cause) (place : ℕ) → schema_verdict ls ≡ Some (c, place) → IsFirst (SchemaRefusal ls) (cause_of c) place
+SchemaIsRefused = (ls : List Lexeme) (c : Cause) (place : ℕ) → schema_verdict ls ≡ Some (c, place)
+    → IsFirst (SchemaRefusal ls) (cause_of c) place
 
 abbrev pub SchemaTaken : Type 0
 SchemaTaken = (ls : List Lexeme) (s : SchemaView) → Declarations standard ls s → HasFew s → schema_verdict ls ≡ None
 
--- no list of lexemes writes a schema within the limits and is refused
+-- no list of lexemes writes a schema within the limits and is refused, first or later
 abbrev pub SchemaOneAnswer : Type 0
-SchemaOneAnswer = (ls : List Lexeme) (s : SchemaView) (c : Reason) (place : ℕ) → Declarations standard ls s → HasFew s → SchemaRefusal ls c place → ⊥
+SchemaOneAnswer = (ls : List Lexeme) (s : SchemaView) (c : Reason) (place : ℕ) → Declarations standard ls s → HasFew s
+    → SchemaRefusal ls c place → ⊥
 
 -- ---- type words
 
@@ -36,16 +38,19 @@ abbrev pub WordWritten : Type 0
 WordWritten = (ls : List Lexeme) → word_verdict ls ≡ None → (e : ExprView) × TypeWord standard ls e
 
 abbrev pub WordIsRefused : Type 0
-WordIsRefused = (ls : List Lexeme) (c : Cause) (place : ℕ) → word_verdict ls ≡ Some (c, place) → IsFirst (WordRefusal ls) (cause_of c) place
+WordIsRefused = (ls : List Lexeme) (c : Cause) (place : ℕ) → word_verdict ls ≡ Some (c, place)
+    → IsFirst (WordRefusal ls) (cause_of c) place
 
 abbrev pub WordTaken : Type 0
 WordTaken = (ls : List Lexeme) (e : ExprView) → TypeWord standard ls e → word_verdict ls ≡ None
 
 abbrev pub WordOneAnswer : Type 0
-WordOneAnswer = (ls : List Lexeme) (e : ExprView) (c : Reason) (place : ℕ) → TypeWord standard ls e → WordRefusal ls c place → ⊥
+WordOneAnswer = (ls : List Lexeme) (e : ExprView) (c : Reason) (place : ℕ) → TypeWord standard ls e
+    → WordRefusal ls c place → ⊥
 
 -- ---- first refusals
 
 -- there is at most one
 abbrev pub OneFirst : (Reason → ℕ → Type 0) → Type 0
-OneFirst Refusal = (c d : Reason) (place other : ℕ) → IsFirst Refusal c place → IsFirst Refusal d other → (c ≡ d) × (place ≡ other)
+OneFirst Refusal = (c d : Reason) (place other : ℕ) → IsFirst Refusal c place → IsFirst Refusal d other
+    → (c ≡ d) × (place ≡ other)
