@@ -1,6 +1,6 @@
 -- What the machine answers for a whole list of lexemes: that it is written, or the first refusal with the number of
 -- lexemes before it.
-use Rattle.std.specs.Prelude.{ℕ, suc, ◌+◌, ◌==◌, ◌&&◌, Bool, true, false, List, [], ◌∷◌, ◌++◌, map, length, count_by, bytes_eq, if◌then◌else◌, Option, Some, None, Result, Ok, Err}
+use Rattle.std.specs.Prelude.{ℕ, suc, ◌+◌, ◌==◌, Bool, true, false, List, [], ◌∷◌, ◌++◌, map, length, count_by, bytes_eq, if◌then◌else◌, Option, Some, None, Result, Ok, Err}
 use Rattle.tlb_syntax.specs.Lexeme.{Lexeme, word, blank}
 use Rattle.tlb_syntax.specs.Grammar.{Count, Bounds}
 use Rattle.tlb_syntax.specs.Written.{unbounded, standard}
@@ -96,9 +96,11 @@ heads _ = false
 abbrev pub count_of : List ℕ → List (List ℕ) → ℕ
 count_of x names = count_by (λ y. bytes_eq y x) names
 
--- the name of a declaration, and of how many constructors it is
+-- the name of a declaration: the limit that was met before it, or the 4,097th
 abbrev pub counted : Stand → Verdict
-counted a = if is_start a.state && length a.names == 4096 then Some (TooManyConstructors, a.place) else None
+counted a =
+    if is_start a.state then (if length a.names == 4096 then or_met a.met (TooManyConstructors, a.place) else a.met)
+    else None
 
 -- behind a whole declaration's result: the 257th of its type, or the limit that was met in it
 abbrev pub judged_result : Stand → List ℕ → Verdict

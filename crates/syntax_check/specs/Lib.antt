@@ -2,3 +2,4 @@ pub mod Machine
 pub mod Judge
 pub mod Step
 pub mod Judged
+pub mod Verdict

@@ -1,0 +1,285 @@
+-- The names that a run reads as results, and the states at which declarations begin and results are read.
+use Rattle.std.proofs.Common.{◌≡◌, ◌⊎◌, inl, inr, ℕ, zero, suc, ◌+◌, ◌<◌, ◌≤◌, ◌==◌, Bool, true, false, if◌then◌else◌, List, [], ◌∷◌, ◌++◌, length, map, Option, Some, None, Result, Ok, Err, refl, sym, ap, ◌∙◌, subst, arith, length-append, append-nil, append_assoc}
+use Rattle.tlb_syntax.specs.declared.sign.Sign.{Sign}
+use Rattle.tlb_syntax.specs.Lexeme.{Lexeme, word, blank, number, tag, sign, other}
+use Rattle.tlb_syntax.specs.Grammar.{Count, Bounds}
+use Rattle.tlb_syntax.specs.Written.{form_of, unbounded}
+use Rattle.syntax_check.specs.declared.machine.Side.{Side}
+use Rattle.syntax_check.specs.declared.machine.Side.TheVariants.{Paren, Left, Right, Word}
+use Rattle.syntax_check.specs.declared.machine.Spot.{Spot}
+use Rattle.syntax_check.specs.declared.machine.Spot.TheVariants.{Operand, Argument, Width, Field, Guarded, Param}
+use Rattle.syntax_check.specs.declared.machine.Mode.{Mode}
+use Rattle.syntax_check.specs.declared.machine.Mode.TheVariants.{Start, Headed, Items, Brace, BraceName, Kind, KindEnd, ItemName, ItemBlank, Term, Apply, Applied, Operated, Typed, Bit, BitEnd, Result as ResultName, Params}
+use Rattle.syntax_check.specs.declared.machine.Frame.{Frame}
+use Rattle.syntax_check.specs.declared.machine.Frame.TheVariants as frames
+use Rattle.syntax_check.specs.declared.machine.Cause.{Cause}
+use Rattle.syntax_check.specs.declared.machine.Cause.TheVariants.{Syntax, DeepType, TooManyConstructors, TooManyFields, TooManyParams}
+use Rattle.syntax_check.specs.Machine.{State, at, Outcome, and_then, step, run, schema_start, is_schema_end}
+use Rattle.syntax_check.specs.Judge.{Stand, is_start, is_result, heads, counted, judged_name, names_with}
+use Rattle.syntax_check.proofs.Forgetting.{Switches, every, without, bounds_without}
+use Rattle.syntax_check.proofs.Phase.{Phase, between, before, behind, in_word, broken, is_nil, only, side_phase, spot_phase, frames_phase, phase_of, Turn, opening, within, naming, further, closing, in_a_word, nowhere, Turned, Stays, stays_before, stays_behind, stays_in_word, stays_broken, side_stays, spot_stays, frames_stay}
+use Rattle.syntax_check.proofs.Steps.{IsOk}
+use Rattle.syntax_check.proofs.Given.{spelled, named, results, results_behind}
+use Rattle.syntax_check.proofs.Stepwise.{ok_one, clash, run_front, run_join, one_run, run_one, step_ok, sound}
+use Rattle.syntax_check.proofs.Judged.{start_phase, result_phase, counted_not, is_false}
+
+-- ---- results
+
+pub results_join : (m : Bounds) (a b : List Lexeme) (st mid : State) → run m st a ≡ Ok mid
+    → results m st (a ++ b) ≡ results m st a ++ results m mid b
+results_join m [] b st mid e = ap (λ z. results m z b) (ok_one st mid e)
+results_join m (t ∷ a) b st mid e =
+    let k = run_front m st (t ∷ []) a mid e in
+    let s = one_run m st k.0 t k.1 in
+    let h = ap (λ o. named st t ++ results_behind o (λ next. results m next (a ++ b))) s in
+    let g = ap (λ o. named st t ++ results_behind o (λ next. results m next a)) s in
+    h ∙ ap (λ z. named st t ++ z) (results_join m a b k.0 mid k.2) ∙ sym (append_assoc (named st t) (results m k.0 a)
+    (results m mid b)) ∙ ap (λ z. z ++ results m mid b) (sym g)
+
+pub results_one : (m : Bounds) (st next : State) (t : Lexeme) → step m st t ≡ Ok next → results m st (t ∷ []) ≡ named
+    st t
+results_one m st next t e = ap (λ o. named st t ++ results_behind o (λ next. results m next [])) e
+    ∙ append-nil (named st t)
+
+pub results_more : (m : Bounds) (front : List Lexeme) (t : Lexeme) (st mid next : State) → run m st front ≡ Ok mid
+    → step m mid t ≡ Ok next → results m st (front ++ t ∷ []) ≡ results m st front ++ named mid t
+results_more m front t st mid next e h = results_join m front (t ∷ []) st mid e ∙ ap (λ z. results m st front ++ z)
+    (results_one m mid next t h)
+
+-- ---- states without counts
+
+pub result_without : (f : Switches) (st : State) → is_result (without f st) ≡ is_result st
+result_without f (at ResultName lv below) = refl
+result_without f (at mode lv below) = refl
+
+pub start_without : (f : Switches) (st : State) → is_start (without f st) ≡ is_start st
+start_without f (at Start lv below) = refl
+start_without f (at mode lv below) = refl
+
+pub end_without : (f : Switches) (st : State) → is_schema_end (without f st) ≡ is_schema_end st
+end_without f (at Start lv below) = refl
+end_without f (at mode lv below) = refl
+
+pub start_is_end : (st : State) → is_start st ≡ is_schema_end st
+start_is_end (at Start lv below) = refl
+start_is_end (at mode lv below) = refl
+
+pub named_without : (f : Switches) (st : State) (t : Lexeme) → named (without f st) t ≡ named st t
+named_without f st t = ap (λ b. if b then spelled t else []) (result_without f st)
+
+pub results_without : (f : Switches) (m : Bounds) (ls : List Lexeme) (st last : State) → run m st ls ≡ Ok last
+    → results (bounds_without f m) (without f st) ls ≡ results m st ls
+results_without f m [] st last e = refl
+results_without f m (t ∷ ts) st last e =
+    let k = run_front m st (t ∷ []) ts last e in
+    let s = one_run m st k.0 t k.1 in
+    let w = (step_ok m st k.0 t s).0 f in
+    let g = ap (λ o. named (without f st) t ++ results_behind o (λ next. results (bounds_without f m) next ts)) w in
+    let h = ap (λ o. named st t ++ results_behind o (λ next. results m next ts)) s in
+    g ∙ ap (λ z. z ++ results (bounds_without f m) (without f k.0) ts) (named_without f st t)
+    ∙ ap (λ z. named st t ++ z) (results_without f m ts k.0 last k.2) ∙ sym h
+
+-- a lexeme of the same form spells the same
+pub spelled_form : (t : Lexeme) → spelled (form_of t) ≡ spelled t
+spelled_form (word x) = refl
+spelled_form blank = refl
+spelled_form (number n) = refl
+spelled_form (tag b) = refl
+spelled_form (sign s) = refl
+spelled_form other = refl
+
+pub named_form : (st : State) (t : Lexeme) → named st (form_of t) ≡ named st t
+named_form st t = ap (λ z. if is_result st then z else []) (spelled_form t)
+
+-- the judge's list of names
+none_more : (b : Bool) (names : List (List ℕ)) → names ≡ names ++ (if b then [] else [])
+none_more true names = sym (append-nil names)
+none_more false names = sym (append-nil names)
+
+one_more : (b : Bool) (names : List (List ℕ)) (x : List ℕ) → (if b then names ++ x ∷ [] else names) ≡ names ++
+    (if b then x ∷ [] else [])
+one_more true names x = refl
+one_more false names x = sym (append-nil names)
+
+pub names_with_is : (a : Stand) (t : Lexeme) → names_with a t ≡ a.names ++ named a.state t
+names_with_is a (word x) = one_more (is_result a.state) a.names x
+names_with_is a blank = none_more (is_result a.state) a.names
+names_with_is a (number n) = none_more (is_result a.state) a.names
+names_with_is a (tag b) = none_more (is_result a.state) a.names
+names_with_is a (sign s) = none_more (is_result a.state) a.names
+names_with_is a other = none_more (is_result a.state) a.names
+
+-- ---- phases of a schema
+
+abbrev pub in_schema : Phase → Bool
+in_schema between = true
+in_schema before = true
+in_schema behind = true
+in_schema _ = false
+
+pub schema_sound : (ph : Phase) → in_schema ph ≡ true → sound ph ≡ true
+schema_sound between e = refl
+schema_sound before e = refl
+schema_sound behind e = refl
+schema_sound in_word e = refl
+schema_sound broken e = cc
+
+pub schema_turn : (a b : Phase) (flag : Bool) → Turn a flag b → in_schema a ≡ true → in_schema b ≡ true
+schema_turn _ _ _ opening e = refl
+schema_turn _ _ _ within e = refl
+schema_turn _ _ _ naming e = refl
+schema_turn _ _ _ further e = refl
+schema_turn _ _ _ closing e = refl
+schema_turn _ _ _ in_a_word e = cc
+schema_turn _ _ _ nowhere e = cc
+
+pub before_turn : (a b : Phase) (flag : Bool) → Turn a flag b → a ≡ before → flag ≡ false → b ≡ before
+before_turn _ _ _ opening e h = cc
+before_turn _ _ _ within e h = refl
+before_turn _ _ _ naming e h = cc
+before_turn _ _ _ further e h = cc
+before_turn _ _ _ closing e h = cc
+before_turn _ _ _ in_a_word e h = cc
+before_turn _ _ _ nowhere e h = cc
+
+pub naming_turn : (a b : Phase) (flag : Bool) → Turn a flag b → a ≡ before → flag ≡ true → b ≡ behind
+naming_turn _ _ _ opening e h = cc
+naming_turn _ _ _ within e h = cc
+naming_turn _ _ _ naming e h = refl
+naming_turn _ _ _ further e h = cc
+naming_turn _ _ _ closing e h = cc
+naming_turn _ _ _ in_a_word e h = cc
+naming_turn _ _ _ nowhere e h = cc
+
+pub opening_turn : (a b : Phase) (flag : Bool) → Turn a flag b → a ≡ between → b ≡ before
+opening_turn _ _ _ opening e = refl
+opening_turn _ _ _ within e = cc
+opening_turn _ _ _ naming e = cc
+opening_turn _ _ _ further e = cc
+opening_turn _ _ _ closing e = cc
+opening_turn _ _ _ in_a_word e = cc
+opening_turn _ _ _ nowhere e = cc
+
+pub behind_turn : (a b : Phase) (flag : Bool) → Turn a flag b → a ≡ behind → (b ≡ behind) ⊎ (b ≡ between)
+behind_turn _ _ _ opening e = cc
+behind_turn _ _ _ within e = cc
+behind_turn _ _ _ naming e = cc
+behind_turn _ _ _ further e = inl refl
+behind_turn _ _ _ closing e = inr refl
+behind_turn _ _ _ in_a_word e = cc
+behind_turn _ _ _ nowhere e = cc
+
+pub three : (ph : Phase) → in_schema ph ≡ true → (ph ≡ between) ⊎ ((ph ≡ before) ⊎ (ph ≡ behind))
+three between e = inl refl
+three before e = inr (inl refl)
+three behind e = inr (inr refl)
+three in_word e = cc
+three broken e = cc
+
+-- ---- between declarations
+
+not_between : (ph : Phase) → Stays ph → ph ≡ between → ⊥
+not_between _ stays_before e = cc
+not_between _ stays_behind e = cc
+not_between _ stays_in_word e = cc
+not_between _ stays_broken e = cc
+
+only_before : (nil : Bool) → only nil before ≡ between → ⊥
+only_before true e = cc
+only_before false e = cc
+
+only_behind : (nil : Bool) → only nil behind ≡ between → ⊥
+only_behind true e = cc
+only_behind false e = cc
+
+pub between_start : (st : State) → phase_of st ≡ between → is_start st ≡ true
+between_start (at Start lv below) e = refl
+between_start (at Headed lv below) e = absurd (only_before (is_nil below) e)
+between_start (at (Term spot inner) lv below) e = absurd
+    (not_between _ (spot_stays spot (is_nil below) (frames_phase below) (frames_stay below)) e)
+between_start (at (Apply p s) lv below) e = absurd (not_between _ (side_stays p (is_nil below) (frames_phase below)
+    (frames_stay below)) e)
+between_start (at (Applied p s) lv below) e = absurd (not_between _ (side_stays p (is_nil below) (frames_phase below)
+    (frames_stay below)) e)
+between_start (at (Operated p s) lv below) e = absurd (not_between _ (side_stays p (is_nil below) (frames_phase below)
+    (frames_stay below)) e)
+between_start (at ResultName lv below) e = absurd (only_before (is_nil below) e)
+between_start (at (Params k) lv below) e = absurd (only_behind (is_nil below) e)
+between_start (at mode lv below) e = absurd (not_between _ (frames_stay below) e)
+
+unbroken : (ph other : Phase) → in_schema ph ≡ true → (ph ≡ other) ⊎ (ph ≡ broken) → ph ≡ other
+unbroken ph o h (inl e) = e
+unbroken ph o h (inr e) = let k : in_schema ph ≡ false = ap in_schema e in cc
+
+pub start_between : (st : State) → in_schema (phase_of st) ≡ true → is_start st ≡ true → phase_of st ≡ between
+start_between st h e = unbroken (phase_of st) between h (start_phase st e)
+
+pub result_before : (st : State) → in_schema (phase_of st) ≡ true → is_result st ≡ true → phase_of st ≡ before
+result_before st h e = unbroken (phase_of st) before h (result_phase st e)
+
+pub not_at_start : (st : State) → in_schema (phase_of st) ≡ true → (phase_of st ≡ between → ⊥) → is_start st ≡ false
+not_at_start st h never = is_false (is_start st) (λ e. never (start_between st h e))
+
+pub not_at_result : (st : State) → in_schema (phase_of st) ≡ true → (phase_of st ≡ before → ⊥) → is_result st ≡ false
+not_at_result st h never = is_false (is_result st) (λ e. never (result_before st h e))
+
+pub start_goes : (m : Bounds) (st : State) (t : Lexeme) → is_start st ≡ true → heads t ≡ true → IsOk (step m st t)
+start_goes m (at Start lv below) (word x) e h = (_, refl)
+start_goes m (at Start lv below) blank e h = (_, refl)
+start_goes m (at Start lv below) t e h = cc
+start_goes m (at mode lv below) t e h = cc
+
+pub start_stops : (m : Bounds) (st : State) (t : Lexeme) → is_start st ≡ true → heads t ≡ false → step m st t ≡ Err
+    Syntax
+start_stops m (at Start lv below) (word x) e h = cc
+start_stops m (at Start lv below) blank e h = cc
+start_stops m (at Start lv below) t e h = refl
+start_stops m (at mode lv below) t e h = cc
+
+pub result_goes : (m : Bounds) (st : State) (x : List ℕ) → is_result st ≡ true → IsOk (step m st (word x))
+result_goes m (at ResultName lv below) x e = (_, refl)
+result_goes m (at mode lv below) x e = cc
+
+-- at a result stands a word, or nothing goes on and no name is judged
+pub at_result : (m : Bounds) (st : State) (t : Lexeme) → is_result st ≡ true →
+    ((x : List ℕ) × (t ≡ word x)) ⊎ ((step m st t ≡ Err Syntax) × ((a : Stand) → is_start a.state ≡ false
+    → judged_name a t ≡ None))
+at_result m (at ResultName lv below) (word x) e = inl (x, refl)
+at_result m (at ResultName lv below) blank e = inr (refl, λ a h. counted_not a h)
+at_result m (at ResultName lv below) (number n) e = inr (refl, λ a h. refl)
+at_result m (at ResultName lv below) (tag n) e = inr (refl, λ a h. refl)
+at_result m (at ResultName lv below) (sign n) e = inr (refl, λ a h. refl)
+at_result m (at ResultName lv below) other e = inr (refl, λ a h. refl)
+at_result m (at mode lv below) t e = cc
+
+-- a run from before a result to an end reads one
+pub one_result : (m : Bounds) (ls : List Lexeme) (st last : State) → run m st ls ≡ Ok last
+    → in_schema (phase_of last) ≡ true → is_schema_end last ≡ true → phase_of st ≡ before → 1 ≤ length (results m st ls)
+one_result m [] st last e h ends b = absurd (differ (phase_of last) (start_between last h (start_is_end last ∙ ends))
+    (ap phase_of (sym (ok_one st last e)) ∙ b))
+  where
+    differ : (ph : Phase) → ph ≡ between → ph ≡ before → ⊥
+    differ ph a b = cc
+one_result m (t ∷ ts) st last e h ends b =
+    let k = run_front m st (t ∷ []) ts last e in
+    let s = one_run m st k.0 t k.1 in
+    let w = ap length (results_join m (t ∷ []) ts st k.0 (run_one m st k.0 t s)) in
+    let v = ap length (results_one m st k.0 t s) in
+    let parts = length-append (results m st (t ∷ [])) (results m k.0 ts) in
+    go k.0 s (is_result st) refl (λ f. one_result m ts k.0 last k.2 h ends f) (w ∙ parts) v
+  where
+    go : (mid : State) → step m st t ≡ Ok mid → (b : Bool) → is_result st ≡ b
+        → (phase_of mid ≡ before → 1 ≤ length (results m mid ts)) →
+        length (results m st (t ∷ ts)) ≡ length (results m st (t ∷ [])) + length (results m mid ts)
+        → length (results m st (t ∷ [])) ≡ length (named st t) → 1 ≤ length (results m st (t ∷ ts))
+    go mid s false f ih w v =
+        let k = ih (before_turn (phase_of st) (phase_of mid) (is_result st) (step_ok m st mid t s).2.turn b f) in
+        omega (arith, w, k)
+    go mid s true f ih w v = spells (at_result m st t f)
+      where
+        spells : ((x : List ℕ) × (t ≡ word x)) ⊎ ((step m st t ≡ Err Syntax) × ((a : Stand) → is_start a.state ≡ false
+            → judged_name a t ≡ None)) → 1 ≤ length (results m st (t ∷ ts))
+        spells (inl x) =
+            let n : named st t ≡ x.0 ∷ [] = ap (λ z. if z then spelled t else []) f ∙ ap spelled x.1 in
+            omega (arith, w, v, ap length n)
+        spells (inr x) = absurd (clash (step m st t) mid Syntax s x.0)
