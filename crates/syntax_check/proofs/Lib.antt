@@ -1,3 +1,4 @@
+pub mod Answered
 pub mod Counts
 pub mod Ending
 pub mod Few
@@ -9,7 +10,7 @@ pub mod Given
 pub mod Going
 pub mod Judged
 pub mod Judging
-pub mod Laws
+pub mod OneAnswer
 pub mod Lists
 pub mod Named
 pub mod Phase

@@ -139,14 +139,17 @@ impl<'a> Judge<'a> {
         self.names.iter().filter(|other| **other == name).count()
     }
 
-    // A name that begins one declaration too many.
+    // A name that begins a declaration: the limit that was met before it, or one declaration too many.
     fn counted(&self) -> Option<Refusal>
         ensures { told_verdict result ≡ verdicts.counted (stand self.now) }
     {
-        if self.machine.is_at_start() && self.names.len() == MOST_DECLARATIONS {
-            Some(self.refusal(Cause::TooManyConstructors))
-        } else {
-            None
+        if !self.machine.is_at_start() {
+            return None;
+        }
+        match self.met {
+            Some(met) => Some(met),
+            None if self.names.len() == MOST_DECLARATIONS => Some(self.refusal(Cause::TooManyConstructors)),
+            None => None,
         }
     }
 

@@ -1,15 +1,19 @@
 //! Whether the tokens of a text write a schema or a type word, and else their first refusal.
 #![tactic(auto)]
 
-ghost use Rattle.std.specs.Prelude.{◌≡◌, ◌<◌, ◌^◌, length, option_map, IfOk};
+ghost use Rattle.std.specs.Prelude.{◌≡◌, ◌<◌, ◌^◌, length, IfOk, MatchOption};
 ghost use Rattle.tlb_lexer.specs.Cut.{PlacedFrom};
 ghost use Rattle.tlb_syntax.specs.Lexeme.{lexemes};
-ghost use Rattle.tlb_syntax.specs.Written.{standard};
-ghost use Rattle.syntax_check.specs.Judge.{go, stand_at, schema_verdict, word_verdict};
+ghost use Rattle.tlb_syntax.specs.Grammar.{Declarations, TypeWord};
+ghost use Rattle.tlb_syntax.specs.Tree.{ExprView, SchemaView};
+ghost use Rattle.tlb_syntax.specs.Written.{standard, HasFew, IsFirst, SchemaRefusal, WordRefusal};
+ghost use Rattle.syntax_check.specs.Judge.{go, stand_at};
+ghost use Rattle.syntax_check.specs.Verdict.{cause_of};
 ghost use Rattle.syntax_check.specs.Judged.{told_verdict, start_of, may_end};
 
 mod freed;
 mod judge;
+pub mod laws;
 mod machine;
 mod modes;
 mod step;
@@ -44,7 +48,8 @@ fn check(alloc: Global, text: &[u8], tokens: &[Token], whole: Whole) -> Result<O
 pub fn check_schema(alloc: Global, text: &[u8], tokens: &[Token]) -> Result<Option<Refusal>, NoMemory>
     requires placed { PlacedFrom text.now 0 tokens.now }
     requires short { length text.now < 2 ^ 32 }
-    ensures plain { IfOk result (λ found. option_map (λ r. (r.cause, r.place)) found ≡ schema_verdict (lexemes text.now tokens.now)) }
+    ensures { IfOk result (λ found. MatchOption found ((s : SchemaView) × Declarations standard (lexemes text.now tokens.now) s × HasFew s)
+        (λ r. IsFirst (SchemaRefusal (lexemes text.now tokens.now)) (cause_of r.cause) r.place)) }
 {
     check(alloc, text, tokens, Whole::Schema)
 }
@@ -53,7 +58,8 @@ pub fn check_schema(alloc: Global, text: &[u8], tokens: &[Token]) -> Result<Opti
 pub fn check_word(alloc: Global, text: &[u8], tokens: &[Token]) -> Result<Option<Refusal>, NoMemory>
     requires placed { PlacedFrom text.now 0 tokens.now }
     requires short { length text.now < 2 ^ 32 }
-    ensures plain { IfOk result (λ found. option_map (λ r. (r.cause, r.place)) found ≡ word_verdict (lexemes text.now tokens.now)) }
+    ensures { IfOk result (λ found. MatchOption found ((e : ExprView) × TypeWord standard (lexemes text.now tokens.now) e)
+        (λ r. IsFirst (WordRefusal (lexemes text.now tokens.now)) (cause_of r.cause) r.place)) }
 {
     check(alloc, text, tokens, Whole::Word)
 }
