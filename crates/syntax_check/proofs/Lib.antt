@@ -1,7 +1,12 @@
+pub mod Trail
+pub mod Runs
+pub mod Says
+pub mod Said
+pub mod Fits
+pub mod Ending
 pub mod Forgetting
 pub mod Phase
 pub mod Steps
-pub mod Given
 pub mod Stepwise
 pub mod Fronts
 pub mod Firsts
