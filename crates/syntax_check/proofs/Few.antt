@@ -1,22 +1,19 @@
 -- The fronts of schemas that can go on with few constructors.
-use Rattle.std.proofs.Common.{◌≡◌, ◌⊎◌, inl, inr, ℕ, zero, suc, ◌+◌, ◌<◌, ◌≤◌, ◌==◌, Bool, true, false, if◌then◌else◌, List, [], ◌∷◌, ◌++◌, length, map, take, Option, Some, None, Result, Ok, Err, refl, sym, ap, ◌∙◌, subst, arith, length-append, append-nil, append_assoc}
-use Rattle.std.proofs.Math.Seq.{take-append_seam}
+use Rattle.std.proofs.Common.{◌≡◌, ◌⊎◌, inl, inr, ℕ, ◌+◌, ◌≤◌, Bool, true, if◌then◌else◌, List, [], ◌∷◌, ◌++◌, length, Ok, refl, sym, ap, ◌∙◌, subst, arith, length-append, append-nil}
 use Rattle.tlb_syntax.specs.Lexeme.{Lexeme, word, blank, number, tag, sign, other}
-use Rattle.tlb_syntax.specs.Grammar.{Count, Bounds, Declarations}
-use Rattle.tlb_syntax.specs.Tree.{SchemaView}
-use Rattle.tlb_syntax.specs.Written.{form_of, CanGoOn, IsAny, Splits, ended, Exceeds, Declares, HasFew, unbounded, standard}
-use Rattle.syntax_check.specs.declared.machine.Cause.{Cause}
-use Rattle.syntax_check.specs.declared.machine.Cause.TheVariants.{Syntax, DeepType, TooManyConstructors, TooManyFields, TooManyParams}
-use Rattle.syntax_check.specs.Machine.{State, Outcome, and_then, step, run, schema_start, is_schema_end}
-use Rattle.syntax_check.specs.Judge.{is_start, is_result, heads, count_of}
-use Rattle.syntax_check.proofs.Forgetting.{Switches, every, without, bounds_without}
-use Rattle.syntax_check.proofs.Phase.{Phase, between, before, behind, in_word, broken, phase_of, Turn, opening, within, naming, further, closing, in_a_word, nowhere}
-use Rattle.syntax_check.proofs.Steps.{IsOk, step_by}
-use Rattle.syntax_check.proofs.Given.{spelled, named, results, schema_runs, schema_said, schema_ending, schema_results}
-use Rattle.syntax_check.proofs.Stepwise.{ok_one, clash, shorter, run_front, run_join, run_more, run_one, one_run, last_step, step_ok, step_syntax}
-use Rattle.syntax_check.proofs.Counts.{count_append, count_itself, count_more, fresh, count_fresh, types_of, FewNames, few_types, types_few}
-use Rattle.syntax_check.proofs.Named.{results_join, results_one, results_more, end_without, start_is_end, named_form, in_schema, schema_turn, before_turn, opening_turn, behind_turn, three, between_start, not_at_start, not_at_result, start_stops, one_result}
-use Rattle.syntax_check.proofs.Fronts.{Language, goes_on, came, no_way}
+use Rattle.tlb_syntax.specs.Grammar.{Bounds, Declarations}
+use Rattle.tlb_syntax.specs.Written.{CanGoOn, HasFew, unbounded}
+use Rattle.syntax_check.specs.Machine.{State, run, schema_start, is_schema_end}
+use Rattle.syntax_check.specs.Judge.{is_result, count_of}
+use Rattle.syntax_check.proofs.Phase.{Phase, between, before, behind, phase_of, Turn, opening, within, naming, further, closing, in_a_word, nowhere}
+use Rattle.syntax_check.proofs.Trail.{results, results_on}
+use Rattle.syntax_check.proofs.Runs.{schema_runs, schema_results}
+use Rattle.syntax_check.proofs.Said.{schema_said}
+use Rattle.syntax_check.proofs.Ending.{SchemaEnding, schema_ending}
+use Rattle.syntax_check.proofs.Stepwise.{ok_one, run_front, run_join, one_run, step_ok}
+use Rattle.syntax_check.proofs.Counts.{count_more, fresh, count_fresh, FewNames, few_types, types_few}
+use Rattle.syntax_check.proofs.Named.{spelled, named, results_one, end_without, start_is_end, in_schema, schema_turn, behind_turn, three, between_start, not_at_result, one_result}
+use Rattle.syntax_check.proofs.Fronts.{Language}
 
 abbrev pub schemas : Language Declarations
 schemas = record {
@@ -118,7 +115,7 @@ quiet (t ∷ ts) st last e h w (inl ph) =
       q.1,
       run_join unbounded st k.0 q.1 (t ∷ []) q.0 k.1 q.2,
       q.3,
-      results_join unbounded (t ∷ []) q.0 st k.0 k.1 ∙ ap (λ z. z ++ results unbounded k.0 q.0)
+      results_on unbounded st (t ∷ []) q.0 k.0 k.1 ∙ ap (λ z. z ++ results unbounded k.0 q.0)
           (results_one unbounded st k.0 t s ∙ none) ∙ q.4,
     )
 
@@ -129,8 +126,8 @@ pub can_end : (front more : List Lexeme) (st last : State) → run unbounded (sc
 can_end front more st last e h ends few =
     let w = schema_said unbounded (front ++ more) last (run_join unbounded (schema_start unbounded) st last front more
     e h) ends in
-    let names = sym (schema_results unbounded (front ++ more) w.0 w.1) ∙ results_join unbounded front more
-    (schema_start unbounded) st e in
+    let names = sym (schema_results unbounded (front ++ more) w.0 w.1) ∙ results_on unbounded (schema_start unbounded)
+    front more st e in
     record { more = more; tree = w.0; kept = few_types w.0 (subst FewNames (sym names) few); written = w.1 }
 
 pub few_goes : (front : List Lexeme) (st : State) (names : List (List ℕ)) → run unbounded (schema_start unbounded)
@@ -176,8 +173,7 @@ few_goes front st names e w same few = go (three (phase_of st) w)
     go (inr (inr ph)) = quietly (inl ph)
     go (inr (inl ph)) = ends k.4
       where
-        k : (more : List Lexeme) × (last : State) × (run unbounded st more ≡ Ok last) × (is_schema_end last ≡ true)
-            × (results unbounded st more ≡ [] ⊎ results unbounded st more ≡ fresh all_names ∷ [])
+        k : SchemaEnding unbounded (fresh all_names) st
         k = schema_ending unbounded front st e (fresh all_names)
 
         ends : (results unbounded st k.0 ≡ [] ⊎ results unbounded st k.0 ≡ fresh all_names ∷ []) → CanGoOn Declarations
@@ -196,8 +192,8 @@ few_of front st e c =
     let same = ok_one w.0 st (sym w.1 ∙ e) in
     let further : run unbounded st c.more ≡ Ok k.0 = let P : State → Type 0 = λ z. run unbounded z c.more ≡ Ok k.0 in
     subst P same w.2 in
-    let names = sym (schema_results unbounded (front ++ c.more) c.tree c.written) ∙ results_join unbounded front c.more
-    (schema_start unbounded) st e in (
+    let names = sym (schema_results unbounded (front ++ c.more) c.tree c.written) ∙ results_on unbounded
+    (schema_start unbounded) front c.more st e in (
       results unbounded st c.more,
       subst FewNames names (types_few c.tree c.kept),
       λ ph. one_result unbounded c.more st k.0 further (schema_run unbounded (front ++ c.more) (schema_start unbounded)

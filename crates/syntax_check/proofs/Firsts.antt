@@ -1,17 +1,16 @@
 -- The refusals that are told by the grammar alone: where a step fails stands the first of them.
-use Rattle.std.proofs.Common.{◌≡◌, ◌⊎◌, inl, inr, ℕ, suc, ◌+◌, ◌<◌, ◌≤◌, Bool, true, false, List, [], ◌∷◌, ◌++◌, length, Option, Some, None, Result, Ok, Err, refl, sym, ap, ◌∙◌, subst, arith, append-nil, length-append}
+use Rattle.std.proofs.Common.{◌≡◌, ◌⊎◌, inl, inr, ℕ, ◌<◌, ◌≤◌, true, false, List, [], ◌∷◌, ◌++◌, length, Some, None, Ok, Err, refl, sym, ap, ◌∙◌, subst, arith, append-nil, length-append}
 use Rattle.tlb_syntax.specs.Lexeme.{Lexeme}
-use Rattle.tlb_syntax.specs.Grammar.{Count, Bounds}
-use Rattle.tlb_syntax.specs.Written.{form_of, Grammar, CanGoOn, IsAny, Splits, ended, StopsAt, EndsEarly, IsSyntax, Exceeds, MeetsLevels, MeetsItems, ComesFirst, rank, bounds, unbounded, standard, syntax, deep_type, too_many_constructors, too_many_fields, too_many_params, Cause as Reason}
+use Rattle.tlb_syntax.specs.Written.{form_of, Grammar, IsAny, Splits, IsSyntax, Exceeds, MeetsLevels, MeetsItems, ComesFirst, rank, bounds, unbounded, standard, syntax, deep_type, too_many_constructors, too_many_fields, too_many_params, Cause as Reason}
 use Rattle.syntax_check.specs.declared.machine.Cause.{Cause}
 use Rattle.syntax_check.specs.declared.machine.Cause.TheVariants.{Syntax, DeepType, TooManyConstructors, TooManyFields, TooManyParams}
-use Rattle.syntax_check.specs.Machine.{State, Outcome, and_then, step, run}
+use Rattle.syntax_check.specs.Machine.{State, step, run}
 use Rattle.syntax_check.specs.Verdict.{cause_of}
-use Rattle.syntax_check.proofs.Forgetting.{Switches, switches, every, without, bounds_without, IsOpen}
-use Rattle.syntax_check.proofs.Phase.{Phase, behind, broken, phase_of, base_of}
-use Rattle.syntax_check.proofs.Steps.{IsOk, Keeps, Lifts, IsLimit, step_by, ManyAt}
-use Rattle.syntax_check.proofs.Stepwise.{ok_one, err_one, clash, run_join, run_more, step_ok, step_limit, no_constructors, sound, Sound}
-use Rattle.syntax_check.proofs.Fronts.{Language, but_levels, but_items, but_params, runs_without, goes_on, syntax_later, excess_later, no_excess_here, no_excess_past, excess_is, stop_is, end_is}
+use Rattle.syntax_check.proofs.Forgetting.{Switches, every, without, IsOpen}
+use Rattle.syntax_check.proofs.Phase.{Phase, broken, phase_of}
+use Rattle.syntax_check.proofs.Steps.{IsOk, Lifts, IsLimit, step_by, ManyAt}
+use Rattle.syntax_check.proofs.Stepwise.{ok_one, clash, step_limit, no_constructors, sound, Sound}
+use Rattle.syntax_check.proofs.Fronts.{Language, but_levels, but_items, but_params, runs_without, syntax_later, excess_later, no_excess_here, no_excess_past, excess_is, stop_is}
 
 -- the refusals but those of too many constructors
 abbrev pub Plain : {X : Type 0} → Grammar X → List Lexeme → Reason → ℕ → Type 0

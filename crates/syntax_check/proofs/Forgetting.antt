@@ -1,7 +1,7 @@
 -- A state without some of its counts.
-use Rattle.std.proofs.Common.{◌≡◌, ℕ, zero, suc, Bool, true, false, List, [], ◌∷◌, map, Option, Some, None, Result, Ok, Err, refl, sym, ap, ◌∙◌}
+use Rattle.std.proofs.Common.{◌≡◌, ℕ, zero, suc, Bool, true, false, List, [], ◌∷◌, map, Some, None, Result, Ok, Err, refl, ap}
 use Rattle.tlb_syntax.specs.Grammar.{Count, Bounds}
-use Rattle.tlb_syntax.specs.Written.{unbounded, standard, bounds}
+use Rattle.tlb_syntax.specs.Written.{bounds}
 use Rattle.syntax_check.specs.declared.machine.Side.{Side}
 use Rattle.syntax_check.specs.declared.machine.Side.TheVariants.{Paren, Left, Right, Word}
 use Rattle.syntax_check.specs.declared.machine.Spot.{Spot}
@@ -11,7 +11,6 @@ use Rattle.syntax_check.specs.declared.machine.Mode.TheVariants.{Start, Headed, 
 use Rattle.syntax_check.specs.declared.machine.Frame.{Frame}
 use Rattle.syntax_check.specs.declared.machine.Frame.TheVariants as frames
 use Rattle.syntax_check.specs.declared.machine.Cause.{Cause}
-use Rattle.syntax_check.specs.declared.machine.Cause.TheVariants.{Syntax, DeepType, TooManyConstructors, TooManyFields, TooManyParams}
 use Rattle.syntax_check.specs.Machine.{State, at, spend, given_to}
 use Rattle.syntax_check.specs.Judge.{free_side, free_spot, free_mode, free_frame, free}
 

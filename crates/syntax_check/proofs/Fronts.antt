@@ -1,17 +1,14 @@
 -- The fronts that can go on are those that the machine takes; what refuses at a place, and what stands earlier.
-use Rattle.std.proofs.Common.{◌≡◌, ◌⊎◌, inl, inr, ℕ, suc, ◌<◌, ◌≤◌, Bool, true, false, List, [], ◌∷◌, ◌++◌, length, Option, Some, None, Result, Ok, Err, refl, sym, ap, ◌∙◌, subst, arith, append_assoc, length-append}
+use Rattle.std.proofs.Common.{◌≡◌, ◌⊎◌, inl, inr, ℕ, ◌<◌, ◌≤◌, Bool, true, false, List, [], ◌∷◌, ◌++◌, length, Ok, Err, refl, sym, ap, ◌∙◌, subst, arith, append_assoc, length-append}
 use Rattle.tlb_syntax.specs.Lexeme.{Lexeme}
-use Rattle.tlb_syntax.specs.Grammar.{Count, Bounds}
-use Rattle.tlb_syntax.specs.Written.{form_of, Grammar, CanGoOn, IsAny, Splits, ended, StopsAt, EndsEarly, IsSyntax, Exceeds, MeetsLevels, MeetsItems, ComesFirst, rank, bounds, unbounded, standard, syntax, deep_type, too_many_constructors, too_many_fields, too_many_params, Cause as Reason}
+use Rattle.tlb_syntax.specs.Grammar.{Bounds}
+use Rattle.tlb_syntax.specs.Written.{form_of, Grammar, CanGoOn, IsAny, Splits, ended, StopsAt, EndsEarly, IsSyntax, Exceeds, unbounded}
 use Rattle.syntax_check.specs.declared.machine.Cause.{Cause}
 use Rattle.syntax_check.specs.declared.machine.Cause.TheVariants.{Syntax, DeepType, TooManyConstructors, TooManyFields, TooManyParams}
-use Rattle.syntax_check.specs.Machine.{State, Outcome, and_then, step, run}
-use Rattle.syntax_check.specs.Verdict.{cause_of}
-use Rattle.syntax_check.proofs.Forgetting.{Switches, switches, every, without, bounds_without, IsOpen}
-use Rattle.syntax_check.proofs.Phase.{Phase, behind, broken, phase_of, base_of}
-use Rattle.syntax_check.proofs.Steps.{IsOk, Keeps, Lifts, IsLimit, step_by, ManyAt}
-use Rattle.syntax_check.proofs.Given.{runs_on}
-use Rattle.syntax_check.proofs.Stepwise.{ok_one, err_one, clash, shorter, same_split, run_front, run_join, run_one, one_run, run_more, last_step, step_ok, step_syntax, step_limit, no_constructors, run_without, sound, Sound}
+use Rattle.syntax_check.specs.Machine.{State, step, run}
+use Rattle.syntax_check.proofs.Forgetting.{Switches, switches, every, without, bounds_without}
+use Rattle.syntax_check.proofs.Steps.{IsOk, Keeps, Lifts, IsLimit, step_by}
+use Rattle.syntax_check.proofs.Stepwise.{ok_one, clash, shorter, same_split, run_front, run_join, one_run, run_more, last_step, step_ok, step_syntax, step_limit, run_without}
 
 -- a grammar that the machine keeps to, from a start on
 pub record Language {X : Type 0} (G : Grammar X) : Type 0 where

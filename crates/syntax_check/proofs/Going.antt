@@ -1,22 +1,24 @@
 -- Where a schema's front stands: in which declaration, and that no declaration so far was one too many.
-use Rattle.std.proofs.Common.{◌≡◌, ◌⊎◌, inl, inr, ℕ, zero, suc, ◌+◌, ◌<◌, ◌≤◌, ◌==◌, Bool, true, false, if◌then◌else◌, List, [], ◌∷◌, ◌++◌, length, map, take, Option, Some, None, Result, Ok, Err, refl, sym, ap, ◌∙◌, subst, arith, length-append, append-nil, append_assoc}
+use Rattle.std.proofs.Common.{◌≡◌, ◌⊎◌, inl, inr, ℕ, ◌+◌, ◌<◌, ◌≤◌, Bool, true, false, if◌then◌else◌, List, [], ◌∷◌, ◌++◌, length, take, Option, Some, Ok, Err, refl, sym, ap, ◌∙◌, subst, arith, length-append, append_assoc}
 use Rattle.std.proofs.Math.Seq.{take-append_seam}
 use Rattle.tlb_syntax.specs.Lexeme.{Lexeme, word, blank, number, tag, sign, other}
-use Rattle.tlb_syntax.specs.Grammar.{Count, Bounds, Declarations}
+use Rattle.tlb_syntax.specs.Grammar.{Declarations}
 use Rattle.tlb_syntax.specs.Tree.{SchemaView}
-use Rattle.tlb_syntax.specs.Written.{form_of, CanGoOn, IsAny, Splits, ended, Exceeds, Declares, HasFew, unbounded, standard}
+use Rattle.tlb_syntax.specs.Written.{form_of, CanGoOn, IsAny, ended, Exceeds, Declares, HasFew, unbounded}
 use Rattle.syntax_check.specs.declared.machine.Cause.{Cause}
-use Rattle.syntax_check.specs.declared.machine.Cause.TheVariants.{Syntax, DeepType, TooManyConstructors, TooManyFields, TooManyParams}
-use Rattle.syntax_check.specs.Machine.{State, Outcome, and_then, step, run, schema_start, is_schema_end}
+use Rattle.syntax_check.specs.declared.machine.Cause.TheVariants.{Syntax}
+use Rattle.syntax_check.specs.Machine.{State, Outcome, step, run, schema_start, is_schema_end}
 use Rattle.syntax_check.specs.Judge.{is_start, is_result, heads, count_of}
-use Rattle.syntax_check.proofs.Forgetting.{Switches, every, without, bounds_without}
-use Rattle.syntax_check.proofs.Phase.{Phase, between, before, behind, in_word, broken, phase_of, Turn}
-use Rattle.syntax_check.proofs.Steps.{IsOk, step_by}
-use Rattle.syntax_check.proofs.Given.{spelled, named, results, schema_runs, schema_said}
-use Rattle.syntax_check.proofs.Stepwise.{ok_one, clash, shorter, same_split, run_front, run_join, run_more, run_one, one_run, last_step, step_ok}
-use Rattle.syntax_check.proofs.Counts.{count_append, count_itself, types_of, FewNames}
-use Rattle.syntax_check.proofs.Named.{results_more, start_is_end, named_form, in_schema, schema_turn, before_turn, opening_turn, behind_turn, three, between_start, start_between, not_at_start, not_at_result, start_goes, start_stops, result_goes}
-use Rattle.syntax_check.proofs.Fronts.{Language, runs_without, goes_on, came, no_way}
+use Rattle.syntax_check.proofs.Forgetting.{every, without}
+use Rattle.syntax_check.proofs.Phase.{Phase, between, before, behind, phase_of, Turn}
+use Rattle.syntax_check.proofs.Steps.{IsOk}
+use Rattle.syntax_check.proofs.Trail.{results}
+use Rattle.syntax_check.proofs.Runs.{schema_runs}
+use Rattle.syntax_check.proofs.Said.{schema_said}
+use Rattle.syntax_check.proofs.Stepwise.{ok_one, clash, shorter, same_split, run_front, run_more, last_step, step_ok}
+use Rattle.syntax_check.proofs.Counts.{count_append, count_itself, FewNames}
+use Rattle.syntax_check.proofs.Named.{spelled, named, results_more, start_is_end, named_form, in_schema, schema_turn, opening_turn, behind_turn, between_start, start_between, not_at_result, start_goes, start_stops, result_goes}
+use Rattle.syntax_check.proofs.Fronts.{runs_without, goes_on, came, no_way}
 use Rattle.syntax_check.proofs.Firsts.{below_or, below_or_same}
 use Rattle.syntax_check.proofs.Few.{schemas, Few, Room, few_turn, few_goes, few_of}
 

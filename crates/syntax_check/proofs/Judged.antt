@@ -1,16 +1,14 @@
 -- How the judge goes on.
-use Rattle.std.proofs.Common.{◌≡◌, ◌⊎◌, inl, inr, ℕ, suc, ◌+◌, ◌<◌, ◌≤◌, ◌==◌, Bool, true, false, if◌then◌else◌, List, [], ◌∷◌, ◌++◌, length, Option, Some, None, Result, Ok, Err, refl, sym, ap, ◌∙◌, subst, arith, append-nil}
+use Rattle.std.proofs.Common.{◌≡◌, ◌⊎◌, inl, inr, ℕ, ◌==◌, Bool, true, false, if◌then◌else◌, List, [], ◌∷◌, length, Some, None, Ok, Err, refl, ap, ◌∙◌}
 use Rattle.tlb_syntax.specs.Lexeme.{Lexeme, word, blank, number, tag, sign, other}
-use Rattle.tlb_syntax.specs.Grammar.{Count, Bounds}
 use Rattle.tlb_syntax.specs.Written.{unbounded, standard}
 use Rattle.syntax_check.specs.declared.machine.Cause.{Cause}
 use Rattle.syntax_check.specs.declared.machine.Cause.TheVariants.{Syntax, DeepType, TooManyConstructors, TooManyFields, TooManyParams}
-use Rattle.syntax_check.specs.declared.machine.Mode.TheVariants.{Start, Headed, Result as ResultName}
-use Rattle.syntax_check.specs.declared.machine.Frame.{Frame}
-use Rattle.syntax_check.specs.Machine.{State, at, Outcome, and_then, step, run, is_schema_end}
-use Rattle.syntax_check.specs.Judge.{Verdict, Stand, is_start, is_result, count_of, counted, judged_result, judged_name, names_with, onward, freed, met_or, or_met, after_step, advance_past, advance, finish, go_on, go, free}
-use Rattle.syntax_check.proofs.Phase.{Phase, between, before, behind, in_word, broken, phase_of}
-use Rattle.syntax_check.proofs.Stepwise.{clash, sound}
+use Rattle.syntax_check.specs.declared.machine.Mode.TheVariants.{Start, Result as ResultName}
+use Rattle.syntax_check.specs.Machine.{State, at, Outcome, step}
+use Rattle.syntax_check.specs.Judge.{Verdict, Stand, is_start, is_result, counted, judged_result, judged_name, onward, or_met, after_step, advance_past, advance, finish, go_on}
+use Rattle.syntax_check.proofs.Phase.{Phase, between, before, broken, phase_of}
+use Rattle.syntax_check.proofs.Stepwise.{sound}
 use Rattle.syntax_check.proofs.Steps.{IsLimit}
 
 -- before any limit is met

@@ -6,13 +6,12 @@ pub mod Firsts
 pub mod Fits
 pub mod Forgetting
 pub mod Fronts
-pub mod Given
 pub mod Going
 pub mod Judged
 pub mod Judging
-pub mod OneAnswer
 pub mod Lists
 pub mod Named
+pub mod OneAnswer
 pub mod Phase
 pub mod Runs
 pub mod Said

@@ -1,49 +1,42 @@
 -- The names that a run reads as results, and the states at which declarations begin and results are read.
-use Rattle.std.proofs.Common.{◌≡◌, ◌⊎◌, inl, inr, ℕ, zero, suc, ◌+◌, ◌<◌, ◌≤◌, ◌==◌, Bool, true, false, if◌then◌else◌, List, [], ◌∷◌, ◌++◌, length, map, Option, Some, None, Result, Ok, Err, refl, sym, ap, ◌∙◌, subst, arith, length-append, append-nil, append_assoc}
-use Rattle.tlb_syntax.specs.declared.sign.Sign.{Sign}
+use Rattle.std.proofs.Common.{◌≡◌, ◌⊎◌, inl, inr, ℕ, ◌+◌, ◌≤◌, Bool, true, false, if◌then◌else◌, List, [], ◌∷◌, ◌++◌, length, None, Ok, Err, refl, sym, ap, ◌∙◌, arith, length-append, append-nil}
 use Rattle.tlb_syntax.specs.Lexeme.{Lexeme, word, blank, number, tag, sign, other}
-use Rattle.tlb_syntax.specs.Grammar.{Count, Bounds}
-use Rattle.tlb_syntax.specs.Written.{form_of, unbounded}
-use Rattle.syntax_check.specs.declared.machine.Side.{Side}
-use Rattle.syntax_check.specs.declared.machine.Side.TheVariants.{Paren, Left, Right, Word}
-use Rattle.syntax_check.specs.declared.machine.Spot.{Spot}
-use Rattle.syntax_check.specs.declared.machine.Spot.TheVariants.{Operand, Argument, Width, Field, Guarded, Param}
-use Rattle.syntax_check.specs.declared.machine.Mode.{Mode}
-use Rattle.syntax_check.specs.declared.machine.Mode.TheVariants.{Start, Headed, Items, Brace, BraceName, Kind, KindEnd, ItemName, ItemBlank, Term, Apply, Applied, Operated, Typed, Bit, BitEnd, Result as ResultName, Params}
-use Rattle.syntax_check.specs.declared.machine.Frame.{Frame}
-use Rattle.syntax_check.specs.declared.machine.Frame.TheVariants as frames
-use Rattle.syntax_check.specs.declared.machine.Cause.{Cause}
-use Rattle.syntax_check.specs.declared.machine.Cause.TheVariants.{Syntax, DeepType, TooManyConstructors, TooManyFields, TooManyParams}
-use Rattle.syntax_check.specs.Machine.{State, at, Outcome, and_then, step, run, schema_start, is_schema_end}
-use Rattle.syntax_check.specs.Judge.{Stand, is_start, is_result, heads, counted, judged_name, names_with}
-use Rattle.syntax_check.proofs.Forgetting.{Switches, every, without, bounds_without}
-use Rattle.syntax_check.proofs.Phase.{Phase, between, before, behind, in_word, broken, is_nil, only, side_phase, spot_phase, frames_phase, phase_of, Turn, opening, within, naming, further, closing, in_a_word, nowhere, Turned, Stays, stays_before, stays_behind, stays_in_word, stays_broken, side_stays, spot_stays, frames_stay}
+use Rattle.tlb_syntax.specs.Grammar.{Bounds}
+use Rattle.tlb_syntax.specs.Written.{form_of}
+use Rattle.syntax_check.specs.declared.machine.Mode.TheVariants.{Start, Headed, Term, Apply, Applied, Operated, Result as ResultName, Params}
+use Rattle.syntax_check.specs.declared.machine.Cause.TheVariants.{Syntax}
+use Rattle.syntax_check.specs.Machine.{State, at, step, run, is_schema_end}
+use Rattle.syntax_check.specs.Judge.{Stand, is_start, is_result, heads, judged_name, names_with}
+use Rattle.syntax_check.proofs.Forgetting.{Switches, without, bounds_without}
+use Rattle.syntax_check.proofs.Phase.{Phase, between, before, behind, in_word, broken, is_nil, only, frames_phase, phase_of, Turn, opening, within, naming, further, closing, in_a_word, nowhere, Stays, stays_before, stays_behind, stays_in_word, stays_broken, side_stays, spot_stays, frames_stay}
 use Rattle.syntax_check.proofs.Steps.{IsOk}
-use Rattle.syntax_check.proofs.Given.{spelled, named, results, results_behind}
-use Rattle.syntax_check.proofs.Stepwise.{ok_one, clash, run_front, run_join, one_run, run_one, step_ok, sound}
+use Rattle.syntax_check.proofs.Trail.{named_in, if_taken, results, results_on}
+use Rattle.syntax_check.proofs.Stepwise.{ok_one, clash, run_front, one_run, run_one, step_ok, sound}
 use Rattle.syntax_check.proofs.Judged.{start_phase, result_phase, counted_not, is_false}
 
 -- ---- results
 
-pub results_join : (m : Bounds) (a b : List Lexeme) (st mid : State) → run m st a ≡ Ok mid
-    → results m st (a ++ b) ≡ results m st a ++ results m mid b
-results_join m [] b st mid e = ap (λ z. results m z b) (ok_one st mid e)
-results_join m (t ∷ a) b st mid e =
-    let k = run_front m st (t ∷ []) a mid e in
-    let s = one_run m st k.0 t k.1 in
-    let h = ap (λ o. named st t ++ results_behind o (λ next. results m next (a ++ b))) s in
-    let g = ap (λ o. named st t ++ results_behind o (λ next. results m next a)) s in
-    h ∙ ap (λ z. named st t ++ z) (results_join m a b k.0 mid k.2) ∙ sym (append_assoc (named st t) (results m k.0 a)
-    (results m mid b)) ∙ ap (λ z. z ++ results m mid b) (sym g)
+abbrev pub spelled : Lexeme → List (List ℕ)
+spelled (word x) = x ∷ []
+spelled _ = []
+
+-- the name that a step reads as a result
+abbrev pub named : State → Lexeme → List (List ℕ)
+named st t = if is_result st then spelled t else []
+
+named_before : (st : State) (t : Lexeme) (names : List (List ℕ)) → named_in st t names ≡ named st t ++ names
+named_before (at ResultName lv below) (word x) names = refl
+named_before (at ResultName lv below) t names = refl
+named_before (at mode lv below) t names = refl
 
 pub results_one : (m : Bounds) (st next : State) (t : Lexeme) → step m st t ≡ Ok next → results m st (t ∷ []) ≡ named
     st t
-results_one m st next t e = ap (λ o. named st t ++ results_behind o (λ next. results m next [])) e
-    ∙ append-nil (named st t)
+results_one m st next t e =
+    ap (λ o. named_in st t (if_taken o (λ mid. results m mid []))) e ∙ named_before st t [] ∙ append-nil (named st t)
 
 pub results_more : (m : Bounds) (front : List Lexeme) (t : Lexeme) (st mid next : State) → run m st front ≡ Ok mid
     → step m mid t ≡ Ok next → results m st (front ++ t ∷ []) ≡ results m st front ++ named mid t
-results_more m front t st mid next e h = results_join m front (t ∷ []) st mid e ∙ ap (λ z. results m st front ++ z)
+results_more m front t st mid next e h = results_on m st front (t ∷ []) mid e ∙ ap (λ z. results m st front ++ z)
     (results_one m mid next t h)
 
 -- ---- states without counts
@@ -74,10 +67,11 @@ results_without f m (t ∷ ts) st last e =
     let k = run_front m st (t ∷ []) ts last e in
     let s = one_run m st k.0 t k.1 in
     let w = (step_ok m st k.0 t s).0 f in
-    let g = ap (λ o. named (without f st) t ++ results_behind o (λ next. results (bounds_without f m) next ts)) w in
-    let h = ap (λ o. named st t ++ results_behind o (λ next. results m next ts)) s in
-    g ∙ ap (λ z. z ++ results (bounds_without f m) (without f k.0) ts) (named_without f st t)
-    ∙ ap (λ z. named st t ++ z) (results_without f m ts k.0 last k.2) ∙ sym h
+    let free = results (bounds_without f m) (without f k.0) ts in
+    ap (λ o. named_in (without f st) t (if_taken o (λ next. results (bounds_without f m) next ts))) w
+    ∙ named_before (without f st) t free ∙ ap (λ z. z ++ free) (named_without f st t)
+    ∙ ap (λ z. named st t ++ z) (results_without f m ts k.0 last k.2) ∙ sym (named_before st t (results m k.0 ts))
+    ∙ sym (ap (λ o. named_in st t (if_taken o (λ next. results m next ts))) s)
 
 -- a lexeme of the same form spells the same
 pub spelled_form : (t : Lexeme) → spelled (form_of t) ≡ spelled t
@@ -263,7 +257,7 @@ one_result m [] st last e h ends b = absurd (differ (phase_of last) (start_betwe
 one_result m (t ∷ ts) st last e h ends b =
     let k = run_front m st (t ∷ []) ts last e in
     let s = one_run m st k.0 t k.1 in
-    let w = ap length (results_join m (t ∷ []) ts st k.0 (run_one m st k.0 t s)) in
+    let w = ap length (results_on m st (t ∷ []) ts k.0 (run_one m st k.0 t s)) in
     let v = ap length (results_one m st k.0 t s) in
     let parts = length-append (results m st (t ∷ [])) (results m k.0 ts) in
     go k.0 s (is_result st) refl (λ f. one_result m ts k.0 last k.2 h ends f) (w ∙ parts) v

@@ -1,18 +1,17 @@
 -- No list of lexemes is both written and refused, and there is one first refusal.
-use Rattle.std.proofs.Common.{◌≡◌, ◌⊎◌, inl, inr, ℕ, zero, suc, ◌+◌, ◌<◌, ◌≤◌, true, List, [], ◌∷◌, ◌++◌, length, Option, Some, None, Result, Ok, Err, refl, sym, ap, ◌∙◌, subst, arith, length-append, append-nil, append_assoc}
+use Rattle.std.proofs.Common.{◌≡◌, inl, inr, ℕ, zero, suc, ◌<◌, true, List, [], ◌∷◌, ◌++◌, length, Some, None, Ok, refl, sym, ap, ◌∙◌, subst, arith, length-append, append-nil, append_assoc}
 use Rattle.tlb_syntax.specs.Lexeme.{Lexeme}
-use Rattle.tlb_syntax.specs.Grammar.{Bounds, Declarations, TypeWord}
-use Rattle.tlb_syntax.specs.Tree.{ExprView, SchemaView}
-use Rattle.tlb_syntax.specs.Written.{Grammar, form_of, Splits, ended, Exceeds, HasFew, IsFirst, ComesFirst, SchemaRefusal, WordRefusal, rank, unbounded, standard, syntax, deep_type, too_many_constructors, too_many_fields, too_many_params, Cause as Reason}
-use Rattle.syntax_check.specs.declared.machine.Cause.{Cause}
-use Rattle.syntax_check.specs.Machine.{State, run, step, schema_start, is_schema_end}
+use Rattle.tlb_syntax.specs.Grammar.{Declarations}
+use Rattle.tlb_syntax.specs.Written.{Grammar, form_of, Splits, ended, Exceeds, HasFew, ComesFirst, SchemaRefusal, WordRefusal, rank, unbounded, standard, syntax, deep_type, too_many_constructors, too_many_fields, too_many_params, Cause as Reason}
+use Rattle.syntax_check.specs.Machine.{State, run, schema_start, is_schema_end}
 use Rattle.syntax_check.specs.Judge.{Verdict, schema_verdict, word_verdict}
 use Rattle.syntax_check.specs.Verdict.{cause_of, SchemaTaken, SchemaOneAnswer, WordTaken, WordOneAnswer, OneFirst}
-use Rattle.syntax_check.proofs.Forgetting.{Switches, every, without}
-use Rattle.syntax_check.proofs.Given.{named, results, schema_runs, schema_results, word_runs}
+use Rattle.syntax_check.proofs.Forgetting.{every, without}
+use Rattle.syntax_check.proofs.Trail.{results, results_on}
+use Rattle.syntax_check.proofs.Runs.{schema_runs, schema_results, word_runs}
 use Rattle.syntax_check.proofs.Stepwise.{run_front, run_more, one_run}
-use Rattle.syntax_check.proofs.Counts.{types_of, FewNames, types_few}
-use Rattle.syntax_check.proofs.Named.{results_join, results_more, results_without, named_form, end_without}
+use Rattle.syntax_check.proofs.Counts.{FewNames, types_few}
+use Rattle.syntax_check.proofs.Named.{results_more, results_without, named_form, end_without}
 use Rattle.syntax_check.proofs.Fronts.{Language, but_levels, but_items, but_params, runs_without, no_stop, no_excess}
 use Rattle.syntax_check.proofs.Firsts.{Plain}
 use Rattle.syntax_check.proofs.Few.{schemas, can_end}
@@ -60,8 +59,8 @@ not_many ls st place e ends few x =
     in
     let same = form_names ∙ ap (λ z. results unbounded (schema_start unbounded) sp.front ++ z)
     (named_form near.0 sp.at) ∙ sym names in
-    let all_names = ap (λ z. results unbounded (schema_start unbounded) z) whole ∙ results_join unbounded
-    (sp.front ++ sp.at ∷ []) sp.later (schema_start unbounded) far.0 far.1
+    let all_names = ap (λ z. results unbounded (schema_start unbounded) z) whole ∙ results_on unbounded
+    (schema_start unbounded) (sp.front ++ sp.at ∷ []) sp.later far.0 far.1
     ∙ ap (λ z. z ++ results unbounded far.0 sp.later) (sym same) in
     x.too_much (can_end (ended sp.front (form_of sp.at)) sp.later far.0 st (run_more unbounded (schema_start unbounded)
     near.0 far.0 sp.front (form_of sp.at) near.1 form) far.2 ends (subst FewNames all_names few))

@@ -1,27 +1,28 @@
 -- What is answered for a schema is right.
-use Rattle.std.proofs.Common.{◌≡◌, ◌⊎◌, inl, inr, ℕ, zero, suc, ◌+◌, ◌<◌, ◌≤◌, ◌==◌, Bool, true, false, if◌then◌else◌, List, [], ◌∷◌, ◌++◌, length, Option, Some, None, Result, Ok, Err, refl, sym, ap, ◌∙◌, subst, arith, length-append, append-nil}
+use Rattle.std.proofs.Common.{◌≡◌, ◌⊎◌, inl, inr, ℕ, ◌+◌, ◌<◌, ◌≤◌, ◌==◌, Bool, true, false, if◌then◌else◌, List, [], ◌∷◌, ◌++◌, length, Some, None, Ok, Err, refl, sym, ap, ◌∙◌, subst, arith, length-append, append-nil}
 use Rattle.tlb_syntax.specs.Lexeme.{Lexeme, word, blank, number, tag, sign, other}
-use Rattle.tlb_syntax.specs.Grammar.{Count, Bounds, Declarations}
+use Rattle.tlb_syntax.specs.Grammar.{Bounds, Declarations}
 use Rattle.tlb_syntax.specs.Tree.{SchemaView}
-use Rattle.tlb_syntax.specs.Written.{form_of, Exceeds, Declares, HasFew, IsFirst, ComesFirst, SchemaRefusal, rank, unbounded, standard, syntax, deep_type, too_many_constructors, too_many_fields, too_many_params, Cause as Reason}
+use Rattle.tlb_syntax.specs.Written.{form_of, Exceeds, Declares, HasFew, IsFirst, ComesFirst, SchemaRefusal, unbounded, standard, syntax, deep_type, too_many_constructors, too_many_fields, too_many_params, Cause as Reason}
 use Rattle.syntax_check.specs.declared.machine.Cause.{Cause}
 use Rattle.syntax_check.specs.declared.machine.Cause.TheVariants.{Syntax, DeepType, TooManyConstructors, TooManyFields, TooManyParams}
-use Rattle.syntax_check.specs.declared.machine.Mode.TheVariants.{Start, Result as ResultName}
+use Rattle.syntax_check.specs.declared.machine.Mode.TheVariants.{Start}
 use Rattle.syntax_check.specs.Machine.{State, at, Outcome, step, run, schema_start, is_schema_end}
-use Rattle.syntax_check.specs.Judge.{Verdict, Stand, is_start, is_result, heads, count_of, counted, judged_result, judged_name, names_with, onward, freed, or_met, after_step, advance_past, advance, finish, go_on, go, free, schema_verdict}
+use Rattle.syntax_check.specs.Judge.{Verdict, Stand, is_start, is_result, heads, count_of, counted, judged_result, judged_name, names_with, onward, freed, or_met, after_step, advance_past, finish, go_on, go, free}
 use Rattle.syntax_check.specs.Verdict.{cause_of, SchemaWritten, SchemaIsRefused}
-use Rattle.syntax_check.proofs.Forgetting.{Switches, every, without, bounds_without, free_is}
-use Rattle.syntax_check.proofs.Phase.{Phase, between, before, behind, in_word, broken, phase_of, Turn}
+use Rattle.syntax_check.proofs.Forgetting.{every, without, free_is}
+use Rattle.syntax_check.proofs.Phase.{Phase, between, before, behind, phase_of, Turn}
 use Rattle.syntax_check.proofs.Steps.{IsOk, IsLimit}
-use Rattle.syntax_check.proofs.Given.{spelled, named, results, schema_said, schema_results}
+use Rattle.syntax_check.proofs.Runs.{schema_results}
+use Rattle.syntax_check.proofs.Said.{schema_said}
 use Rattle.syntax_check.proofs.Stepwise.{err_one, clash, run_more, step_ok, step_syntax, no_constructors, Sound, sound_run}
-use Rattle.syntax_check.proofs.Counts.{equal_number, number_equal, types_of, FewNames, few_types}
-use Rattle.syntax_check.proofs.Named.{result_without, start_without, named_without, names_with_is, results_without, in_schema, schema_turn, before_turn, naming_turn, behind_turn, three, between_start, start_between, result_before, not_at_start, not_at_result, start_goes, start_stops, result_goes, at_result}
-use Rattle.syntax_check.proofs.Fronts.{runs_without, end_is}
+use Rattle.syntax_check.proofs.Counts.{equal_number, number_equal, FewNames, few_types}
+use Rattle.syntax_check.proofs.Named.{named, result_without, start_without, named_without, names_with_is, results_without, in_schema, schema_turn, before_turn, naming_turn, behind_turn, three, between_start, not_at_start, not_at_result, start_goes, start_stops, result_goes, at_result}
+use Rattle.syntax_check.proofs.Fronts.{end_is}
 use Rattle.syntax_check.proofs.Firsts.{Plain, below_or, below_or_same, plain_later, plain_here, plain_first, end_first, no_limit}
-use Rattle.syntax_check.proofs.Judged.{within_limits, past_limit, true_or_false, unjudged, counted_not, advance_unjudged, finish_met, failed_met}
-use Rattle.syntax_check.proofs.Few.{schemas, Few, Room, schema_run}
-use Rattle.syntax_check.proofs.Going.{Going, Inside, one_longer, one_further, next_taken, next_turn, next_phase, declares, going_on, none_stopped, too_many_in_all, too_many_of_one, behind_far}
+use Rattle.syntax_check.proofs.Judged.{within_limits, past_limit, true_or_false, unjudged, advance_unjudged, finish_met, failed_met}
+use Rattle.syntax_check.proofs.Few.{schemas, Room}
+use Rattle.syntax_check.proofs.Going.{Going, one_longer, one_further, next_turn, declares, going_on, none_stopped, too_many_in_all, too_many_of_one, behind_far}
 
 -- ---- first refusals
 

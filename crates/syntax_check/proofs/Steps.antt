@@ -1,24 +1,24 @@
 -- What one step says of the step on a state without some of its counts, and on a lexeme of the same form.
 use Rattle.std.proofs.Common.{◌≡◌, ◌⊎◌, inl, inr, ℕ, zero, suc, Bool, true, false, List, [], ◌∷◌, map, bytes_eq, codes, nat_le, if◌then◌else◌, Option, Some, None, Result, Ok, Err, refl, sym, ap, ◌∙◌, subst}
 use Rattle.tlb_syntax.specs.declared.sign.Sign.{Sign}
-use Rattle.tlb_syntax.specs.declared.sign.Sign.TheVariants.{Hash, HashHash, HashLess, HashLessEqual, Colon, Semicolon, Equal, OpenParen, CloseParen, OpenBrace, CloseBrace, OpenBracket, CloseBracket, Caret, Tilde, Question, Dot, Asterisk, Plus, Less, LessEqual, Greater, GreaterEqual, Bang}
+use Rattle.tlb_syntax.specs.declared.sign.Sign.TheVariants.{Hash, Colon, Semicolon, Equal, CloseParen, OpenBrace, CloseBrace, CloseBracket, Question, Dot, Asterisk, Plus}
 use Rattle.tlb_syntax.specs.Lexeme.{Lexeme, word, blank, number, tag, sign, other}
 use Rattle.tlb_syntax.specs.Grammar.{Count, Bounds}
 use Rattle.tlb_syntax.specs.Written.{form_of}
 use Rattle.syntax_check.specs.declared.machine.Side.{Side}
 use Rattle.syntax_check.specs.declared.machine.Side.TheVariants.{Paren, Left, Right, Word}
 use Rattle.syntax_check.specs.declared.machine.Spot.{Spot}
-use Rattle.syntax_check.specs.declared.machine.Spot.TheVariants.{Operand, Argument, Width, Field, Guarded, Param}
+use Rattle.syntax_check.specs.declared.machine.Spot.TheVariants.{Operand, Argument, Width, Field, Param}
 use Rattle.syntax_check.specs.declared.machine.Mode.{Mode}
 use Rattle.syntax_check.specs.declared.machine.Mode.TheVariants.{Start, Headed, Items, Brace, BraceName, Kind, KindEnd, ItemName, ItemBlank, Term, Apply, Applied, Operated, Typed, Bit, BitEnd, Result as ResultName, Params}
 use Rattle.syntax_check.specs.declared.machine.Frame.{Frame}
 use Rattle.syntax_check.specs.declared.machine.Frame.TheVariants as frames
 use Rattle.syntax_check.specs.declared.machine.Cause.{Cause}
 use Rattle.syntax_check.specs.declared.machine.Cause.TheVariants.{Syntax, DeepType, TooManyConstructors, TooManyFields, TooManyParams}
-use Rattle.syntax_check.specs.Machine.{State, at, Outcome, and_then, spend, Begin, leaf, no_leaf, prefix, paren, record_, begin_sign, begin_number, begin_of, is_width, compares, given_to, begins, term, ends_sum, operated, applied, apply, opens, bare_item, ends_items, bare_or_end, items, typed, params, step_mode, step}
+use Rattle.syntax_check.specs.Machine.{State, at, Outcome, and_then, spend, Begin, leaf, no_leaf, prefix, paren, record_, begin_sign, begin_number, begin_of, is_width, compares, begins, term, ends_sum, operated, applied, apply, bare_item, ends_items, bare_or_end, items, typed, params, step}
 use Rattle.syntax_check.specs.Judge.{is_result}
-use Rattle.syntax_check.proofs.Forgetting.{Switches, lost, side_without, spot_without, mode_without, frame_without, without, bounds_without, given_without, IsOpen, open_without, Spending, may, may_not, spending, spend_lost}
-use Rattle.syntax_check.proofs.Phase.{Phase, between, before, behind, in_word, broken, is_nil, only, side_phase, spot_phase, frames_phase, mode_phase, phase_of, base, base_of, Turn, opening, within, naming, further, closing, in_a_word, nowhere, Turned, Stays, stays_before, stays_behind, stays_in_word, stays_broken, stays_turn, only_stays, side_stays, spot_stays, frames_stay, given_phase}
+use Rattle.syntax_check.proofs.Forgetting.{Switches, lost, side_without, spot_without, frame_without, without, bounds_without, given_without, IsOpen, open_without, Spending, may, may_not, spending, spend_lost}
+use Rattle.syntax_check.proofs.Phase.{Phase, between, before, behind, broken, is_nil, only, side_phase, spot_phase, frames_phase, phase_of, base, base_of, Turn, opening, within, naming, closing, nowhere, Turned, Stays, stays_behind, stays_turn, only_stays, side_stays, spot_stays, frames_stay, given_phase}
 
 abbrev pub IsOk : Outcome → Type 0
 IsOk o = (next : State) × (o ≡ Ok next)

@@ -1,16 +1,16 @@
 -- Runs on states without some of their counts, and what each state of a run keeps.
-use Rattle.std.proofs.Common.{◌≡◌, ◌⊎◌, inl, inr, ℕ, suc, ◌<◌, Bool, true, false, List, [], ◌∷◌, ◌++◌, length, Option, Some, None, Result, Ok, Err, refl, sym, ap, ◌∙◌, subst, arith, append_assoc}
+use Rattle.std.proofs.Common.{◌≡◌, ◌⊎◌, ◌<◌, Bool, true, false, List, [], ◌∷◌, ◌++◌, length, Ok, Err, refl, sym, ap, ◌∙◌, subst, arith}
 use Rattle.tlb_syntax.specs.Lexeme.{Lexeme}
-use Rattle.tlb_syntax.specs.Grammar.{Count, Bounds}
+use Rattle.tlb_syntax.specs.Grammar.{Bounds}
 use Rattle.tlb_syntax.specs.Written.{form_of}
 use Rattle.syntax_check.specs.declared.machine.Cause.{Cause}
-use Rattle.syntax_check.specs.declared.machine.Cause.TheVariants.{Syntax, DeepType, TooManyConstructors, TooManyFields, TooManyParams}
+use Rattle.syntax_check.specs.declared.machine.Cause.TheVariants.{Syntax, TooManyConstructors, TooManyParams}
 use Rattle.syntax_check.specs.Machine.{State, Outcome, and_then, step, run}
 use Rattle.syntax_check.specs.Judge.{is_result}
 use Rattle.syntax_check.proofs.Forgetting.{Switches, without, bounds_without}
-use Rattle.syntax_check.proofs.Phase.{Phase, between, before, behind, in_word, broken, phase_of, base_of, Turn, opening, within, naming, further, closing, in_a_word, nowhere, Turned}
+use Rattle.syntax_check.proofs.Phase.{Phase, in_word, broken, phase_of, base_of, Turn, opening, within, naming, further, closing, in_a_word, nowhere, Turned}
 use Rattle.syntax_check.proofs.Steps.{IsOk, Keeps, Lifts, IsLimit, Facts, goes, stops, exceeds, step_by, ManyAt, step_facts}
-use Rattle.syntax_check.proofs.Given.{runs_on}
+use Rattle.syntax_check.proofs.Trail.{runs_on}
 
 -- ---- outcomes
 

@@ -1,21 +1,22 @@
 -- What is answered for a type word is right.
-use Rattle.std.proofs.Common.{◌≡◌, ◌⊎◌, inl, inr, ℕ, suc, ◌+◌, ◌<◌, ◌≤◌, Bool, true, false, if◌then◌else◌, List, [], ◌∷◌, ◌++◌, length, Option, Some, None, Result, Ok, Err, refl, sym, ap, ◌∙◌, subst, arith, append-nil, append_assoc, length-append}
+use Rattle.std.proofs.Common.{◌≡◌, inl, inr, ℕ, Bool, true, false, if◌then◌else◌, List, [], ◌∷◌, ◌++◌, length, Some, None, Result, Ok, Err, refl, sym, ap, ◌∙◌, subst, arith, append-nil, append_assoc, length-append}
 use Rattle.tlb_syntax.specs.Lexeme.{Lexeme}
-use Rattle.tlb_syntax.specs.Grammar.{Count, Bounds, TypeWord}
+use Rattle.tlb_syntax.specs.Grammar.{Bounds, TypeWord}
 use Rattle.tlb_syntax.specs.Tree.{ExprView}
-use Rattle.tlb_syntax.specs.Written.{Grammar, IsFirst, ComesFirst, WordRefusal, IsSyntax, unbounded, standard, syntax, deep_type, too_many_constructors, too_many_fields, too_many_params, Cause as Reason}
-use Rattle.syntax_check.specs.declared.machine.Side.{Side}
+use Rattle.tlb_syntax.specs.Written.{IsFirst, WordRefusal, unbounded, standard, syntax, deep_type, too_many_constructors, too_many_fields, too_many_params, Cause as Reason}
 use Rattle.syntax_check.specs.declared.machine.Side.TheVariants.{Paren, Left, Right, Word}
-use Rattle.syntax_check.specs.declared.machine.Mode.TheVariants.{Apply, Applied, Operated}
+use Rattle.syntax_check.specs.declared.machine.Mode.TheVariants.{Applied, Operated}
 use Rattle.syntax_check.specs.declared.machine.Cause.{Cause}
 use Rattle.syntax_check.specs.declared.machine.Cause.TheVariants.{Syntax, DeepType, TooManyConstructors, TooManyFields, TooManyParams}
-use Rattle.syntax_check.specs.Machine.{State, at, Outcome, and_then, step, run, word_start, is_word_end}
-use Rattle.syntax_check.specs.Judge.{Verdict, Stand, is_start, names_with, onward, freed, after_step, advance_past, advance, judged_name, finish, go_on, go, free, word_verdict}
+use Rattle.syntax_check.specs.Machine.{State, at, Outcome, step, run, word_start, is_word_end}
+use Rattle.syntax_check.specs.Judge.{Verdict, Stand, onward, freed, after_step, judged_name, finish, go_on, go, free}
 use Rattle.syntax_check.specs.Verdict.{cause_of, WordWritten, WordIsRefused}
-use Rattle.syntax_check.proofs.Forgetting.{Switches, every, without, bounds_without, free_is}
+use Rattle.syntax_check.proofs.Forgetting.{Switches, every, without, free_is}
 use Rattle.syntax_check.proofs.Phase.{Phase, between, before, behind, in_word, broken, phase_of}
-use Rattle.syntax_check.proofs.Steps.{IsLimit, ManyAt}
-use Rattle.syntax_check.proofs.Given.{word_runs, word_said, word_ending}
+use Rattle.syntax_check.proofs.Steps.{ManyAt}
+use Rattle.syntax_check.proofs.Runs.{word_runs}
+use Rattle.syntax_check.proofs.Said.{word_said}
+use Rattle.syntax_check.proofs.Ending.{word_ending}
 use Rattle.syntax_check.proofs.Stepwise.{run_more, step_limit, no_constructors, sound, Sound, sound_run, word_run}
 use Rattle.syntax_check.proofs.Fronts.{Language, runs_without, end_is}
 use Rattle.syntax_check.proofs.Firsts.{Plain, plain_here, plain_first, end_first, no_limit}
@@ -38,7 +39,7 @@ words = record {
   is_end = is_word_end;
   runs = word_runs;
   said = word_said;
-  ending = word_ending;
+  ending = λ m front st e. let k = word_ending m front st e [] in (k.0, k.1, k.2, k.3);
   start_without = λ f m. refl;
   end_without = word_end_without;
 }

@@ -1,5 +1,5 @@
 -- What the answers for a list of lexemes say by the productions.
-use Rattle.std.specs.Prelude.{ℕ, ◌≡◌, List, Option, Some, None}
+use Rattle.std.specs.Prelude.{ℕ, ◌≡◌, List, Some, None}
 use Rattle.tlb_syntax.specs.Lexeme.{Lexeme}
 use Rattle.tlb_syntax.specs.Grammar.{Declarations, TypeWord}
 use Rattle.tlb_syntax.specs.Tree.{ExprView, SchemaView}
