@@ -17,18 +17,23 @@ mod step;
 mod tests;
 
 pub use judge::Refusal;
-pub use machine::Cause;
-
 use judge::{Judge, Whole};
+pub use machine::Cause;
 use std::alloc::Global;
 use tlb_lexer::Token;
 use tlb_memory::NoMemory;
 use tlb_syntax::lexeme_at;
 
-fn check(alloc: Global, text: &[u8], tokens: &[Token], whole: Whole) -> Result<Option<Refusal>, NoMemory>
+fn check(
+    alloc: Global,
+    text: &[u8],
+    tokens: &[Token],
+    whole: Whole,
+) -> Result<Option<Refusal>, NoMemory>
     requires placed { PlacedFrom text.now 0 tokens.now }
     requires short { length text.now < 2 ^ 32 }
-    ensures { IfOk result (λ found. told_verdict found ≡ go (may_end whole) (stand_at standard (start_of whole)) (lexemes text.now tokens.now)) }
+    ensures { IfOk result (λ found. told_verdict found
+        ≡ go (may_end whole) (stand_at standard (start_of whole)) (lexemes text.now tokens.now)) }
 {
     let mut judge = Judge::new(alloc, whole);
     for token in tokens {
@@ -41,10 +46,15 @@ fn check(alloc: Global, text: &[u8], tokens: &[Token], whole: Whole) -> Result<O
 }
 
 /// The first refusal of the tokens of a text that is to be a schema. None: they write one.
-pub fn check_schema(alloc: Global, text: &[u8], tokens: &[Token]) -> Result<Option<Refusal>, NoMemory>
+pub fn check_schema(
+    alloc: Global,
+    text: &[u8],
+    tokens: &[Token],
+) -> Result<Option<Refusal>, NoMemory>
     requires placed { PlacedFrom text.now 0 tokens.now }
     requires short { length text.now < 2 ^ 32 }
-    ensures plain { IfOk result (λ found. option_map (λ r. (r.cause, r.place)) found ≡ schema_verdict (lexemes text.now tokens.now)) }
+    ensures plain { IfOk result (λ found. option_map (λ r. (r.cause, r.place)) found
+        ≡ schema_verdict (lexemes text.now tokens.now)) }
 {
     check(alloc, text, tokens, Whole::Schema)
 }
@@ -53,7 +63,8 @@ pub fn check_schema(alloc: Global, text: &[u8], tokens: &[Token]) -> Result<Opti
 pub fn check_word(alloc: Global, text: &[u8], tokens: &[Token]) -> Result<Option<Refusal>, NoMemory>
     requires placed { PlacedFrom text.now 0 tokens.now }
     requires short { length text.now < 2 ^ 32 }
-    ensures plain { IfOk result (λ found. option_map (λ r. (r.cause, r.place)) found ≡ word_verdict (lexemes text.now tokens.now)) }
+    ensures plain { IfOk result (λ found. option_map (λ r. (r.cause, r.place)) found
+        ≡ word_verdict (lexemes text.now tokens.now)) }
 {
     check(alloc, text, tokens, Whole::Word)
 }
