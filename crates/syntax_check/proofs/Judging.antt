@@ -1,5 +1,5 @@
 -- One lexeme further.
-use Rattle.std.proofs.Common.{ℕ, suc, zero, ◌≡◌, ◌+◌, ◌<◌, ◌∙◌, Bool, true, false, List, [], ◌∷◌, drop, length, get_or, Option, Some, None, Result, Ok, Err, refl, sym, ap, arith}
+use Rattle.std.proofs.Common.{ℕ, suc, zero, ◌≡◌, ◌+◌, ◌<◌, ◌∙◌, Bool, false, List, [], ◌∷◌, drop, length, get_or, Option, Some, None, Ok, Err, refl, sym, ap, arith}
 use Rattle.std.proofs.lemmas.List.{at_drop_more}
 use Rattle.tlb_lexer.specs.declared.Token.{Token}
 use Rattle.tlb_lexer.specs.Cut.{IsPlaced, PlacedFrom}
@@ -32,7 +32,7 @@ pub beyond : (st st_then next : State) (m n : Bounds) (place begun : ℕ) (names
 beyond st st_then next m n place begun names met t why told new e f g h k =
     let stepped : step unbounded (free st) t ≡ Ok next = rw (← e, ← f) h in
     let gone : new ≡ onward (record { bounds = unbounded; state = free st; place = place; begun = begun; names = names; met = Some (why, place) }) t unbounded (Some (why, place)) next =
-        rw (← e, ← f, ← g) k in
+    rw (← e, ← f, ← g) k in
     ap (freed (record { bounds = m; state = st; place = place; begun = begun; names = names; met = met }) t why) stepped
     ∙ ap Ok (onward_free st m unbounded unbounded place begun names met (Some (why, place)) (Some (why, place)) t next ∙ sym gone)
 

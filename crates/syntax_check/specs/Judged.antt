@@ -1,5 +1,5 @@
 -- What the program keeps while it judges, and what it answers.
-use Rattle.std.specs.Prelude.{ℕ, ◌≡◌, Bool, List, [], ◌∷◌, map, length, option_map, Option, Some, None, Result, Ok, Err}
+use Rattle.std.specs.Prelude.{ℕ, Bool, map, option_map, Option, Some, None, Result, Ok, Err}
 use Rattle.tlb_syntax.specs.Written.{standard}
 use Rattle.syntax_check.specs.declared.machine.Cause.{Cause}
 use Rattle.syntax_check.specs.declared.judge.Refusal.{Refusal}

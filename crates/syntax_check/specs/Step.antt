@@ -1,6 +1,10 @@
 -- What the program keeps of the machine's state, and what a step changes in it.
 use Rattle.std.specs.Prelude.{List, [], ◌∷◌, reverse, Option, Some, None, Result, Ok, Err}
+use Rattle.tlb_syntax.specs.Lexeme.{Lexeme}
 use Rattle.tlb_syntax.specs.Grammar.{Bounds}
+use Rattle.tlb_syntax.specs.Written.{unbounded}
+use Rattle.syntax_check.specs.Judge.{free}
+use Rattle.syntax_check.specs.declared.machine.Mode.{Mode}
 use Rattle.syntax_check.specs.declared.machine.Frame.{Frame}
 use Rattle.syntax_check.specs.declared.machine.Cause.{Cause}
 use Rattle.syntax_check.specs.declared.step.Begin.{Begin as ABegin}
@@ -10,7 +14,7 @@ use Rattle.syntax_check.specs.declared.step.Change.{Change}
 use Rattle.syntax_check.specs.declared.step.Change.TheVariants.{Keep, Open, Close}
 use Rattle.syntax_check.specs.declared.step.Move.{Move}
 use Rattle.syntax_check.specs.declared.step.Machine.{Machine}
-use Rattle.syntax_check.specs.Machine.{State, at, Outcome, Begin, leaf, no_leaf, prefix, paren, record_}
+use Rattle.syntax_check.specs.Machine.{State, at, Outcome, step, step_mode, Begin, leaf, no_leaf, prefix, paren, record_}
 
 abbrev pub begin_as : ABegin → Begin
 begin_as Leaf = leaf
@@ -31,6 +35,17 @@ state a = at a.mode a.levels (below a)
 
 abbrev pub bounds_of : Machine → Bounds
 bounds_of a = bounds_as a.limits
+
+-- what a lexeme leads to in a mode
+abbrev pub in_mode : Machine → Mode → Lexeme → Outcome
+in_mode a mode t = step_mode (bounds_of a) mode a.levels (below a) t
+
+-- what a lexeme leads to, and what it would without limits
+abbrev pub stepped : Machine → Lexeme → Outcome
+stepped a t = step (bounds_of a) (state a) t
+
+abbrev pub stepped_freely : Machine → Lexeme → Outcome
+stepped_freely a t = step unbounded (free (state a)) t
 
 -- ---- what a step changes
 

@@ -87,7 +87,11 @@ impl Machine {
         ensures lifted { bounds_of self.new ≡ unbounded }
         ensures freed { state self.new ≡ free (state self.old) }
     {
-        self.limits = Limits { levels: None, items: None, params: None };
+        self.limits = Limits {
+            levels: None,
+            items: None,
+            params: None,
+        };
         self.mode = self.mode.freed();
         self.levels = None;
         free_all(&mut self.open);

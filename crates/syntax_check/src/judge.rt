@@ -1,11 +1,10 @@
 //! The judge of a text's lexemes: the machine, with the counts of declarations.
-ghost use Rattle.std.specs.Prelude.{◌≡◌, ◌+◌, ◌<◌, ◌^◌, ℕ, length, map, IfOk, OnOk, is_ok, Option, Some, None, Ok, Err};
+ghost use Rattle.std.specs.Prelude.{◌≡◌, ◌+◌, ◌<◌, ◌^◌, map, IfOk, OnOk};
 ghost use Rattle.tlb_syntax.specs.Lexeme.{lexeme};
 ghost use Rattle.tlb_syntax.specs.Placed.{IsSpelled};
 ghost use Rattle.tlb_syntax.specs.Written.{standard, unbounded};
-ghost use Rattle.syntax_check.specs.Machine as spec;
 ghost use Rattle.syntax_check.specs.Judge as verdicts;
-ghost use Rattle.syntax_check.specs.Step.{bounds_of, state, below, outcome, behind};
+ghost use Rattle.syntax_check.specs.Step.{bounds_of, state, below, behind, stepped, stepped_freely};
 ghost use Rattle.syntax_check.specs.Judged.{told, told_verdict, stand, goes_to, start_of, may_end};
 
 use crate::machine::{Cause, Mode, Side};
@@ -30,9 +29,13 @@ pub(crate) enum Whole {
 }
 
 const MOST_LEVELS: u32 = 64;
+
 const MOST_ITEMS: u32 = 255;
+
 const MOST_PARAMS: u32 = 8;
+
 const MOST_DECLARATIONS: usize = 4096;
+
 const MOST_OF_ONE_TYPE: usize = 256;
 
 #[derive(Drop)]
@@ -185,7 +188,8 @@ impl<'a> Judge<'a> {
 
     // Keeps the type of the declaration.
     fn keep_name(&mut self, next: Lexeme<'a>) -> Result<(), NoMemory>
-        ensures { OnOk result (stand self.new ≡ record (stand self.old) { names = verdicts.names_with (stand self.old) (lexeme next.entry) }) }
+        ensures { OnOk result (stand self.new
+            ≡ record (stand self.old) { names = verdicts.names_with (stand self.old) (lexeme next.entry) }) }
     {
         match next {
             Lexeme::Name(name) => {
@@ -200,7 +204,9 @@ impl<'a> Judge<'a> {
 
     fn go_on(&mut self, next: Lexeme<'a>, to: Move) -> Result<(), NoMemory>
         requires { self.old.place + 1 < 2 ^ 32 }
-        ensures { OnOk result (stand self.new ≡ verdicts.onward (stand self.old) (lexeme next.entry) (bounds_of self.old.machine) (told_verdict self.old.met) (behind to (below self.old.machine))) }
+        ensures { OnOk result (stand self.new
+            ≡ verdicts.onward (stand self.old) (lexeme next.entry) (bounds_of self.old.machine)
+            (told_verdict self.old.met) (behind to (below self.old.machine))) }
     {
         self.keep_name(next)?;
         if self.machine.is_at_start() {
@@ -222,7 +228,9 @@ impl<'a> Judge<'a> {
     fn go_beyond(&mut self, why: Cause, next: Lexeme<'a>) -> Result<Option<Refusal>, NoMemory>
         requires spelled { IsSpelled next }
         requires room { self.old.place + 1 < 2 ^ 32 }
-        ensures { IfOk result (λ found. verdicts.freed (stand self.old) (lexeme next.entry) why (spec.step unbounded (verdicts.free (state self.old.machine)) (lexeme next.entry)) ≡ goes_to found (stand self.new)) }
+        ensures { IfOk result (λ found. verdicts.freed (stand self.old) (lexeme next.entry) why
+            (stepped_freely self.old.machine (lexeme next.entry))
+            ≡ goes_to found (stand self.new)) }
     {
         let refusal = self.refusal(why);
         self.machine.lift_limits();
@@ -239,7 +247,9 @@ impl<'a> Judge<'a> {
     fn step(&mut self, next: Lexeme<'a>) -> Result<Option<Refusal>, NoMemory>
         requires spelled { IsSpelled next }
         requires room { self.old.place + 1 < 2 ^ 32 }
-        ensures { IfOk result (λ found. verdicts.after_step (stand self.old) (lexeme next.entry) (spec.step (bounds_of self.old.machine) (state self.old.machine) (lexeme next.entry)) ≡ goes_to found (stand self.new)) }
+        ensures { IfOk result (λ found. verdicts.after_step (stand self.old) (lexeme next.entry)
+            (stepped self.old.machine (lexeme next.entry))
+            ≡ goes_to found (stand self.new)) }
     {
         match self.machine.step(next) {
             Ok(to) => {
@@ -255,7 +265,8 @@ impl<'a> Judge<'a> {
     pub(crate) fn advance(&mut self, next: Lexeme<'a>) -> Result<Option<Refusal>, NoMemory>
         requires spelled { IsSpelled next }
         requires room { self.old.place + 1 < 2 ^ 32 }
-        ensures { IfOk result (λ found. verdicts.advance (stand self.old) (lexeme next.entry) ≡ goes_to found (stand self.new)) }
+        ensures { IfOk result (λ found. verdicts.advance (stand self.old) (lexeme next.entry)
+            ≡ goes_to found (stand self.new)) }
     {
         match self.judged_name(next) {
             Some(refusal) => Ok(Some(refusal)),

@@ -21,18 +21,23 @@ mod step;
 mod tests;
 
 pub use judge::Refusal;
-pub use machine::Cause;
-
 use judge::{Judge, Whole};
+pub use machine::Cause;
 use std::alloc::Global;
 use tlb_lexer::Token;
 use tlb_memory::NoMemory;
 use tlb_syntax::lexeme_at;
 
-fn check(alloc: Global, text: &[u8], tokens: &[Token], whole: Whole) -> Result<Option<Refusal>, NoMemory>
+fn check(
+    alloc: Global,
+    text: &[u8],
+    tokens: &[Token],
+    whole: Whole,
+) -> Result<Option<Refusal>, NoMemory>
     requires placed { PlacedFrom text.now 0 tokens.now }
     requires short { length text.now < 2 ^ 32 }
-    ensures { IfOk result (λ found. told_verdict found ≡ go (may_end whole) (stand_at standard (start_of whole)) (lexemes text.now tokens.now)) }
+    ensures { IfOk result (λ found. told_verdict found
+        ≡ go (may_end whole) (stand_at standard (start_of whole)) (lexemes text.now tokens.now)) }
 {
     let mut judge = Judge::new(alloc, whole);
     for token in tokens {
@@ -45,7 +50,11 @@ fn check(alloc: Global, text: &[u8], tokens: &[Token], whole: Whole) -> Result<O
 }
 
 /// The first refusal of the tokens of a text that is to be a schema. None: they write one.
-pub fn check_schema(alloc: Global, text: &[u8], tokens: &[Token]) -> Result<Option<Refusal>, NoMemory>
+pub fn check_schema(
+    alloc: Global,
+    text: &[u8],
+    tokens: &[Token],
+) -> Result<Option<Refusal>, NoMemory>
     requires placed { PlacedFrom text.now 0 tokens.now }
     requires short { length text.now < 2 ^ 32 }
     ensures { IfOk result (λ found. MatchOption found ((s : SchemaView) × Declarations standard (lexemes text.now tokens.now) s × HasFew s)

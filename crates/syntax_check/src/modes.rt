@@ -3,7 +3,7 @@ ghost use Rattle.std.specs.Prelude.{◌≡◌, bytes_eq, codes};
 ghost use Rattle.tlb_syntax.specs.Lexeme.{lexeme};
 ghost use Rattle.tlb_syntax.specs.Placed.{IsSpelled};
 ghost use Rattle.syntax_check.specs.Machine as spec;
-ghost use Rattle.syntax_check.specs.Step.{bounds_of, state, below, outcome};
+ghost use Rattle.syntax_check.specs.Step.{bounds_of, state, below, in_mode, outcome};
 
 use crate::machine::{Cause, Mode, Side, Spot};
 use crate::step::{Machine, Move, begin_of, spend};
@@ -18,7 +18,7 @@ fn is_type(name: &[u8]) -> bool
 
 impl Machine {
     fn starts(&self, next: Lexeme) -> Result<Move, Cause>
-        ensures { spec.step_mode (bounds_of self.now) (Mode.Start) self.now.levels (below self.now) (lexeme next.entry) ≡ outcome result (below self.now) }
+        ensures { in_mode self.now Mode.Start (lexeme next.entry) ≡ outcome result (below self.now) }
     {
         match next {
             Lexeme::Name(_) | Lexeme::Blank => Ok(self.stay(Mode::Headed)),
@@ -28,7 +28,7 @@ impl Machine {
 
     fn headed(&self, next: Lexeme) -> Result<Move, Cause>
         requires { IsSpelled next }
-        ensures { spec.step_mode (bounds_of self.now) (Mode.Headed) self.now.levels (below self.now) (lexeme next.entry) ≡ outcome result (below self.now) }
+        ensures { in_mode self.now Mode.Headed (lexeme next.entry) ≡ outcome result (below self.now) }
     {
         match next {
             Lexeme::BinaryTag(_) | Lexeme::HexTag(_) => {
@@ -43,7 +43,7 @@ impl Machine {
     }
 
     fn brace(&self, items: Option<u32>, next: Lexeme) -> Result<Move, Cause>
-        ensures { spec.step_mode (bounds_of self.now) (Mode.Brace items) self.now.levels (below self.now) (lexeme next.entry) ≡ outcome result (below self.now) }
+        ensures { in_mode self.now (Mode.Brace items) (lexeme next.entry) ≡ outcome result (below self.now) }
     {
         match next {
             Lexeme::Name(_) => Ok(self.stay(Mode::BraceName(items))),
@@ -52,7 +52,7 @@ impl Machine {
     }
 
     fn brace_name(&self, items: Option<u32>, next: Lexeme) -> Result<Move, Cause>
-        ensures { spec.step_mode (bounds_of self.now) (Mode.BraceName items) self.now.levels (below self.now) (lexeme next.entry) ≡ outcome result (below self.now) }
+        ensures { in_mode self.now (Mode.BraceName items) (lexeme next.entry) ≡ outcome result (below self.now) }
     {
         match next {
             Lexeme::Sign(Sign::Colon) => Ok(self.stay(Mode::Kind(items))),
@@ -61,7 +61,7 @@ impl Machine {
     }
 
     fn kind(&self, items: Option<u32>, next: Lexeme) -> Result<Move, Cause>
-        ensures { spec.step_mode (bounds_of self.now) (Mode.Kind items) self.now.levels (below self.now) (lexeme next.entry) ≡ outcome result (below self.now) }
+        ensures { in_mode self.now (Mode.Kind items) (lexeme next.entry) ≡ outcome result (below self.now) }
     {
         match next {
             Lexeme::Sign(Sign::Hash) => Ok(self.stay(Mode::KindEnd(items))),
@@ -77,7 +77,7 @@ impl Machine {
     }
 
     fn kind_end(&self, items: Option<u32>, next: Lexeme) -> Result<Move, Cause>
-        ensures { spec.step_mode (bounds_of self.now) (Mode.KindEnd items) self.now.levels (below self.now) (lexeme next.entry) ≡ outcome result (below self.now) }
+        ensures { in_mode self.now (Mode.KindEnd items) (lexeme next.entry) ≡ outcome result (below self.now) }
     {
         match next {
             Lexeme::Sign(Sign::CloseBrace) => Ok(self.stay(Mode::Items(items))),
@@ -86,7 +86,7 @@ impl Machine {
     }
 
     fn item_name(&self, items: Option<u32>, next: Lexeme) -> Result<Move, Cause>
-        ensures { spec.step_mode (bounds_of self.now) (Mode.ItemName items) self.now.levels (below self.now) (lexeme next.entry) ≡ outcome result (below self.now) }
+        ensures { in_mode self.now (Mode.ItemName items) (lexeme next.entry) ≡ outcome result (below self.now) }
     {
         match next {
             Lexeme::Sign(Sign::Colon) => {
@@ -97,7 +97,7 @@ impl Machine {
     }
 
     fn item_blank(&self, items: Option<u32>, next: Lexeme) -> Result<Move, Cause>
-        ensures { spec.step_mode (bounds_of self.now) (Mode.ItemBlank items) self.now.levels (below self.now) (lexeme next.entry) ≡ outcome result (below self.now) }
+        ensures { in_mode self.now (Mode.ItemBlank items) (lexeme next.entry) ≡ outcome result (below self.now) }
     {
         match next {
             Lexeme::Sign(Sign::Colon) => {
@@ -108,7 +108,7 @@ impl Machine {
     }
 
     fn bit(&self, items: Option<u32>, next: Lexeme) -> Result<Move, Cause>
-        ensures { spec.step_mode (bounds_of self.now) (Mode.Bit items) self.now.levels (below self.now) (lexeme next.entry) ≡ outcome result (below self.now) }
+        ensures { in_mode self.now (Mode.Bit items) (lexeme next.entry) ≡ outcome result (below self.now) }
     {
         match next {
             Lexeme::Number(Some(place)) => {
@@ -123,7 +123,7 @@ impl Machine {
     }
 
     fn bit_end(&self, items: Option<u32>, next: Lexeme) -> Result<Move, Cause>
-        ensures { spec.step_mode (bounds_of self.now) (Mode.BitEnd items) self.now.levels (below self.now) (lexeme next.entry) ≡ outcome result (below self.now) }
+        ensures { in_mode self.now (Mode.BitEnd items) (lexeme next.entry) ≡ outcome result (below self.now) }
     {
         match next {
             Lexeme::Sign(Sign::Question) => {
@@ -134,7 +134,7 @@ impl Machine {
     }
 
     fn named_result(&self, next: Lexeme) -> Result<Move, Cause>
-        ensures { spec.step_mode (bounds_of self.now) (Mode.Result) self.now.levels (below self.now) (lexeme next.entry) ≡ outcome result (below self.now) }
+        ensures { in_mode self.now Mode.Result (lexeme next.entry) ≡ outcome result (below self.now) }
     {
         match next {
             Lexeme::Name(_) => Ok(self.stay(Mode::Params(self.limits.params))),
@@ -143,7 +143,7 @@ impl Machine {
     }
 
     fn params(&self, params: Option<u32>, next: Lexeme) -> Result<Move, Cause>
-        ensures { spec.step_mode (bounds_of self.now) (Mode.Params params) self.now.levels (below self.now) (lexeme next.entry) ≡ outcome result (below self.now) }
+        ensures { in_mode self.now (Mode.Params params) (lexeme next.entry) ≡ outcome result (below self.now) }
     {
         match begin_of(next) {
             Some(begin) => {
@@ -155,7 +155,8 @@ impl Machine {
     }
 
     fn ends_params(&self, next: Lexeme) -> Result<Move, Cause>
-        ensures { spec.params (bounds_of self.now) None None self.now.levels (below self.now) (lexeme next.entry) ≡ outcome result (below self.now) }
+        ensures { spec.params (bounds_of self.now) None None self.now.levels (below self.now) (lexeme next.entry)
+            ≡ outcome result (below self.now) }
     {
         match next {
             Lexeme::Sign(Sign::Semicolon) => Ok(self.stay(Mode::Start)),
@@ -166,7 +167,8 @@ impl Machine {
     /// Where the next lexeme leads.
     pub(crate) fn step(&self, next: Lexeme) -> Result<Move, Cause>
         requires { IsSpelled next }
-        ensures { spec.step (bounds_of self.now) (state self.now) (lexeme next.entry) ≡ outcome result (below self.now) }
+        ensures { spec.step (bounds_of self.now) (state self.now) (lexeme next.entry)
+            ≡ outcome result (below self.now) }
     {
         match self.mode {
             Mode::Start => self.starts(next),

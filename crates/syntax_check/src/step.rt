@@ -1,8 +1,7 @@
 //! One step of the machine.
-ghost use Rattle.std.specs.Prelude.{◌≡◌, option_map, IsTrue, Option, Some, None};
-ghost use Rattle.tlb_syntax.specs.Lexeme.{lexeme};
+ghost use Rattle.std.specs.Prelude.{◌≡◌, option_map, Ok};
+ghost use Rattle.tlb_syntax.specs.Lexeme.{lexeme, sign as spelled};
 ghost use Rattle.syntax_check.specs.Machine as spec;
-ghost use Rattle.tlb_syntax.specs.Lexeme.{sign as spelled};
 ghost use Rattle.syntax_check.specs.Step.{begin_as, bounds_of, below, innermost, outcome};
 
 use crate::machine::{Cause, Frame, Mode, Side, Spot};
@@ -108,7 +107,10 @@ fn is_width(sign: Sign) -> bool
 fn compares(sign: Sign) -> bool
     ensures { result ≡ spec.compares sign }
 {
-    matches!(sign, Sign::Equal | Sign::Less | Sign::LessEqual | Sign::Greater | Sign::GreaterEqual)
+    matches!(
+        sign,
+        Sign::Equal | Sign::Less | Sign::LessEqual | Sign::Greater | Sign::GreaterEqual
+    )
 }
 
 // Behind a term that stands there.
@@ -127,14 +129,19 @@ fn given_to(spot: Spot) -> Mode
 impl Machine {
     // The brackets stay as they are.
     pub(crate) fn stay(&self, mode: Mode) -> Move
-        ensures { (outcome (Ok result) (below self.now)) ≡ Ok (spec.at mode self.now.levels (below self.now)) }
+        ensures { outcome (Ok result) (below self.now) ≡ Ok (spec.at mode self.now.levels (below self.now)) }
     {
-        Move { mode, levels: self.levels, change: Change::Keep }
+        Move {
+            mode,
+            levels: self.levels,
+            change: Change::Keep,
+        }
     }
 
     // A term begins, and so many levels may be opened in it.
     pub(crate) fn begins(&self, begin: Begin, spot: Spot, inner: Option<u32>) -> Result<Move, Cause>
-        ensures { spec.begins (bounds_of self.now) (begin_as begin) spot self.now.levels inner (below self.now) ≡ outcome result (below self.now) }
+        ensures { spec.begins (bounds_of self.now) (begin_as begin) spot self.now.levels inner (below self.now)
+            ≡ outcome result (below self.now) }
     {
         match begin {
             Begin::Leaf => Ok(self.stay(given_to(spot))),
@@ -162,8 +169,14 @@ impl Machine {
         }
     }
 
-    pub(crate) fn term(&self, begin: Option<Begin>, spot: Spot, inner: Option<u32>) -> Result<Move, Cause>
-        ensures { spec.term (bounds_of self.now) (option_map begin_as begin) spot self.now.levels inner (below self.now) ≡ outcome result (below self.now) }
+    pub(crate) fn term(
+        &self,
+        begin: Option<Begin>,
+        spot: Spot,
+        inner: Option<u32>,
+    ) -> Result<Move, Cause>
+        ensures { spec.term (bounds_of self.now) (option_map begin_as begin) spot self.now.levels inner (below self.now)
+            ≡ outcome result (below self.now) }
     {
         match begin {
             Some(begin) => self.begins(begin, spot, inner),
@@ -180,7 +193,8 @@ impl Machine {
     // ---- sums
 
     fn closes_paren(&self) -> Result<Move, Cause>
-        ensures { spec.ends_sum Side.Paren self.now.levels (below self.now) (spelled Sign.CloseParen) ≡ outcome result (below self.now) }
+        ensures { spec.ends_sum Side.Paren self.now.levels (below self.now) (spelled Sign.CloseParen)
+            ≡ outcome result (below self.now) }
     {
         match self.innermost() {
             Some(Frame::Paren(spot, levels)) => Ok(Move {
@@ -193,7 +207,8 @@ impl Machine {
     }
 
     fn ends_sum(&self, side: Side, next: Lexeme) -> Result<Move, Cause>
-        ensures { spec.ends_sum side self.now.levels (below self.now) (lexeme next.entry) ≡ outcome result (below self.now) }
+        ensures { spec.ends_sum side self.now.levels (below self.now) (lexeme next.entry)
+            ≡ outcome result (below self.now) }
     {
         match (side, next) {
             (Side::Paren, Lexeme::Sign(Sign::CloseParen)) => self.closes_paren(),
@@ -204,14 +219,17 @@ impl Machine {
                     Err(Cause::Syntax)
                 }
             }
-            (Side::Right(items), Lexeme::Sign(Sign::CloseBrace)) => Ok(self.stay(Mode::Items(items))),
+            (Side::Right(items), Lexeme::Sign(Sign::CloseBrace)) => Ok(self.stay(Mode::Items(
+                items,
+            ))),
             _ => Err(Cause::Syntax),
         }
     }
 
     // Behind a whole operand.
     pub(crate) fn operated(&self, side: Side, starred: bool, next: Lexeme) -> Result<Move, Cause>
-        ensures { spec.operated side starred self.now.levels (below self.now) (lexeme next.entry) ≡ outcome result (below self.now) }
+        ensures { spec.operated side starred self.now.levels (below self.now) (lexeme next.entry)
+            ≡ outcome result (below self.now) }
     {
         match next {
             Lexeme::Sign(Sign::Asterisk) => {
@@ -228,7 +246,9 @@ impl Machine {
 
     // Behind a name and maybe arguments: a further argument, or else the name is a whole operand.
     pub(crate) fn applied(&self, side: Side, starred: bool, next: Lexeme) -> Result<Move, Cause>
-        ensures { spec.applied (bounds_of self.now) (spec.begin_of (lexeme next.entry)) side starred self.now.levels (below self.now) (lexeme next.entry) ≡ outcome result (below self.now) }
+        ensures { spec.applied (bounds_of self.now) (spec.begin_of (lexeme next.entry)) side starred
+            self.now.levels (below self.now) (lexeme next.entry)
+            ≡ outcome result (below self.now) }
     {
         match begin_of(next) {
             Some(begin) => self.begins(begin, Spot::Argument(side, starred), self.levels),
@@ -238,7 +258,8 @@ impl Machine {
 
     // Where an operand is wanted.
     pub(crate) fn apply(&self, side: Side, starred: bool, next: Lexeme) -> Result<Move, Cause>
-        ensures { spec.apply (bounds_of self.now) side starred self.now.levels (below self.now) (lexeme next.entry) ≡ outcome result (below self.now) }
+        ensures { spec.apply (bounds_of self.now) side starred self.now.levels (below self.now) (lexeme next.entry)
+            ≡ outcome result (below self.now) }
     {
         match next {
             Lexeme::Name(_) => Ok(self.stay(Mode::Applied(side, starred))),
@@ -246,7 +267,11 @@ impl Machine {
                 if is_width(sign) {
                     Ok(self.stay(Mode::Term(Spot::Width(side, starred), self.levels)))
                 } else {
-                    self.term(begin_of_sign(sign), Spot::Operand(side, starred), self.levels)
+                    self.term(
+                        begin_of_sign(sign),
+                        Spot::Operand(side, starred),
+                        self.levels,
+                    )
                 }
             }
             _ => self.term(begin_of(next), Spot::Operand(side, starred), self.levels),
@@ -257,7 +282,8 @@ impl Machine {
 
     // The limit on levels is judged before that on items.
     fn bare_item(&self, begin: Begin, items: Option<u32>) -> Result<Move, Cause>
-        ensures { spec.bare_item (bounds_of self.now) (begin_as begin) items self.now.levels (below self.now) ≡ outcome result (below self.now) }
+        ensures { spec.bare_item (bounds_of self.now) (begin_as begin) items self.now.levels (below self.now)
+            ≡ outcome result (below self.now) }
     {
         opens(begin, self.levels)?;
         let items = spend(items, Cause::TooManyFields)?;
@@ -265,7 +291,8 @@ impl Machine {
     }
 
     fn closes_record(&self) -> Result<Move, Cause>
-        ensures { spec.ends_items self.now.levels (below self.now) (spelled Sign.CloseBracket) ≡ outcome result (below self.now) }
+        ensures { spec.ends_items self.now.levels (below self.now) (spelled Sign.CloseBracket)
+            ≡ outcome result (below self.now) }
     {
         match self.innermost() {
             Some(Frame::Record(spot, levels)) => Ok(Move {
@@ -278,7 +305,8 @@ impl Machine {
     }
 
     fn ends_declared(&self) -> Result<Move, Cause>
-        ensures { spec.ends_items self.now.levels (below self.now) (spelled Sign.Equal) ≡ outcome result (below self.now) }
+        ensures { spec.ends_items self.now.levels (below self.now) (spelled Sign.Equal)
+            ≡ outcome result (below self.now) }
     {
         match self.innermost() {
             Some(_) => Err(Cause::Syntax),
@@ -288,7 +316,8 @@ impl Machine {
 
     // The end of a record.
     fn ends_items(&self, next: Lexeme) -> Result<Move, Cause>
-        ensures { spec.ends_items self.now.levels (below self.now) (lexeme next.entry) ≡ outcome result (below self.now) }
+        ensures { spec.ends_items self.now.levels (below self.now) (lexeme next.entry)
+            ≡ outcome result (below self.now) }
     {
         match next {
             Lexeme::Sign(Sign::Equal) => self.ends_declared(),
@@ -298,7 +327,9 @@ impl Machine {
     }
 
     fn bare_or_end(&self, items: Option<u32>, next: Lexeme) -> Result<Move, Cause>
-        ensures { spec.bare_or_end (bounds_of self.now) (spec.begin_of (lexeme next.entry)) items self.now.levels (below self.now) (lexeme next.entry) ≡ outcome result (below self.now) }
+        ensures { spec.bare_or_end (bounds_of self.now) (spec.begin_of (lexeme next.entry)) items
+            self.now.levels (below self.now) (lexeme next.entry)
+            ≡ outcome result (below self.now) }
     {
         match begin_of(next) {
             Some(begin) => self.bare_item(begin, items),
@@ -308,7 +339,8 @@ impl Machine {
 
     // Between items.
     pub(crate) fn items(&self, items: Option<u32>, next: Lexeme) -> Result<Move, Cause>
-        ensures { spec.items (bounds_of self.now) items self.now.levels (below self.now) (lexeme next.entry) ≡ outcome result (below self.now) }
+        ensures { spec.items (bounds_of self.now) items self.now.levels (below self.now) (lexeme next.entry)
+            ≡ outcome result (below self.now) }
     {
         match next {
             Lexeme::Name(_) => {
@@ -329,7 +361,8 @@ impl Machine {
 
     // Behind the first term of a field.
     pub(crate) fn typed(&self, items: Option<u32>, next: Lexeme) -> Result<Move, Cause>
-        ensures { spec.typed (bounds_of self.now) items self.now.levels (below self.now) (lexeme next.entry) ≡ outcome result (below self.now) }
+        ensures { spec.typed (bounds_of self.now) items self.now.levels (below self.now) (lexeme next.entry)
+            ≡ outcome result (below self.now) }
     {
         match next {
             Lexeme::Sign(Sign::Question) => {

@@ -140,7 +140,11 @@ fn schemas_are_refused_where_nothing_goes_on(rt: HostRuntime) -> Result<(), Fail
     ];
     for (text, place) in rows {
         let expected = Some((Cause::Syntax, place));
-        assert_eq!(rt; schema_verdict(rt.alloc(), text)?, expected, "place {place}");
+        assert_eq!(rt;
+            schema_verdict(rt.alloc(), text)?,
+            expected,
+            "place {place}"
+        );
     }
     Ok(())
 }
@@ -196,52 +200,140 @@ type Parts<'a> = &'a [(&'a [u8], u32)];
 fn limits_are_met_one_past_them(rt: HostRuntime) -> Result<(), Fail> {
     let rows: [(Parts, Verdict); 36] = [
         // 64 levels and 65
-        (&[(b"a x:", 1), (b"(", 64), (b"y", 1), (b")", 64), (b"=T;", 1)], None),
+        (
+            &[(b"a x:", 1), (b"(", 64), (b"y", 1), (b")", 64), (b"=T;", 1)],
+            None,
+        ),
         (&[(b"a x:", 1), (b"[", 64), (b"]", 64), (b"=T;", 1)], None),
         (&[(b"a x:", 1), (b"^", 64), (b"Cell = T;", 1)], None),
         (&[(b"a x:", 1), (b"~", 64), (b"y = T;", 1)], None),
-        (&[(b"a x:", 1), (b"(", 65), (b"y", 1), (b")", 65), (b"=T;", 1)], Some((Cause::DeepType, 67))),
-        (&[(b"a x:", 1), (b"[", 65), (b"]", 65), (b"=T;", 1)], Some((Cause::DeepType, 67))),
-        (&[(b"a$_ x:", 1), (b"^", 65), (b"Cell = T;", 1)], Some((Cause::DeepType, 68))),
-        (&[(b"a x:", 1), (b"~", 65), (b"y = T;", 1)], Some((Cause::DeepType, 67))),
-        (&[(b"a x:", 1), (b"([^~", 17), (b"y", 1)], Some((Cause::DeepType, 67))),
-        (&[(b"a = T ", 1), (b"^", 65), (b"y;", 1)], Some((Cause::DeepType, 67))),
+        (
+            &[(b"a x:", 1), (b"(", 65), (b"y", 1), (b")", 65), (b"=T;", 1)],
+            Some((Cause::DeepType, 67)),
+        ),
+        (
+            &[(b"a x:", 1), (b"[", 65), (b"]", 65), (b"=T;", 1)],
+            Some((Cause::DeepType, 67)),
+        ),
+        (
+            &[(b"a$_ x:", 1), (b"^", 65), (b"Cell = T;", 1)],
+            Some((Cause::DeepType, 68)),
+        ),
+        (
+            &[(b"a x:", 1), (b"~", 65), (b"y = T;", 1)],
+            Some((Cause::DeepType, 67)),
+        ),
+        (
+            &[(b"a x:", 1), (b"([^~", 17), (b"y", 1)],
+            Some((Cause::DeepType, 67)),
+        ),
+        (
+            &[(b"a = T ", 1), (b"^", 65), (b"y;", 1)],
+            Some((Cause::DeepType, 67)),
+        ),
         // levels that are closed again
         (&[(b"a", 1), (b" (x) ^y [z]", 66), (b"=T;", 1)], None),
         // behind a limit the text ends too soon, or nothing goes on
         (&[(b"a x:", 1), (b"^", 65)], Some((Cause::DeepType, 67))),
-        (&[(b"a x:", 1), (b"^", 65), (b"=T;", 1)], Some((Cause::DeepType, 67))),
-        (&[(b"a x:", 1), (b"^", 65), (b"y = 3;", 1)], Some((Cause::DeepType, 67))),
+        (
+            &[(b"a x:", 1), (b"^", 65), (b"=T;", 1)],
+            Some((Cause::DeepType, 67)),
+        ),
+        (
+            &[(b"a x:", 1), (b"^", 65), (b"y = 3;", 1)],
+            Some((Cause::DeepType, 67)),
+        ),
         // 255 items and 256
         (&[(b"a", 1), (b" x", 255), (b"=T;", 1)], None),
-        (&[(b"a", 1), (b" x", 256), (b"=T;", 1)], Some((Cause::TooManyFields, 256))),
-        (&[(b"a", 1), (b" _:x", 256), (b"=T;", 1)], Some((Cause::TooManyFields, 766))),
-        (&[(b"a", 1), (b"{x:#}", 256), (b"=T;", 1)], Some((Cause::TooManyFields, 1276))),
-        (&[(b"a", 1), (b"(x)", 256), (b"=T;", 1)], Some((Cause::TooManyFields, 766))),
-        (&[(b"a[", 1), (b" x", 256), (b"]=T;", 1)], Some((Cause::TooManyFields, 257))),
-        (&[(b"a", 1), (b" x", 255), (b" 99999999999", 1)], Some((Cause::TooManyFields, 256))),
-        (&[(b"a", 1), (b" x", 254), (b" 99999999999", 1)], Some((Cause::Syntax, 255))),
+        (
+            &[(b"a", 1), (b" x", 256), (b"=T;", 1)],
+            Some((Cause::TooManyFields, 256)),
+        ),
+        (
+            &[(b"a", 1), (b" _:x", 256), (b"=T;", 1)],
+            Some((Cause::TooManyFields, 766)),
+        ),
+        (
+            &[(b"a", 1), (b"{x:#}", 256), (b"=T;", 1)],
+            Some((Cause::TooManyFields, 1276)),
+        ),
+        (
+            &[(b"a", 1), (b"(x)", 256), (b"=T;", 1)],
+            Some((Cause::TooManyFields, 766)),
+        ),
+        (
+            &[(b"a[", 1), (b" x", 256), (b"]=T;", 1)],
+            Some((Cause::TooManyFields, 257)),
+        ),
+        (
+            &[(b"a", 1), (b" x", 255), (b" 99999999999", 1)],
+            Some((Cause::TooManyFields, 256)),
+        ),
+        (
+            &[(b"a", 1), (b" x", 254), (b" 99999999999", 1)],
+            Some((Cause::Syntax, 255)),
+        ),
         // both limits at one place
-        (&[(b"a", 1), (b"[", 64), (b" x", 255), (b"^y", 1)], Some((Cause::DeepType, 320))),
-        (&[(b"a", 1), (b"[", 64), (b" x", 256)], Some((Cause::TooManyFields, 320))),
-        (&[(b"a", 1), (b"[", 63), (b" x", 255), (b"^y", 1)], Some((Cause::TooManyFields, 319))),
+        (
+            &[(b"a", 1), (b"[", 64), (b" x", 255), (b"^y", 1)],
+            Some((Cause::DeepType, 320)),
+        ),
+        (
+            &[(b"a", 1), (b"[", 64), (b" x", 256)],
+            Some((Cause::TooManyFields, 320)),
+        ),
+        (
+            &[(b"a", 1), (b"[", 63), (b" x", 255), (b"^y", 1)],
+            Some((Cause::TooManyFields, 319)),
+        ),
         // eight parameters and nine
         (&[(b"a = T", 1), (b" x", 8), (b";", 1)], None),
-        (&[(b"a = T", 1), (b" x", 9), (b";", 1)], Some((Cause::TooManyParams, 11))),
-        (&[(b"a = T", 1), (b" x", 8), (b" 99999999999;", 1)], Some((Cause::TooManyParams, 11))),
-        (&[(b"a = T", 1), (b" x", 7), (b" 99999999999;", 1)], Some((Cause::Syntax, 10))),
-        (&[(b"a = T", 1), (b"(x)", 9), (b";", 1)], Some((Cause::TooManyParams, 27))),
+        (
+            &[(b"a = T", 1), (b" x", 9), (b";", 1)],
+            Some((Cause::TooManyParams, 11)),
+        ),
+        (
+            &[(b"a = T", 1), (b" x", 8), (b" 99999999999;", 1)],
+            Some((Cause::TooManyParams, 11)),
+        ),
+        (
+            &[(b"a = T", 1), (b" x", 7), (b" 99999999999;", 1)],
+            Some((Cause::Syntax, 10)),
+        ),
+        (
+            &[(b"a = T", 1), (b"(x)", 9), (b";", 1)],
+            Some((Cause::TooManyParams, 27)),
+        ),
         // 256 declarations of one type and 257
         (&[(b"a = T;", 256)], None),
-        (&[(b"a = T;", 257)], Some((Cause::TooManyConstructors, 1024))),
-        (&[(b"a = T;", 256), (b"b$_ x:", 1), (b"^", 65), (b"y = T;", 1)], Some((Cause::TooManyConstructors, 1024))),
-        (&[(b"a = T;", 256), (b"b$_ x:", 1), (b"^", 65), (b"y = U;", 1)], Some((Cause::DeepType, 1092))),
-        (&[(b"a = T;", 256), (b"b$_ x:", 1), (b"^", 65), (b"=", 1)], Some((Cause::DeepType, 1092))),
-        (&[(b"a = T;", 256), (b"b x.32?", 1), (b"y = T;", 1)], Some((Cause::Syntax, 1027))),
+        (
+            &[(b"a = T;", 257)],
+            Some((Cause::TooManyConstructors, 1024)),
+        ),
+        (
+            &[(b"a = T;", 256), (b"b$_ x:", 1), (b"^", 65), (b"y = T;", 1)],
+            Some((Cause::TooManyConstructors, 1024)),
+        ),
+        (
+            &[(b"a = T;", 256), (b"b$_ x:", 1), (b"^", 65), (b"y = U;", 1)],
+            Some((Cause::DeepType, 1092)),
+        ),
+        (
+            &[(b"a = T;", 256), (b"b$_ x:", 1), (b"^", 65), (b"=", 1)],
+            Some((Cause::DeepType, 1092)),
+        ),
+        (
+            &[(b"a = T;", 256), (b"b x.32?", 1), (b"y = T;", 1)],
+            Some((Cause::Syntax, 1027)),
+        ),
     ];
     for (row, (parts, expected)) in rows.iter().enumerate() {
         let text = joined(rt.alloc(), parts)?;
-        assert_eq!(rt; schema_verdict(rt.alloc(), text.as_slice())?, *expected, "row {row}");
+        assert_eq!(rt;
+            schema_verdict(rt.alloc(), text.as_slice())?,
+            *expected,
+            "row {row}"
+        );
     }
     Ok(())
 }
@@ -267,8 +359,14 @@ fn a_schema_has_4096_declarations(rt: HostRuntime) -> Result<(), Fail> {
 #[test]
 fn long_texts_need_no_stack(rt: HostRuntime) -> Result<(), Fail> {
     let schemas: [(Parts, Verdict); 4] = [
-        (&[(b"a x:", 1), (b"(", 500_000)], Some((Cause::DeepType, 67))),
-        (&[(b"a x:", 1), (b"^", 500_000)], Some((Cause::DeepType, 67))),
+        (
+            &[(b"a x:", 1), (b"(", 500_000)],
+            Some((Cause::DeepType, 67)),
+        ),
+        (
+            &[(b"a x:", 1), (b"^", 500_000)],
+            Some((Cause::DeepType, 67)),
+        ),
         (&[(b"a", 1), (b"[", 500_000)], Some((Cause::DeepType, 65))),
         (&[(b"a (x", 1), (b"+x", 500_000), (b")=T;", 1)], None),
     ];
@@ -278,8 +376,14 @@ fn long_texts_need_no_stack(rt: HostRuntime) -> Result<(), Fail> {
     }
     let words: [(Parts, Verdict); 4] = [
         (&[(b"(", 64), (b"x", 1), (b")", 64)], None),
-        (&[(b"(", 65), (b"x", 1), (b")", 65)], Some((Cause::DeepType, 64))),
-        (&[(b"[", 1), (b" x", 256), (b"]", 1)], Some((Cause::TooManyFields, 256))),
+        (
+            &[(b"(", 65), (b"x", 1), (b")", 65)],
+            Some((Cause::DeepType, 64)),
+        ),
+        (
+            &[(b"[", 1), (b" x", 256), (b"]", 1)],
+            Some((Cause::TooManyFields, 256)),
+        ),
         (&[(b"x", 1), (b"+x", 500_000)], None),
     ];
     for (parts, expected) in words {

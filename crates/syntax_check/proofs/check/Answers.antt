@@ -1,4 +1,4 @@
-use Rattle.std.proofs.Common.{◌≡◌, ◌+◌, ◌∙◌, sym, ap, Ok, arith}
+use Rattle.std.proofs.Common.{◌≡◌, ◌+◌, ◌∙◌, ap, Ok, arith}
 use Rattle.tlb_lexer.specs.declared.TokenKind.TheVariants.{Name}
 use Rattle.tlb_lexer.specs.declared.Token.{Token}
 use Rattle.tlb_syntax.specs.Lexeme.{lexeme}
@@ -30,11 +30,11 @@ pub loop-token-preserved : goal.loop-token-preserved
 unfolding no_token
 loop-token-preserved c =
     let further : advance (stand c.loop-token.judge) (lexeme c.lexeme_at.result) ≡ Ok (stand c.advance.new.self) =
-        not_refused (stand c.loop-token.judge) (stand c.advance.new.self) (lexeme c.lexeme_at.result) c.in_ok-refused.refused c.in_ok-refused.ensures c.if-is_some.ensures in
+    not_refused (stand c.loop-token.judge) (stand c.advance.new.self) (lexeme c.lexeme_at.result) c.in_ok-refused.refused c.in_ok-refused.ensures c.if-is_some.ensures in
     record {
       place = advance_place (stand c.loop-token.judge) (stand c.advance.new.self) (lexeme c.lexeme_at.result) further ∙ ap (λ n. n + 1) c.loop-token.invariant.place;
       verdict =
           goes_on (may_end c.args.whole) (stand c.loop-token.judge) (stand c.advance.new.self) c.args.text.now c.args.tokens.now c.loop-token.token-index no_token
-              (lexeme c.lexeme_at.result) c.loop-token-test.true c.lexeme_at.ensures.meaning further
-          ∙ c.loop-token.invariant.verdict
+          (lexeme c.lexeme_at.result) c.loop-token-test.true c.lexeme_at.ensures.meaning further
+          ∙ c.loop-token.invariant.verdict;
     }

@@ -1,5 +1,4 @@
-use Rattle.std.proofs.Common.{ℕ, ◌≡◌, drop, length}
-use Rattle.tlb_lexer.specs.Cut.{PlacedFrom}
+use Rattle.std.proofs.Common.{◌≡◌, drop}
 use Rattle.tlb_syntax.specs.Lexeme.{lexemes}
 use Rattle.tlb_syntax.specs.Written.{standard}
 use Rattle.syntax_check.specs.Judge.{go, stand_at}
@@ -9,5 +8,5 @@ use Rattle.syntax_check.proofs.check.Given as goal
 abbrev pub invariant-loop-token : goal.invariant-loop-token
 invariant-loop-token l = record {
   place : l.judge.place ≡ l.token-index;
-  verdict : go (may_end l.whole) (stand l.judge) (lexemes l.text (drop l.token-index l.tokens)) ≡ go (may_end l.whole) (stand_at standard (start_of l.whole)) (lexemes l.text l.tokens)
+  verdict : go (may_end l.whole) (stand l.judge) (lexemes l.text (drop l.token-index l.tokens)) ≡ go (may_end l.whole) (stand_at standard (start_of l.whole)) (lexemes l.text l.tokens);
 }

@@ -1,4 +1,4 @@
-use Rattle.std.proofs.Common.{◌≡◌, ◌∙◌, sym, ap, inl, inr, List, ℕ, Option, Some, None, Ok, Err, Bool, true, false, refl}
+use Rattle.std.proofs.Common.{◌≡◌, ◌∙◌, sym, ap, inl, inr, List, ℕ, Option, Some, None, Ok, Err, true, false, refl}
 use Rattle.std.specs.Bool.{IsTrue}
 use Rattle.std.specs.Option.{IsSome}
 use Rattle.tlb_syntax.specs.Lexeme.{Lexeme, lexeme, tag}
@@ -29,10 +29,10 @@ pub returns-then-has_tag_bits : goal.returns-then-has_tag_bits
 returns-then-has_tag_bits c = elim c.in-BinaryTag.is [
   | inl p ↦ fit_at (bounds_of c.args.self.now) _ _ (lexeme c.args.next) _ (ap lexeme p.1) (c.if-has_tag_bits.ensures.0 refl) ∙ sym c.stay.ensures
   | inr p ↦ fit_at (bounds_of c.args.self.now) _ _ (lexeme c.args.next) _ (ap lexeme p.1) (c.if-has_tag_bits.ensures.0 refl) ∙ sym c.stay.ensures
-  ]
+]
 
 pub returns-else-has_tag_bits : goal.returns-else-has_tag_bits
 returns-else-has_tag_bits c = elim c.in-BinaryTag.is [
   | inl p ↦ unfit_at (bounds_of c.args.self.now) _ _ (lexeme c.args.next) _ (ap lexeme p.1) c.if-has_tag_bits.ensures.1
   | inr p ↦ unfit_at (bounds_of c.args.self.now) _ _ (lexeme c.args.next) _ (ap lexeme p.1) c.if-has_tag_bits.ensures.1
-  ]
+]
