@@ -5,3 +5,4 @@ pub mod Grammar
 pub mod Written
 pub mod Placed
 pub mod Tags
+pub mod Text
