@@ -6,3 +6,4 @@ pub mod Written
 pub mod Placed
 pub mod Tags
 pub mod Text
+pub mod Limits

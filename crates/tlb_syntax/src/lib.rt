@@ -3,6 +3,7 @@
 //! definitions fix it.
 #![tactic(auto)]
 
+pub mod laws;
 mod lexeme;
 mod sign;
 #[cfg(test)]
