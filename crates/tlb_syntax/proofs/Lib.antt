@@ -1,2 +1,5 @@
 mod Numbers
 mod TagBits
+mod Texts
+pub mod Limited
+mod OfText

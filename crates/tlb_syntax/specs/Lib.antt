@@ -5,3 +5,5 @@ pub mod Grammar
 pub mod Written
 pub mod Placed
 pub mod Tags
+pub mod Text
+pub mod Limits

@@ -3,14 +3,19 @@
 //! definitions fix it.
 #![tactic(auto)]
 
+pub mod laws;
 mod lexeme;
 mod sign;
 #[cfg(test)]
 mod tests;
+mod text;
+#[cfg(test)]
+mod text_tests;
 mod tree;
 
 pub use bit_slice::{BitString, Name};
 pub use lexeme::{Lexeme, has_tag_bits, lexeme_at, tag_bits};
 pub use nat_solver::Op;
 pub use sign::Sign;
+pub use text::{canonical, show};
 pub use tree::{Constructor, Expr, FieldType, Item, ParamKind, Schema, Tag};

@@ -1,0 +1,24 @@
+//! Laws of the limits: functions of no parameters, whose contracts speak of the definitions alone.
+ghost use Rattle.std.specs.Prelude.{ℕ, List};
+ghost use Rattle.tlb_lexer.specs.Cut.{Cut};
+ghost use Rattle.tlb_lexer.specs.declared.Token.{Token};
+ghost use Rattle.tlb_syntax.specs.Grammar.{Declarations};
+ghost use Rattle.tlb_syntax.specs.Lexeme.{Lexeme, lexemes};
+ghost use Rattle.tlb_syntax.specs.Limits.{AreOfText, IsWithinLimits};
+ghost use Rattle.tlb_syntax.specs.Tree.{SchemaView};
+ghost use Rattle.tlb_syntax.specs.Written.{HasFew, Writes, standard};
+
+/// Lexemes of tokens write only schemas within the limits, where constructors are few.
+pub fn productions_keep_limits()
+    ensures { (ls : List Lexeme) (s : SchemaView) → Declarations standard ls s → AreOfText ls → HasFew s → IsWithinLimits s }
+{}
+
+/// The tokens of a cut are such lexemes.
+pub fn cuts_give_lexemes()
+    ensures { (text : List ℕ) (tokens : List Token) → Cut text tokens → AreOfText (lexemes text tokens) }
+{}
+
+/// A schema that a text writes is within the limits.
+pub fn written_within_limits()
+    ensures { (text : List ℕ) (s : SchemaView) → Writes text s → IsWithinLimits s }
+{}
