@@ -340,13 +340,14 @@ fn limits_are_met_one_past_them(rt: HostRuntime) -> Result<(), Fail> {
 
 #[test]
 fn a_schema_has_4096_declarations(rt: HostRuntime) -> Result<(), Fail> {
+    // names of 127 bytes that differ in their last
+    let front = joined(rt.alloc(), &[(b"x=", 1), (b"n", 126)])?;
     let mut text = Vec::new(rt.alloc());
     for kind in 0..16u8 {
-        let name = [b'T', b'a' + kind];
+        let end = [b'a' + kind, b';'];
         for _time in 0..256 {
-            text.extend_from_slice(b"x=")?;
-            text.extend_from_slice(&name)?;
-            text.extend_from_slice(b";")?;
+            text.extend_from_slice(front.as_slice())?;
+            text.extend_from_slice(&end)?;
         }
     }
     assert_eq!(rt; schema_verdict(rt.alloc(), text.as_slice())?, None);
