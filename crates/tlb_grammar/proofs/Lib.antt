@@ -1,2 +1,3 @@
 pub mod Views
+pub mod Goes
 pub mod Runs

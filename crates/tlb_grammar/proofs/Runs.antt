@@ -28,183 +28,9 @@ use Rattle.tlb_grammar.specs.declared.state.Mode.{Mode}
 use Rattle.tlb_grammar.specs.declared.state.Mode.TheVariants as modes
 use Rattle.tlb_grammar.specs.declared.state.Frame.{Frame}
 use Rattle.tlb_grammar.specs.declared.state.Frame.TheVariants as frames
+use Rattle.tlb_grammar.proofs.Goes.{Reaches, both, StandsBehind, StandsTyped, StandsAfter, star_goes, plus_goes, paren_goes, left_goes, right_goes, question_goes, dot_goes, typed_after, brace_goes, head_goes, bracket_goes, equal_goes, Begins, begins, type_begins, argument_goes, param_goes, field_goes, number_goes, word_goes, hash_goes, tilde_goes, caret_goes, open_paren_goes, open_bracket_goes, out_given, ref_given, operand_given, argument_given, width_given, field_given, guarded_given, param_given, Opens, operand_goes, bare_goes, name_operand_goes, name_item_goes, Widens, width_goes, numbers_goes, types_goes, start_goes, tag_goes, semicolon_goes, goes, mode_of, behind_name, behind_operand, first_term, first_name, after_items, after_field, after_name, by_bits, by_below, by_up_to, number_opens, hash_opens, tilde_opens, caret_opens, paren_opens, bracket_opens, gives}
 use Rattle.tlb_grammar.specs.Builder as builder
 use Rattle.tlb_grammar.specs.Builder.{State, at, run, no_sum, factored, times, added, whole, closed, limited, with_item, with_field, with_result}
-
--- what is left is gone through from the state that is reached, if one is
-abbrev goes : Option State → List Lexeme → Option State
-goes st r = builder.onward st (λ next. run next r)
-
--- from these states the lexemes lead to such a mode, where the others are left
-record Reaches (from : List Frame → List Constructor → State) (s : List Lexeme) (P : Mode → Type 0) (r : List Lexeme) : Type 0 where
-  next : Mode
-  stands : P next
-  runs : (under : List Frame) (cs : List Constructor) → run (from under cs) s ≡ run (at next under cs) r
-
-abbrev mode_of : Mode → List Frame → List Constructor → State
-mode_of mode under cs = at mode under cs
-
-both : {A B C : Type 0} {a b : A} {c d : B} (f : A → B → C) → a ≡ b → c ≡ d → f a c ≡ f b d
-both f p q = λ i. f (p i) (q i)
-
--- ---- modes that stand behind the same
-
--- behind an operand of a sum
-data StandsBehind (sum : OpenSum) : Expr → Mode → Type 0 where
-  applied : {x : List ℕ} {es : List Expr} → StandsBehind sum (exprs.Named x es) (modes.Applied sum x es)
-  operated : {e : Expr} → StandsBehind sum e (modes.Operated sum e)
-
--- behind the first term of a field
-data StandsTyped (done : List Item) : Option (List ℕ) → Expr → Mode → Type 0 where
-  typed : {name : Option (List ℕ)} {e : Expr} → StandsTyped done name e (modes.Typed done name e)
-  bare_name : {x : List ℕ} → StandsTyped done None (exprs.Named x []) (modes.ItemName done x)
-
--- behind items
-data StandsAfter : List Item → Mode → Type 0 where
-  after_items : {done : List Item} → StandsAfter done (modes.Items done)
-  after_field : {done : List Item} {name : Option (List ℕ)} {e : Expr} → StandsAfter (with_field done name (types.Plain e)) (modes.Typed done name e)
-  after_name : {done : List Item} {x : List ℕ} → StandsAfter (with_field done None (types.Plain (exprs.Named x []))) (modes.ItemName done x)
-
-star_goes : {sum : OpenSum} {e : Expr} {mode : Mode} → StandsBehind sum e mode → (s : List Lexeme) (under : List Frame) (cs : List Constructor) → run (at mode under cs) (sign Asterisk ∷ s) ≡ run (at (modes.Apply (times sum e)) under cs) s
-star_goes applied s under cs = refl
-star_goes operated s under cs = refl
-
-plus_goes : {sum : OpenSum} {e : Expr} {mode : Mode} → StandsBehind sum e mode → (s : List Lexeme) (under : List Frame) (cs : List Constructor) → run (at mode under cs) (sign Plus ∷ s) ≡ run (at (modes.Apply (added sum e)) under cs) s
-plus_goes applied s under cs = refl
-plus_goes operated s under cs = refl
-
-paren_goes : {sum : OpenSum} {e : Expr} {mode : Mode} → StandsBehind sum e mode → (s : List Lexeme) (under : List Frame) (cs : List Constructor) → run (at mode (frames.Paren ∷ under) cs) (sign CloseParen ∷ s) ≡ goes (builder.given (closed sum e) under cs) s
-paren_goes applied s under cs = refl
-paren_goes operated s under cs = refl
-
-left_goes : {sum : OpenSum} {e : Expr} {mode : Mode} {c : Sign} {op : Op} → StandsBehind sum e mode → Compares c op → (s : List Lexeme) (done : List Item) (under : List Frame) (cs : List Constructor)
-    → run (at mode (frames.Left done ∷ under) cs) (sign c ∷ s) ≡ run (at (modes.Apply no_sum) (frames.Right done (closed sum e) op ∷ under) cs) s
-left_goes applied equal s done under cs = refl
-left_goes applied less s done under cs = refl
-left_goes applied less_equal s done under cs = refl
-left_goes applied greater s done under cs = refl
-left_goes applied greater_equal s done under cs = refl
-left_goes operated equal s done under cs = refl
-left_goes operated less s done under cs = refl
-left_goes operated less_equal s done under cs = refl
-left_goes operated greater s done under cs = refl
-left_goes operated greater_equal s done under cs = refl
-
-right_goes : {sum : OpenSum} {e : Expr} {mode : Mode} → StandsBehind sum e mode → (s : List Lexeme) (done : List Item) (a : Expr) (op : Op) (under : List Frame) (cs : List Constructor)
-    → run (at mode (frames.Right done a op ∷ under) cs) (sign CloseBrace ∷ s) ≡ run (at (modes.Items (with_item done (Check a op (closed sum e)))) under cs) s
-right_goes applied s done a op under cs = refl
-right_goes operated s done a op under cs = refl
-
-question_goes : {done : List Item} {name : Option (List ℕ)} {e : Expr} {mode : Mode} → StandsTyped done name e mode → (s : List Lexeme) (under : List Frame) (cs : List Constructor)
-    → run (at mode under cs) (sign Question ∷ s) ≡ run (at modes.Term (frames.Guarded done name (guards.Number e) ∷ under) cs) s
-question_goes typed s under cs = refl
-question_goes bare_name s under cs = refl
-
-dot_goes : {done : List Item} {name : Option (List ℕ)} {e : Expr} {mode : Mode} → StandsTyped done name e mode → (k : ℕ) (s : List Lexeme) (under : List Frame) (cs : List Constructor)
-    → run (at mode under cs) (sign Dot ∷ number (Some k) ∷ sign Question ∷ s) ≡ run (at modes.Term (frames.Guarded done name (guards.Bit e k) ∷ under) cs) s
-dot_goes typed k s under cs = refl
-dot_goes bare_name k s under cs = refl
-
-typed_after : {done : List Item} {name : Option (List ℕ)} {e : Expr} {mode : Mode} → StandsTyped done name e mode → StandsAfter (with_field done name (types.Plain e)) mode
-typed_after typed = after_field
-typed_after bare_name = after_name
-
--- an opened brace behind items
-brace_goes : {done : List Item} {mode : Mode} → StandsAfter done mode → (s : List Lexeme) (under : List Frame) (cs : List Constructor)
-    → run (at mode under cs) (sign OpenBrace ∷ s) ≡ run (at (modes.Apply no_sum) (frames.Left done ∷ under) cs) s
-brace_goes after_items s under cs = refl
-brace_goes after_field s under cs = refl
-brace_goes after_name s under cs = refl
-
-head_goes : {done : List Item} {mode : Mode} {h : Lexeme} {name : Option (List ℕ)} → StandsAfter done mode → Heads h name → (s : List Lexeme) (under : List Frame) (cs : List Constructor)
-    → run (at mode under cs) (h ∷ sign Colon ∷ s) ≡ run (at modes.Term (frames.Field done name ∷ under) cs) s
-head_goes after_items by_name s under cs = refl
-head_goes after_items by_blank s under cs = refl
-head_goes after_field by_name s under cs = refl
-head_goes after_field by_blank s under cs = refl
-head_goes after_name by_name s under cs = refl
-head_goes after_name by_blank s under cs = refl
-
-bracket_goes : {done : List Item} {mode : Mode} → StandsAfter done mode → (s : List Lexeme) (under : List Frame) (cs : List Constructor)
-    → run (at mode (frames.Record ∷ under) cs) (sign CloseBracket ∷ s) ≡ goes (builder.given (exprs.Group done) under cs) s
-bracket_goes after_items s under cs = refl
-bracket_goes after_field s under cs = refl
-bracket_goes after_name s under cs = refl
-
-equal_goes : {done : List Item} {mode : Mode} → StandsAfter done mode → (name : Option (List ℕ)) (mark : Tag) (x : List ℕ) (s : List Lexeme) (under : List Frame) (cs : List Constructor)
-    → run (at mode (frames.Declaration name mark ∷ under) cs) (sign Equal ∷ word x ∷ s) ≡ run (at (modes.Params (with_result name mark done x)) under cs) s
-equal_goes after_items name mark x s under cs = refl
-equal_goes after_field name mark x s under cs = refl
-equal_goes after_name name mark x s under cs = refl
-
--- ---- the lexemes that begin a term
-
-data Begins : List Lexeme → Type 0 where
-  by_number : {n : ℕ} {r : List Lexeme} → Begins (number (Some n) ∷ r)
-  by_word : {x : List ℕ} {r : List Lexeme} → Begins (word x ∷ r)
-  by_hash : {r : List Lexeme} → Begins (sign Hash ∷ r)
-  by_tilde : {r : List Lexeme} → Begins (sign Tilde ∷ r)
-  by_caret : {r : List Lexeme} → Begins (sign Caret ∷ r)
-  by_paren : {r : List Lexeme} → Begins (sign OpenParen ∷ r)
-  by_bracket : {r : List Lexeme} → Begins (sign OpenBracket ∷ r)
-
-begins : {m : Bounds} {d : Count} {s : List Lexeme} {e : ExprView} {r : List Lexeme} → Term m d s e r → Begins s
-begins a_number = by_number
-begins a_name = by_word
-begins a_hash = by_hash
-begins (an_output x y) = by_tilde
-begins (a_reference x y) = by_caret
-begins (a_paren x y) = by_paren
-begins (a_record x y) = by_bracket
-
-type_begins : {m : Bounds} {d : Count} {s : List Lexeme} {t : TypeView} {r : List Lexeme} → Typed m d s t r → Begins s
-type_begins (always x) = begins x
-type_begins (on_number x y) = begins x
-type_begins (on_bit h x y) = begins x
-
--- a term behind a name is an argument
-argument_goes : {s : List Lexeme} → Begins s → (sum : OpenSum) (x : List ℕ) (es : List Expr) (under : List Frame) (cs : List Constructor)
-    → run (at (modes.Applied sum x es) under cs) s ≡ run (at modes.Term (frames.Argument sum x es ∷ under) cs) s
-argument_goes by_number sum x es under cs = refl
-argument_goes by_word sum x es under cs = refl
-argument_goes by_hash sum x es under cs = refl
-argument_goes by_tilde sum x es under cs = refl
-argument_goes by_caret sum x es under cs = refl
-argument_goes by_paren sum x es under cs = refl
-argument_goes by_bracket sum x es under cs = refl
-
-param_goes : {s : List Lexeme} → Begins s → (c : Constructor) (under : List Frame) (cs : List Constructor) → run (at (modes.Params c) under cs) s ≡ run (at modes.Term (frames.Param c ∷ under) cs) s
-param_goes by_number c under cs = refl
-param_goes by_word c under cs = refl
-param_goes by_hash c under cs = refl
-param_goes by_tilde c under cs = refl
-param_goes by_caret c under cs = refl
-param_goes by_paren c under cs = refl
-param_goes by_bracket c under cs = refl
-
--- a term behind items begins a field
-field_goes : {s : List Lexeme} {done : List Item} {mode : Mode} → Begins s → StandsAfter done mode → (under : List Frame) (cs : List Constructor) → run (at mode under cs) s ≡ run (at (modes.Items done) under cs) s
-field_goes by_number after_items under cs = refl
-field_goes by_word after_items under cs = refl
-field_goes by_hash after_items under cs = refl
-field_goes by_tilde after_items under cs = refl
-field_goes by_caret after_items under cs = refl
-field_goes by_paren after_items under cs = refl
-field_goes by_bracket after_items under cs = refl
-field_goes by_number after_field under cs = refl
-field_goes by_word after_field under cs = refl
-field_goes by_hash after_field under cs = refl
-field_goes by_tilde after_field under cs = refl
-field_goes by_caret after_field under cs = refl
-field_goes by_paren after_field under cs = refl
-field_goes by_bracket after_field under cs = refl
-field_goes by_number after_name under cs = refl
-field_goes by_word after_name under cs = refl
-field_goes by_hash after_name under cs = refl
-field_goes by_tilde after_name under cs = refl
-field_goes by_caret after_name under cs = refl
-field_goes by_paren after_name under cs = refl
-field_goes by_bracket after_name under cs = refl
 
 -- ---- what a production builds
 
@@ -270,51 +96,60 @@ led : {from other : List Frame → List Constructor → State} {s t : List Lexem
 led e a = record { next = a.next; stands = a.stands; runs = λ under cs. e under cs ∙ a.runs under cs }
 
 -- behind a term that is an operand
-operand : {s : List Lexeme} {e : ExprView} {r : List Lexeme} → ((sum : OpenSum) (under : List Frame) (cs : List Constructor) → run (at (modes.Apply sum) under cs) s ≡ run (at modes.Term (frames.Operand sum ∷ under) cs) s)
-    → TermBuilt s e r → OperandBuilt s e r
-operand same b = record {
+operand : {s : List Lexeme} {e : ExprView} {r : List Lexeme} → Opens s → TermBuilt s e r → OperandBuilt s e r
+operand {r = r} o b = record {
   value = b.value; same = b.same;
-  reach = λ sum. record { next = modes.Operated sum b.value; stands = operated; runs = λ under cs. same sum under cs ∙ b.runs (frames.Operand sum ∷ under) cs };
+  reach = λ sum. record {
+    next = modes.Operated sum b.value; stands = behind_operand;
+    runs = λ under cs. operand_goes o sum under cs ∙ b.runs (frames.Operand sum ∷ under) cs ∙ gives r (operand_given b.value sum under cs);
+  };
 }
 
 operand_of : {m : Bounds} {d : Count} {s : List Lexeme} {e : ExprView} {r : List Lexeme} → Term m d s e r → TermBuilt s e r → OperandBuilt s e r
-operand_of a_number b = operand (λ sum under cs. refl) b
-operand_of (a_name {x = x}) b = record { value = exprs.Named x []; same = named_seen x []; reach = λ sum. record { next = modes.Applied sum x []; stands = applied; runs = λ under cs. refl } }
-operand_of a_hash b = operand (λ sum under cs. refl) b
-operand_of (an_output x y) b = operand (λ sum under cs. refl) b
-operand_of (a_reference x y) b = operand (λ sum under cs. refl) b
-operand_of (a_paren x y) b = operand (λ sum under cs. refl) b
-operand_of (a_record x y) b = operand (λ sum under cs. refl) b
+operand_of a_number b = operand number_opens b
+operand_of (a_name {x = x} {r = r}) b = record {
+  value = exprs.Named x []; same = named_seen x [];
+  reach = λ sum. record { next = modes.Applied sum x []; stands = behind_name; runs = name_operand_goes x r sum };
+}
+operand_of a_hash b = operand hash_opens b
+operand_of (an_output x y) b = operand tilde_opens b
+operand_of (a_reference x y) b = operand caret_opens b
+operand_of (a_paren x y) b = operand paren_opens b
+operand_of (a_record x y) b = operand bracket_opens b
 
 -- behind the first term of a field with a name, or `_`
 named_first : {s : List Lexeme} {e : ExprView} {r : List Lexeme} (done : List Item) (name : Option (List ℕ)) → TermBuilt s e r
     → FirstBuilt done name (λ under cs. at modes.Term (frames.Field done name ∷ under) cs) s e r
-named_first done name b = record {
+named_first {r = r} done name b = record {
   value = b.value; same = b.same;
-  reach = record { next = modes.Typed done name b.value; stands = typed; runs = λ under cs. b.runs (frames.Field done name ∷ under) cs };
+  reach = record { next = modes.Typed done name b.value; stands = first_term; runs = λ under cs. b.runs (frames.Field done name ∷ under) cs ∙ gives r (field_given b.value done name under cs) };
 }
 
 -- behind the first term of another field
-bare : {s : List Lexeme} {e : ExprView} {r : List Lexeme} (done : List Item) → ((under : List Frame) (cs : List Constructor) → run (at (modes.Items done) under cs) s ≡ run (at modes.Term (frames.Field done None ∷ under) cs) s)
-    → TermBuilt s e r → FirstBuilt done None (mode_of (modes.Items done)) s e r
-bare done same b = let f = named_first done None b in record { value = f.value; same = f.same; reach = led same f.reach }
+bare : {s : List Lexeme} {e : ExprView} {r : List Lexeme} (done : List Item) → Opens s → TermBuilt s e r → FirstBuilt done None (mode_of (modes.Items done)) s e r
+bare done o b = let f = named_first done None b in record { value = f.value; same = f.same; reach = led (bare_goes o done) f.reach }
 
 bare_first : {m : Bounds} {d : Count} {s : List Lexeme} {e : ExprView} {r : List Lexeme} (done : List Item) → Term m d s e r → TermBuilt s e r → FirstBuilt done None (mode_of (modes.Items done)) s e r
-bare_first done a_number b = bare done (λ under cs. refl) b
-bare_first done (a_name {x = x}) b = record { value = exprs.Named x []; same = named_seen x []; reach = record { next = modes.ItemName done x; stands = bare_name; runs = λ under cs. refl } }
-bare_first done a_hash b = bare done (λ under cs. refl) b
-bare_first done (an_output x y) b = bare done (λ under cs. refl) b
-bare_first done (a_reference x y) b = bare done (λ under cs. refl) b
-bare_first done (a_paren x y) b = bare done (λ under cs. refl) b
-bare_first done (a_record x y) b = bare done (λ under cs. refl) b
+bare_first done a_number b = bare done number_opens b
+bare_first done (a_name {x = x} {r = r}) b = record {
+  value = exprs.Named x []; same = named_seen x [];
+  reach = record { next = modes.ItemName done x; stands = first_name; runs = name_item_goes x r done };
+}
+bare_first done a_hash b = bare done hash_opens b
+bare_first done (an_output x y) b = bare done tilde_opens b
+bare_first done (a_reference x y) b = bare done caret_opens b
+bare_first done (a_paren x y) b = bare done paren_opens b
+bare_first done (a_record x y) b = bare done bracket_opens b
 
 -- behind the argument of a `##`, `#<` or `#<=`
-limited_built : {s : List Lexeme} {e : ExprView} {r : List Lexeme} {c : Sign} → TermBuilt s e r → (build : ExprList → ExprView) (w : Width) → ((v : Expr) → view.expr (limited w v) ≡ build (an_expr (view.expr v) no_exprs))
-    → ((sum : OpenSum) (under : List Frame) (cs : List Constructor) → run (at (modes.Apply sum) under cs) (sign c ∷ s) ≡ run (at modes.Term (frames.Width sum w ∷ under) cs) s)
-    → OperandBuilt (sign c ∷ s) (build (an_expr e no_exprs)) r
-limited_built b build w seen same = record {
+limited_built : {s : List Lexeme} {e : ExprView} {r : List Lexeme} {c : Sign} {w : Width} → TermBuilt s e r → (build : ExprList → ExprView) → ((v : Expr) → view.expr (limited w v) ≡ build (an_expr (view.expr v) no_exprs))
+    → Widens c w → OperandBuilt (sign c ∷ s) (build (an_expr e no_exprs)) r
+limited_built {s = s} {r = r} {w = w} b build seen widens = record {
   value = limited w b.value; same = seen b.value ∙ ap (λ z. build (an_expr z no_exprs)) b.same;
-  reach = λ sum. record { next = modes.Operated sum (limited w b.value); stands = operated; runs = λ under cs. same sum under cs ∙ b.runs (frames.Width sum w ∷ under) cs };
+  reach = λ sum. record {
+    next = modes.Operated sum (limited w b.value); stands = behind_operand;
+    runs = λ under cs. width_goes widens s sum under cs ∙ b.runs (frames.Width sum w ∷ under) cs ∙ gives r (width_given b.value sum w under cs);
+  };
 }
 
 -- one term more
@@ -335,49 +170,57 @@ plus_last sum t factor u a b p q =
 
 mutual
   term_built : {m : Bounds} {d : Count} {s : List Lexeme} {e : ExprView} {r : List Lexeme} → Term m d s e r → TermBuilt s e r
-  term_built (a_number {n = n}) = record { value = exprs.Lit n; same = lit_seen n; runs = λ under cs. refl }
-  term_built (a_name {x = x}) = record { value = exprs.Named x []; same = named_seen x []; runs = λ under cs. refl }
-  term_built a_hash = record { value = exprs.Nat32; same = nat32_seen; runs = λ under cs. refl }
-  term_built (an_output x y) =
+  term_built (a_number {n = n} {r = r}) = record { value = exprs.Lit n; same = lit_seen n; runs = number_goes n r }
+  term_built (a_name {x = x} {r = r}) = record { value = exprs.Named x []; same = named_seen x []; runs = word_goes x r }
+  term_built (a_hash {r = r}) = record { value = exprs.Nat32; same = nat32_seen; runs = hash_goes r }
+  term_built (an_output {s = s} {r = r} x y) =
       let b = term_built y in
-      record { value = exprs.Out b.value; same = out_seen b.value ∙ ap out b.same; runs = λ under cs. b.runs (frames.Out ∷ under) cs }
-  term_built (a_reference x y) =
+      record {
+        value = exprs.Out b.value; same = out_seen b.value ∙ ap out b.same;
+        runs = λ under cs. tilde_goes s under cs ∙ b.runs (frames.Out ∷ under) cs ∙ gives r (out_given b.value under cs);
+      }
+  term_built (a_reference {s = s} {r = r} x y) =
       let b = term_built y in
-      record { value = exprs.Ref b.value; same = ref_seen b.value ∙ ap ref b.same; runs = λ under cs. b.runs (frames.Ref ∷ under) cs }
-  term_built (a_paren {r = r} x y) =
+      record {
+        value = exprs.Ref b.value; same = ref_seen b.value ∙ ap ref b.same;
+        runs = λ under cs. caret_goes s under cs ∙ b.runs (frames.Ref ∷ under) cs ∙ gives r (ref_given b.value under cs);
+      }
+  term_built (a_paren {s = s} {r = r} x y) =
       let b = sum_built y in
-      record { value = closed b.sum b.value; same = b.same; runs = λ under cs. b.reach.runs (frames.Paren ∷ under) cs ∙ paren_goes b.reach.stands r under cs }
-  term_built (a_record {r = r} x y) =
+      record { value = closed b.sum b.value; same = b.same; runs = λ under cs. open_paren_goes s under cs ∙ b.reach.runs (frames.Paren ∷ under) cs ∙ paren_goes b.reach.stands r under cs }
+  term_built (a_record {s = s} {r = r} x y) =
       let b = items_built y [] (modes.Items []) after_items in
       record {
-        value = exprs.Group b.values; same = group_seen b.values ∙ ap group b.same;
-        runs = λ under cs. b.reach.runs (frames.Record ∷ under) cs ∙ bracket_goes b.reach.stands r under cs;
+        value = exprs.Group b.values;
+        same = group_seen b.values ∙ ap group b.same;
+        runs = λ under cs. open_bracket_goes s under cs ∙ b.reach.runs (frames.Record ∷ under) cs ∙ bracket_goes b.reach.stands r under cs;
       }
 
   terms_built : {m : Bounds} {d : Count} {s : List Lexeme} {es : ExprList} {r : List Lexeme} → Terms m d s es r → TermsBuilt s es r
   terms_built (no_terms {r = r}) = record { values = []; same = refl; runs = λ sum x before under cs. ap (λ z. run (at (modes.Applied sum x z) under cs) r) (sym (append-nil before)) }
-  terms_built (a_term {r = r} x y) =
+  terms_built (a_term {mid = mid} {r = r} x y) =
       let b = term_built x in
       let c = terms_built y in
       record {
         values = b.value ∷ c.values;
         same = both an_expr b.same c.same;
         runs = λ sum name before under cs.
-          argument_goes (begins x) sum name before under cs ∙ b.runs (frames.Argument sum name before ∷ under) cs
-          ∙ c.runs sum name (before ++ b.value ∷ []) under cs
-          ∙ ap (λ z. run (at (modes.Applied sum name z) under cs) r) (append_assoc before (b.value ∷ []) c.values);
+            argument_goes (begins x) sum name before under cs ∙ b.runs (frames.Argument sum name before ∷ under) cs
+            ∙ gives mid (argument_given b.value sum name before under cs) ∙ c.runs sum name (before ++ b.value ∷ []) under cs
+            ∙ ap (λ z. run (at (modes.Applied sum name z) under cs) r) (append_assoc before (b.value ∷ []) c.values);
       }
 
   operand_built : {m : Bounds} {d : Count} {s : List Lexeme} {e : ExprView} {r : List Lexeme} → Apply m d s e r → OperandBuilt s e r
-  operand_built (of_name {x = x} y) =
+  operand_built (of_name {x = x} {s = s} y) =
       let b = terms_built y in
       record {
-        value = exprs.Named x b.values; same = named_seen x b.values ∙ ap (named x) b.same;
-        reach = λ sum. record { next = modes.Applied sum x b.values; stands = applied; runs = λ under cs. b.runs sum x [] under cs };
+        value = exprs.Named x b.values;
+        same = named_seen x b.values ∙ ap (named x) b.same;
+        reach = λ sum. record { next = modes.Applied sum x b.values; stands = behind_name; runs = λ under cs. name_operand_goes x s sum under cs ∙ b.runs sum x [] under cs };
       }
-  operand_built (of_bits x) = limited_built (term_built x) bits widths.Bits (λ v. bits_seen (v ∷ [])) (λ sum under cs. refl)
-  operand_built (of_below x) = limited_built (term_built x) below widths.Below (λ v. below_seen (v ∷ [])) (λ sum under cs. refl)
-  operand_built (of_up_to x) = limited_built (term_built x) up_to widths.UpTo (λ v. up_to_seen (v ∷ [])) (λ sum under cs. refl)
+  operand_built (of_bits x) = limited_built (term_built x) bits (λ v. bits_seen (v ∷ [])) by_bits
+  operand_built (of_below x) = limited_built (term_built x) below (λ v. below_seen (v ∷ [])) by_below
+  operand_built (of_up_to x) = limited_built (term_built x) up_to (λ v. up_to_seen (v ∷ [])) by_up_to
   operand_built (of_term x) = operand_of x (term_built x)
 
   product_built : {m : Bounds} {d : Count} {s : List Lexeme} {e : ExprView} {r : List Lexeme} → Product m d s e r → ProductBuilt s e r
@@ -388,11 +231,12 @@ mutual
       let a = operand_built x in
       let b = operand_built y in
       record {
-        factor = Some a.value; value = b.value;
+        factor = Some a.value;
+        value = b.value;
         same = star_seen a.value b.value ∙ both star a.same b.same;
         reach = λ terms.
-          let front = a.reach (sum_at terms None) in
-          led (λ under cs. front.runs under cs ∙ star_goes front.stands mid under cs) (b.reach (sum_at terms (Some a.value)));
+            let front = a.reach (sum_at terms None) in
+            led (λ under cs. front.runs under cs ∙ star_goes front.stands mid under cs) (b.reach (sum_at terms (Some a.value)));
       }
 
   sum_built : {m : Bounds} {d : Count} {s : List Lexeme} {e : ExprView} {r : List Lexeme} → Sum m d s e r → SumBuilt (mode_of (modes.Apply no_sum)) s e r
@@ -417,38 +261,45 @@ mutual
   typed_built (always x) done name from first =
       let a = first _ _ x (term_built x) in
       record {
-        value = types.Plain a.value; same = plain_seen a.value ∙ ap plain a.same;
+        value = types.Plain a.value;
+        same = plain_seen a.value ∙ ap plain a.same;
         reach = record { next = a.reach.next; stands = typed_after a.reach.stands; runs = a.reach.runs };
       }
-  typed_built (on_number {mid = mid} x y) done name from first =
+  typed_built (on_number {mid = mid} {r = r} x y) done name from first =
       let a = first _ _ x (term_built x) in
       let b = term_built y in
       record {
-        value = types.If a.value b.value; same = when_seen a.value b.value ∙ both when a.same b.same;
+        value = types.If a.value b.value;
+        same = when_seen a.value b.value ∙ both when a.same b.same;
         reach = record {
-          next = modes.Items (with_field done name (types.If a.value b.value)); stands = after_items;
-          runs = λ under cs. a.reach.runs under cs ∙ question_goes a.reach.stands mid under cs ∙ b.runs (frames.Guarded done name (guards.Number a.value) ∷ under) cs;
+          next = modes.Items (with_field done name (types.If a.value b.value));
+          stands = after_items;
+          runs = λ under cs. a.reach.runs under cs ∙ question_goes a.reach.stands mid under cs ∙ b.runs (frames.Guarded done name (guards.Number a.value) ∷ under) cs ∙ gives r (guarded_given b.value done name (guards.Number a.value) under cs);
         };
       }
-  typed_built (on_bit {k = k} {mid = mid} h x y) done name from first =
+  typed_built (on_bit {k = k} {mid = mid} {r = r} h x y) done name from first =
       let a = first _ _ x (term_built x) in
       let b = term_built y in
       record {
-        value = types.IfBit a.value k b.value; same = when_bit_seen a.value k b.value ∙ both (λ v w. when_bit v k w) a.same b.same;
+        value = types.IfBit a.value k b.value;
+        same = when_bit_seen a.value k b.value ∙ both (λ v w. when_bit v k w) a.same b.same;
         reach = record {
-          next = modes.Items (with_field done name (types.IfBit a.value k b.value)); stands = after_items;
-          runs = λ under cs. a.reach.runs under cs ∙ dot_goes a.reach.stands k mid under cs ∙ b.runs (frames.Guarded done name (guards.Bit a.value k) ∷ under) cs;
+          next = modes.Items (with_field done name (types.IfBit a.value k b.value));
+          stands = after_items;
+          runs = λ under cs. a.reach.runs under cs ∙ dot_goes a.reach.stands k mid under cs ∙ b.runs (frames.Guarded done name (guards.Bit a.value k) ∷ under) cs ∙ gives r (guarded_given b.value done name (guards.Bit a.value k) under cs);
         };
       }
 
   item_built : {m : Bounds} {d : Count} {s : List Lexeme} {i : ItemView} {r : List Lexeme} → AnItem m d s i r → (done : List Item) (mode : Mode) → StandsAfter done mode → ItemBuilt done mode s i r
   item_built (of_numbers {x = x} {r = r}) done mode h = record {
-    value = Implicit x Nat; same = implicit_seen x Nat;
-    reach = record { next = modes.Items (with_item done (Implicit x Nat)); stands = after_items; runs = λ under cs. brace_goes h (word x ∷ sign Colon ∷ sign Hash ∷ sign CloseBrace ∷ r) under cs };
+    value = Implicit x Nat;
+    same = implicit_seen x Nat;
+    reach = record { next = modes.Items (with_item done (Implicit x Nat)); stands = after_items; runs = λ under cs. brace_goes h (word x ∷ sign Colon ∷ sign Hash ∷ sign CloseBrace ∷ r) under cs ∙ numbers_goes x r done under cs };
   }
   item_built (of_types {x = x} {r = r}) done mode h = record {
-    value = Implicit x Ty; same = implicit_seen x Ty;
-    reach = record { next = modes.Items (with_item done (Implicit x Ty)); stands = after_items; runs = λ under cs. brace_goes h (word x ∷ sign Colon ∷ word (codes "Type") ∷ sign CloseBrace ∷ r) under cs };
+    value = Implicit x Ty;
+    same = implicit_seen x Ty;
+    reach = record { next = modes.Items (with_item done (Implicit x Ty)); stands = after_items; runs = λ under cs. brace_goes h (word x ∷ sign Colon ∷ word (codes "Type") ∷ sign CloseBrace ∷ r) under cs ∙ types_goes x r done under cs };
   }
   item_built (a_check {s = s} {mid = mid} {r = r} {op = op} c x y) done mode h =
       let a = sum_built x in
@@ -456,12 +307,14 @@ mutual
       let left = closed a.sum a.value in
       let right = closed b.sum b.value in
       record {
-        value = Check left op right; same = check_seen left right op ∙ both (λ v w. check v op w) a.same b.same;
+        value = Check left op right;
+        same = check_seen left right op ∙ both (λ v w. check v op w) a.same b.same;
         reach = record {
-          next = modes.Items (with_item done (Check left op right)); stands = after_items;
+          next = modes.Items (with_item done (Check left op right));
+          stands = after_items;
           runs = λ under cs.
-            brace_goes h s under cs ∙ a.reach.runs (frames.Left done ∷ under) cs ∙ left_goes a.reach.stands c mid done under cs
-            ∙ b.reach.runs (frames.Right done left op ∷ under) cs ∙ right_goes b.reach.stands r done left op under cs;
+              brace_goes h s under cs ∙ a.reach.runs (frames.Left done ∷ under) cs ∙ left_goes a.reach.stands c mid done under cs
+              ∙ b.reach.runs (frames.Right done left op ∷ under) cs ∙ right_goes b.reach.stands r done left op under cs;
         };
       }
   item_built (a_field {s = s} {x = x} n y) done mode h =
@@ -497,14 +350,15 @@ record ParamsBuilt (c : Constructor) (s : List Lexeme) (es : ExprList) (r : List
 
 params_built : {m : Bounds} {k : Count} {s : List Lexeme} {es : ExprList} {r : List Lexeme} → Params m k s es r → (c : Constructor) → ParamsBuilt c s es r
 params_built (no_param {r = r}) c = record { values = []; same = refl; runs = λ under cs. ap (λ z. run (at (modes.Params (record c { params = z })) under cs) r) (sym (append-nil c.params)) }
-params_built (a_param {r = r} x y z) c =
+params_built (a_param {mid = mid} {r = r} x y z) c =
     let a = term_built y in
     let b = params_built z (builder.with_param c a.value) in
     record {
-      values = a.value ∷ b.values; same = both an_expr a.same b.same;
+      values = a.value ∷ b.values;
+      same = both an_expr a.same b.same;
       runs = λ under cs.
-        param_goes (begins y) c under cs ∙ a.runs (frames.Param c ∷ under) cs ∙ b.runs under cs
-        ∙ ap (λ w. run (at (modes.Params (record c { params = w })) under cs) r) (append_assoc c.params (a.value ∷ []) b.values);
+          param_goes (begins y) c under cs ∙ a.runs (frames.Param c ∷ under) cs ∙ gives mid (param_given a.value c under cs) ∙ b.runs under cs
+          ∙ ap (λ w. run (at (modes.Params (record c { params = w })) under cs) r) (append_assoc c.params (a.value ∷ []) b.values);
     }
 
 record TagBuilt (s : List Lexeme) (t : TagView) (r : List Lexeme) : Type 0 where
@@ -514,13 +368,8 @@ record TagBuilt (s : List Lexeme) (t : TagView) (r : List Lexeme) : Type 0 where
       → run (at (modes.Items []) (frames.Declaration name Computed ∷ under) cs) s ≡ run (at (modes.Items []) (frames.Declaration name mark ∷ under) cs) r
 
 tag_built : {s : List Lexeme} {t : TagView} {r : List Lexeme} → Tagged s t r → TagBuilt s t r
-tag_built (tagged {b = b}) = record { mark = Given b; same = refl; runs = λ name under cs. refl }
+tag_built (tagged {b = b} {s = s}) = record { mark = Given b; same = refl; runs = tag_goes b s }
 tag_built untagged = record { mark = Computed; same = refl; runs = λ name under cs. refl }
-
-start_goes : {h : Lexeme} {name : Option (List ℕ)} → Heads h name → (s : List Lexeme) (under : List Frame) (cs : List Constructor)
-    → run (at modes.Start under cs) (h ∷ s) ≡ run (at (modes.Items []) (frames.Declaration name Computed ∷ under) cs) s
-start_goes by_name s under cs = refl
-start_goes by_blank s under cs = refl
 
 record DeclarationBuilt (s : List Lexeme) (c : ConstructorView) (r : List Lexeme) : Type 0 where
   value : Constructor
@@ -528,16 +377,17 @@ record DeclarationBuilt (s : List Lexeme) (c : ConstructorView) (r : List Lexeme
   runs : (cs : List Constructor) → run (at modes.Start [] cs) s ≡ run (at modes.Start [] (cs ++ value ∷ [])) r
 
 declaration_built : {m : Bounds} {s : List Lexeme} {c : ConstructorView} {r : List Lexeme} → Declaration m s c r → DeclarationBuilt s c r
-declaration_built (a_declaration {s = s} {after_items = rest} {x = x} {y = y} h t is ps) =
+declaration_built (a_declaration {s = s} {after_items = rest} {r = r} {x = x} {y = y} h t is ps) =
     let mark = tag_built t in
     let items = items_built is [] (modes.Items []) after_items in
-    let params = params_built ps (with_result x mark.mark items.values y) in
+    let head = with_result x mark.mark items.values y in
+    let params = params_built ps head in
     record {
-      value = with_params (with_result x mark.mark items.values y) params.values;
+      value = with_params head params.values;
       same = λ i. record { name = x; tag = mark.same i; items = items.same i; result = y; params = params.same i };
       runs = λ cs.
-        start_goes h s [] cs ∙ mark.runs x [] cs ∙ items.reach.runs (frames.Declaration x mark.mark ∷ []) cs
-        ∙ equal_goes items.reach.stands x mark.mark y rest [] cs ∙ params.runs [] cs;
+          start_goes h s [] cs ∙ mark.runs x [] cs ∙ items.reach.runs (frames.Declaration x mark.mark ∷ []) cs
+          ∙ equal_goes items.reach.stands x mark.mark y rest [] cs ∙ params.runs [] cs ∙ semicolon_goes r (with_params head params.values) [] cs;
     }
 
 record SchemaBuilt (s : List Lexeme) (t : SchemaView) : Type 0 where
@@ -568,8 +418,8 @@ pub schema_built : (m : Bounds) (ls : List Lexeme) (t : SchemaView) → Declarat
 schema_built m ls t w = let b = schema_from w in record { value = b.values; is = ap (builder.ended builder.schema_end) (b.runs []); same = b.same }
 
 word_ends : {sum : OpenSum} {e : Expr} {mode : Mode} → StandsBehind sum e mode → builder.word_end (at mode [] []) ≡ Some (closed sum e)
-word_ends applied = refl
-word_ends operated = refl
+word_ends behind_name = refl
+word_ends behind_operand = refl
 
 pub word_built : (m : Bounds) (ls : List Lexeme) (e : ExprView) → TypeWord m ls e → Built (builder.built_word ls) view.expr e
 word_built m ls e w =

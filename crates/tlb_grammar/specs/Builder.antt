@@ -31,6 +31,33 @@ use Rattle.tlb_grammar.specs.declared.state.Frame.TheVariants as frames
 pub data State : Type 0 where
   at : Mode → List Frame → List Constructor → State
 
+-- ---- parts
+
+-- the innermost part, and what it is part of
+abbrev pub within : List Frame → (Frame → List Frame → Option State) → Option State
+within [] further = None
+within (f ∷ below) further = further f below
+
+unfoldable pub is_paren : Frame → Bool
+is_paren frames.Paren = true
+is_paren f = false
+
+unfoldable pub is_record : Frame → Bool
+is_record frames.Record = true
+is_record f = false
+
+unfoldable pub left_of : Frame → Option (List Item)
+left_of (frames.Left is) = Some is
+left_of f = None
+
+unfoldable pub right_of : Frame → Option (List Item × Expr × Op)
+right_of (frames.Right is a op) = Some (is, a, op)
+right_of f = None
+
+unfoldable pub heading_of : Frame → Option (Option (List ℕ) × Tag)
+heading_of (frames.Declaration name mark) = Some (name, mark)
+heading_of f = None
+
 -- ---- sums
 
 abbrev pub no_sum : OpenSum
@@ -75,25 +102,35 @@ with_field is name t = with_item is (Explicit name t)
 abbrev pub with_param : Constructor → Expr → Constructor
 with_param c e = record { name = c.name; tag = c.tag; items = c.items; result = c.result; params = c.params ++ e ∷ [] }
 
--- behind a term
-abbrev pub given : Expr → List Frame → List Constructor → Option State
+-- behind a term that is part of this
+unfoldable pub held : Frame → Expr → Option Mode
+held frames.Out e = None
+held frames.Ref e = None
+held (frames.Operand sum) e = Some (Operated sum e)
+held (frames.Argument sum x es) e = Some (Applied sum x (es ++ e ∷ []))
+held (frames.Width sum w) e = Some (Operated sum (limited w e))
+held (frames.Field is name) e = Some (Typed is name e)
+held (frames.Guarded is name g) e = Some (Items (with_field is name (guarded g e)))
+held (frames.Param c) e = Some (Params (with_param c e))
+held frames.Paren e = None
+held frames.Record e = None
+held (frames.Left is) e = None
+held (frames.Right is a op) e = None
+held (frames.Declaration name mark) e = None
+
+abbrev pub at_mode : Option Mode → List Frame → List Constructor → Option State
+at_mode None below cs = None
+at_mode (Some mode) below cs = Some (at mode below cs)
+
+-- behind a term, with the prefixes in front of it
+unfoldable pub given : Expr → List Frame → List Constructor → Option State
 given e [] cs = None
 given e (frames.Out ∷ below) cs = given (exprs.Out e) below cs
 given e (frames.Ref ∷ below) cs = given (exprs.Ref e) below cs
-given e (frames.Operand sum ∷ below) cs = Some (at (Operated sum e) below cs)
-given e (frames.Argument sum x es ∷ below) cs = Some (at (Applied sum x (es ++ e ∷ [])) below cs)
-given e (frames.Width sum w ∷ below) cs = Some (at (Operated sum (limited w e)) below cs)
-given e (frames.Field is name ∷ below) cs = Some (at (Typed is name e) below cs)
-given e (frames.Guarded is name g ∷ below) cs = Some (at (Items (with_field is name (guarded g e))) below cs)
-given e (frames.Param c ∷ below) cs = Some (at (Params (with_param c e)) below cs)
-given e (frames.Paren ∷ below) cs = None
-given e (frames.Record ∷ below) cs = None
-given e (frames.Left is ∷ below) cs = None
-given e (frames.Right is a op ∷ below) cs = None
-given e (frames.Declaration name mark ∷ below) cs = None
+given e (frame ∷ below) cs = at_mode (held frame e) below cs
 
 -- a term begins
-abbrev pub term_sign : Sign → List Frame → List Constructor → Option State
+unfoldable pub term_sign : Sign → List Frame → List Constructor → Option State
 term_sign Hash below cs = given exprs.Nat32 below cs
 term_sign Tilde below cs = Some (at Term (frames.Out ∷ below) cs)
 term_sign Caret below cs = Some (at Term (frames.Ref ∷ below) cs)
@@ -105,7 +142,7 @@ abbrev pub term_number : Option ℕ → List Frame → List Constructor → Opti
 term_number (Some n) below cs = given (exprs.Lit n) below cs
 term_number None below cs = None
 
-abbrev pub term : Lexeme → List Frame → List Constructor → Option State
+unfoldable pub term : Lexeme → List Frame → List Constructor → Option State
 term (word x) below cs = given (exprs.Named x []) below cs
 term blank below cs = None
 term (number n) below cs = term_number n below cs
@@ -115,7 +152,7 @@ term other below cs = None
 
 -- ---- operands
 
-abbrev pub comparison : Sign → Option Op
+unfoldable pub comparison : Sign → Option Op
 comparison Equal = Some Eq
 comparison Less = Some Lt
 comparison LessEqual = Some Le
@@ -123,7 +160,7 @@ comparison Greater = Some Gt
 comparison GreaterEqual = Some Ge
 comparison s = None
 
-abbrev pub width : Sign → Option Width
+unfoldable pub width : Sign → Option Width
 width HashHash = Some widths.Bits
 width HashLess = Some widths.Below
 width HashLessEqual = Some widths.UpTo
@@ -134,116 +171,118 @@ apply_sign (Some w) s sum below cs = Some (at Term (frames.Width sum w ∷ below
 apply_sign None s sum below cs = term_sign s (frames.Operand sum ∷ below) cs
 
 -- where an operand is wanted
-abbrev pub apply : Lexeme → OpenSum → List Frame → List Constructor → Option State
+unfoldable pub apply : Lexeme → OpenSum → List Frame → List Constructor → Option State
 apply (word x) sum below cs = Some (at (Applied sum x []) below cs)
 apply (sign s) sum below cs = apply_sign (width s) s sum below cs
 apply (number n) sum below cs = term_number n (frames.Operand sum ∷ below) cs
 apply t sum below cs = None
 
 -- the sum ends at a `)`, a comparison or a `}`
-abbrev pub ends_paren : Expr → List Frame → List Constructor → Option State
-ends_paren e (frames.Paren ∷ below) cs = given e below cs
-ends_paren e below cs = None
+abbrev pub ends_paren : Bool → Expr → List Frame → List Constructor → Option State
+ends_paren true e below cs = given e below cs
+ends_paren false e below cs = None
 
-abbrev pub ends_left : Expr → Op → List Frame → List Constructor → Option State
-ends_left e op (frames.Left is ∷ below) cs = Some (at (Apply no_sum) (frames.Right is e op ∷ below) cs)
-ends_left e op below cs = None
+abbrev pub ends_left : Option (List Item) → Expr → Op → List Frame → List Constructor → Option State
+ends_left (Some is) e op below cs = Some (at (Apply no_sum) (frames.Right is e op ∷ below) cs)
+ends_left None e op below cs = None
 
-abbrev pub ends_right : Expr → List Frame → List Constructor → Option State
-ends_right e (frames.Right is a op ∷ below) cs = Some (at (Items (with_item is (Check a op e))) below cs)
-ends_right e below cs = None
+abbrev pub ends_right : Option (List Item × Expr × Op) → Expr → List Frame → List Constructor → Option State
+ends_right (Some (is, a, op)) e below cs = Some (at (Items (with_item is (Check a op e))) below cs)
+ends_right None e below cs = None
 
-abbrev pub compared : Option Op → Expr → List Frame → List Constructor → Option State
-compared (Some op) e below cs = ends_left e op below cs
+unfoldable pub compared : Option Op → Expr → List Frame → List Constructor → Option State
+compared (Some op) e below cs = within below (λ f rest. ends_left (left_of f) e op rest cs)
 compared None e below cs = None
 
+unfoldable pub ends_sum : Sign → Expr → List Frame → List Constructor → Option State
+ends_sum CloseParen e below cs = within below (λ f rest. ends_paren (is_paren f) e rest cs)
+ends_sum CloseBrace e below cs = within below (λ f rest. ends_right (right_of f) e rest cs)
+ends_sum s e below cs = compared (comparison s) e below cs
+
 -- behind a whole operand
-abbrev pub operated_sign : Sign → OpenSum → Expr → List Frame → List Constructor → Option State
+unfoldable pub operated_sign : Sign → OpenSum → Expr → List Frame → List Constructor → Option State
 operated_sign Asterisk sum e below cs = Some (at (Apply (times sum e)) below cs)
 operated_sign Plus sum e below cs = Some (at (Apply (added sum e)) below cs)
-operated_sign CloseParen sum e below cs = ends_paren (closed sum e) below cs
-operated_sign CloseBrace sum e below cs = ends_right (closed sum e) below cs
-operated_sign s sum e below cs = compared (comparison s) (closed sum e) below cs
+operated_sign s sum e below cs = ends_sum s (closed sum e) below cs
 
-abbrev pub operated : Lexeme → OpenSum → Expr → List Frame → List Constructor → Option State
+unfoldable pub operated : Lexeme → OpenSum → Expr → List Frame → List Constructor → Option State
 operated (sign s) sum e below cs = operated_sign s sum e below cs
 operated t sum e below cs = None
 
 -- behind `{`, a name and `:`
-abbrev pub kind_of : List ℕ → List Frame → List Constructor → Option State
-kind_of x (frames.Left is ∷ below) cs = Some (at (Kind is x) below cs)
-kind_of x below cs = None
-
--- whether a lexeme begins a term
-abbrev pub begins_sign : Sign → Bool
-begins_sign Hash = true
-begins_sign Tilde = true
-begins_sign Caret = true
-begins_sign OpenParen = true
-begins_sign OpenBracket = true
-begins_sign s = false
+abbrev pub kind_of : List ℕ → Option (List Item) → List Frame → List Constructor → Option State
+kind_of x (Some is) below cs = Some (at (Kind is x) below cs)
+kind_of x None below cs = None
 
 -- behind a name and maybe arguments
-abbrev pub applied_sign : Sign → OpenSum → List ℕ → List Expr → List Frame → List Constructor → Option State
-applied_sign Colon sum x es below cs = kind_of x below cs
-applied_sign s sum x es below cs =
-    if begins_sign s then term_sign s (frames.Argument sum x es ∷ below) cs else operated_sign s sum (exprs.Named x es) below cs
+unfoldable pub applied_sign : Sign → OpenSum → List ℕ → List Expr → List Frame → List Constructor → Option State
+applied_sign Colon sum x es below cs = within below (λ f rest. kind_of x (left_of f) rest cs)
+applied_sign Hash sum x es below cs = term_sign Hash (frames.Argument sum x es ∷ below) cs
+applied_sign Tilde sum x es below cs = term_sign Tilde (frames.Argument sum x es ∷ below) cs
+applied_sign Caret sum x es below cs = term_sign Caret (frames.Argument sum x es ∷ below) cs
+applied_sign OpenParen sum x es below cs = term_sign OpenParen (frames.Argument sum x es ∷ below) cs
+applied_sign OpenBracket sum x es below cs = term_sign OpenBracket (frames.Argument sum x es ∷ below) cs
+applied_sign s sum x es below cs = operated_sign s sum (exprs.Named x es) below cs
 
-abbrev pub applied : Lexeme → OpenSum → List ℕ → List Expr → List Frame → List Constructor → Option State
+unfoldable pub applied : Lexeme → OpenSum → List ℕ → List Expr → List Frame → List Constructor → Option State
 applied (sign s) sum x es below cs = applied_sign s sum x es below cs
 applied t sum x es below cs = term t (frames.Argument sum x es ∷ below) cs
 
 -- ---- items
 
 -- a tag behind the name of a declaration
-abbrev pub tagged : Option (List ℕ) → List Item → List Frame → List Constructor → Option State
-tagged (Some b) is (frames.Declaration name mark ∷ below) cs = Some (at (Items is) (frames.Declaration name (Given b) ∷ below) cs)
-tagged b is below cs = None
+abbrev pub tagged : List ℕ → List Item → Option (Option (List ℕ) × Tag) → List Frame → List Constructor → Option State
+tagged b is (Some (name, mark)) below cs = Some (at (Items is) (frames.Declaration name (Given b) ∷ below) cs)
+tagged b is None below cs = None
 
-abbrev pub ends_record : List Item → List Frame → List Constructor → Option State
-ends_record is (frames.Record ∷ below) cs = given (exprs.Group is) below cs
-ends_record is below cs = None
+unfoldable pub tag_behind : Option (List ℕ) → List Item → List Frame → List Constructor → Option State
+tag_behind (Some b) is below cs = within below (λ f rest. tagged b is (heading_of f) rest cs)
+tag_behind None is below cs = None
 
-abbrev pub ends_items : List Item → List Frame → List Constructor → Option State
-ends_items is (frames.Declaration name mark ∷ below) cs = Some (at (Result name mark is) below cs)
-ends_items is below cs = None
+abbrev pub ends_record : Bool → List Item → List Frame → List Constructor → Option State
+ends_record true is below cs = given (exprs.Group is) below cs
+ends_record false is below cs = None
 
-abbrev pub items_sign : Sign → List Item → List Frame → List Constructor → Option State
+abbrev pub ends_items : Option (Option (List ℕ) × Tag) → List Item → List Frame → List Constructor → Option State
+ends_items (Some (name, mark)) is below cs = Some (at (Result name mark is) below cs)
+ends_items None is below cs = None
+
+unfoldable pub items_sign : Sign → List Item → List Frame → List Constructor → Option State
 items_sign OpenBrace is below cs = Some (at (Apply no_sum) (frames.Left is ∷ below) cs)
-items_sign Equal is below cs = ends_items is below cs
-items_sign CloseBracket is below cs = ends_record is below cs
+items_sign Equal is below cs = within below (λ f rest. ends_items (heading_of f) is rest cs)
+items_sign CloseBracket is below cs = within below (λ f rest. ends_record (is_record f) is rest cs)
 items_sign s is below cs = term_sign s (frames.Field is None ∷ below) cs
 
 -- between items
-abbrev pub items : Lexeme → List Item → List Frame → List Constructor → Option State
+unfoldable pub items : Lexeme → List Item → List Frame → List Constructor → Option State
 items (word x) is below cs = Some (at (ItemName is x) below cs)
 items blank is below cs = Some (at (ItemBlank is) below cs)
 items (number n) is below cs = term_number n (frames.Field is None ∷ below) cs
-items (tag b) is below cs = tagged b is below cs
+items (tag b) is below cs = tag_behind b is below cs
 items (sign s) is below cs = items_sign s is below cs
 items other is below cs = None
 
 -- behind the first term of a field
-abbrev pub typed : Lexeme → List Item → Option (List ℕ) → Expr → List Frame → List Constructor → Option State
+unfoldable pub typed : Lexeme → List Item → Option (List ℕ) → Expr → List Frame → List Constructor → Option State
 typed (sign Question) is name e below cs = Some (at Term (frames.Guarded is name (guards.Number e) ∷ below) cs)
 typed (sign Dot) is name e below cs = Some (at (Bit is name e) below cs)
 typed t is name e below cs = items t (with_field is name (types.Plain e)) below cs
 
-abbrev pub named : Lexeme → List Item → List ℕ → List Frame → List Constructor → Option State
+unfoldable pub named : Lexeme → List Item → List ℕ → List Frame → List Constructor → Option State
 named (sign Colon) is x below cs = Some (at Term (frames.Field is (Some x) ∷ below) cs)
 named t is x below cs = typed t is None (exprs.Named x []) below cs
 
-abbrev pub kind : Lexeme → List Item → List ℕ → List Frame → List Constructor → Option State
-kind (sign Hash) is x below cs = Some (at (KindEnd is x Nat) below cs)
-kind (word t) is x below cs = if bytes_eq t (codes "Type") then Some (at (KindEnd is x Ty) below cs) else None
-kind t is x below cs = None
+unfoldable pub kind : Lexeme → List Item → List ℕ → Option Mode
+kind (sign Hash) is x = Some (KindEnd is x Nat)
+kind (word t) is x = if bytes_eq t (codes "Type") then Some (KindEnd is x Ty) else None
+kind t is x = None
 
 -- ---- parameters
 
 abbrev pub with_result : Option (List ℕ) → Tag → List Item → List ℕ → Constructor
 with_result name mark is x = record { name = name; tag = mark; items = is; result = x; params = [] }
 
-abbrev pub params : Lexeme → Constructor → List Frame → List Constructor → Option State
+unfoldable pub params : Lexeme → Constructor → List Frame → List Constructor → Option State
 params (sign Semicolon) c below cs = Some (at Start below (cs ++ c ∷ []))
 params t c below cs = term t (frames.Param c ∷ below) cs
 
@@ -252,46 +291,46 @@ params t c below cs = term t (frames.Param c ∷ below) cs
 abbrev pub begin : Option (List ℕ) → List Frame → List Constructor → Option State
 begin name below cs = Some (at (Items []) (frames.Declaration name Computed ∷ below) cs)
 
-abbrev pub start : Lexeme → List Frame → List Constructor → Option State
+unfoldable pub start : Lexeme → List Frame → List Constructor → Option State
 start (word x) below cs = begin (Some x) below cs
 start blank below cs = begin None below cs
 start t below cs = None
 
-abbrev pub named_blank : Lexeme → List Item → List Frame → List Constructor → Option State
+unfoldable pub named_blank : Lexeme → List Item → List Frame → List Constructor → Option State
 named_blank (sign Colon) is below cs = Some (at Term (frames.Field is None ∷ below) cs)
 named_blank t is below cs = None
 
-abbrev pub bit_of : Lexeme → List Item → Option (List ℕ) → Expr → List Frame → List Constructor → Option State
-bit_of (number (Some k)) is name e below cs = Some (at (BitEnd is name e k) below cs)
-bit_of t is name e below cs = None
+unfoldable pub bit_of : Lexeme → List Item → Option (List ℕ) → Expr → Option Mode
+bit_of (number (Some k)) is name e = Some (BitEnd is name e k)
+bit_of t is name e = None
 
-abbrev pub bit_end : Lexeme → List Item → Option (List ℕ) → Expr → ℕ → List Frame → List Constructor → Option State
+unfoldable pub bit_end : Lexeme → List Item → Option (List ℕ) → Expr → ℕ → List Frame → List Constructor → Option State
 bit_end (sign Question) is name e k below cs = Some (at Term (frames.Guarded is name (guards.Bit e k) ∷ below) cs)
 bit_end t is name e k below cs = None
 
-abbrev pub kind_end : Lexeme → List Item → List ℕ → ParamKind → List Frame → List Constructor → Option State
-kind_end (sign CloseBrace) is x k below cs = Some (at (Items (with_item is (Implicit x k))) below cs)
-kind_end t is x k below cs = None
+unfoldable pub kind_end : Lexeme → List Item → List ℕ → ParamKind → Option Mode
+kind_end (sign CloseBrace) is x k = Some (Items (with_item is (Implicit x k)))
+kind_end t is x k = None
 
-abbrev pub result_of : Lexeme → Option (List ℕ) → Tag → List Item → List Frame → List Constructor → Option State
-result_of (word x) name mark is below cs = Some (at (Params (with_result name mark is x)) below cs)
-result_of t name mark is below cs = None
+unfoldable pub result_of : Lexeme → Option (List ℕ) → Tag → List Item → Option Mode
+result_of (word x) name mark is = Some (Params (with_result name mark is x))
+result_of t name mark is = None
 
-abbrev pub step_mode : Mode → Lexeme → List Frame → List Constructor → Option State
+unfoldable pub step_mode : Mode → Lexeme → List Frame → List Constructor → Option State
 step_mode Start t below cs = start t below cs
 step_mode (Items is) t below cs = items t is below cs
 step_mode (ItemName is x) t below cs = named t is x below cs
 step_mode (ItemBlank is) t below cs = named_blank t is below cs
 step_mode (Typed is name e) t below cs = typed t is name e below cs
-step_mode (Bit is name e) t below cs = bit_of t is name e below cs
+step_mode (Bit is name e) t below cs = at_mode (bit_of t is name e) below cs
 step_mode (BitEnd is name e k) t below cs = bit_end t is name e k below cs
-step_mode (Kind is x) t below cs = kind t is x below cs
-step_mode (KindEnd is x k) t below cs = kind_end t is x k below cs
+step_mode (Kind is x) t below cs = at_mode (kind t is x) below cs
+step_mode (KindEnd is x k) t below cs = at_mode (kind_end t is x k) below cs
 step_mode Term t below cs = term t below cs
 step_mode (Apply sum) t below cs = apply t sum below cs
 step_mode (Applied sum x es) t below cs = applied t sum x es below cs
 step_mode (Operated sum e) t below cs = operated t sum e below cs
-step_mode (Result name mark is) t below cs = result_of t name mark is below cs
+step_mode (Result name mark is) t below cs = at_mode (result_of t name mark is) below cs
 step_mode (Params c) t below cs = params t c below cs
 
 abbrev pub step : State → Lexeme → Option State
@@ -314,12 +353,12 @@ abbrev pub word_start : State
 word_start = at (Apply no_sum) [] []
 
 abbrev pub schema_end : State → Option (List Constructor)
-schema_end (at Start [] cs) = Some cs
+schema_end (at Start below cs) = Some cs
 schema_end st = None
 
 abbrev pub word_end : State → Option Expr
-word_end (at (Applied sum x es) [] cs) = Some (closed sum (exprs.Named x es))
-word_end (at (Operated sum e) [] cs) = Some (closed sum e)
+word_end (at (Applied sum x es) below cs) = Some (closed sum (exprs.Named x es))
+word_end (at (Operated sum e) below cs) = Some (closed sum e)
 word_end st = None
 
 abbrev pub ended : {X : Type 0} → (State → Option X) → Option State → Option X
