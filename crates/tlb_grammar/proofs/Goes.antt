@@ -221,7 +221,6 @@ field_goes by_caret after_name under cs = refl
 field_goes by_paren after_name under cs = refl
 field_goes by_bracket after_name under cs = refl
 
-
 -- ---- terms
 
 pub gives : {o p : Option State} (r : List Lexeme) → o ≡ p → goes o r ≡ goes p r

@@ -98,9 +98,11 @@ led e a = record { next = a.next; stands = a.stands; runs = λ under cs. e under
 -- behind a term that is an operand
 operand : {s : List Lexeme} {e : ExprView} {r : List Lexeme} → Opens s → TermBuilt s e r → OperandBuilt s e r
 operand {r = r} o b = record {
-  value = b.value; same = b.same;
+  value = b.value;
+  same = b.same;
   reach = λ sum. record {
-    next = modes.Operated sum b.value; stands = behind_operand;
+    next = modes.Operated sum b.value;
+    stands = behind_operand;
     runs = λ under cs. operand_goes o sum under cs ∙ b.runs (frames.Operand sum ∷ under) cs ∙ gives r (operand_given b.value sum under cs);
   };
 }
@@ -108,7 +110,8 @@ operand {r = r} o b = record {
 operand_of : {m : Bounds} {d : Count} {s : List Lexeme} {e : ExprView} {r : List Lexeme} → Term m d s e r → TermBuilt s e r → OperandBuilt s e r
 operand_of a_number b = operand number_opens b
 operand_of (a_name {x = x} {r = r}) b = record {
-  value = exprs.Named x []; same = named_seen x [];
+  value = exprs.Named x [];
+  same = named_seen x [];
   reach = λ sum. record { next = modes.Applied sum x []; stands = behind_name; runs = name_operand_goes x r sum };
 }
 operand_of a_hash b = operand hash_opens b
@@ -121,7 +124,8 @@ operand_of (a_record x y) b = operand bracket_opens b
 named_first : {s : List Lexeme} {e : ExprView} {r : List Lexeme} (done : List Item) (name : Option (List ℕ)) → TermBuilt s e r
     → FirstBuilt done name (λ under cs. at modes.Term (frames.Field done name ∷ under) cs) s e r
 named_first {r = r} done name b = record {
-  value = b.value; same = b.same;
+  value = b.value;
+  same = b.same;
   reach = record { next = modes.Typed done name b.value; stands = first_term; runs = λ under cs. b.runs (frames.Field done name ∷ under) cs ∙ gives r (field_given b.value done name under cs) };
 }
 
@@ -132,7 +136,8 @@ bare done o b = let f = named_first done None b in record { value = f.value; sam
 bare_first : {m : Bounds} {d : Count} {s : List Lexeme} {e : ExprView} {r : List Lexeme} (done : List Item) → Term m d s e r → TermBuilt s e r → FirstBuilt done None (mode_of (modes.Items done)) s e r
 bare_first done a_number b = bare done number_opens b
 bare_first done (a_name {x = x} {r = r}) b = record {
-  value = exprs.Named x []; same = named_seen x [];
+  value = exprs.Named x [];
+  same = named_seen x [];
   reach = record { next = modes.ItemName done x; stands = first_name; runs = name_item_goes x r done };
 }
 bare_first done a_hash b = bare done hash_opens b
@@ -145,9 +150,11 @@ bare_first done (a_record x y) b = bare done bracket_opens b
 limited_built : {s : List Lexeme} {e : ExprView} {r : List Lexeme} {c : Sign} {w : Width} → TermBuilt s e r → (build : ExprList → ExprView) → ((v : Expr) → view.expr (limited w v) ≡ build (an_expr (view.expr v) no_exprs))
     → Widens c w → OperandBuilt (sign c ∷ s) (build (an_expr e no_exprs)) r
 limited_built {s = s} {r = r} {w = w} b build seen widens = record {
-  value = limited w b.value; same = seen b.value ∙ ap (λ z. build (an_expr z no_exprs)) b.same;
+  value = limited w b.value;
+  same = seen b.value ∙ ap (λ z. build (an_expr z no_exprs)) b.same;
   reach = λ sum. record {
-    next = modes.Operated sum (limited w b.value); stands = behind_operand;
+    next = modes.Operated sum (limited w b.value);
+    stands = behind_operand;
     runs = λ under cs. width_goes widens s sum under cs ∙ b.runs (frames.Width sum w ∷ under) cs ∙ gives r (width_given b.value sum w under cs);
   };
 }
@@ -176,13 +183,15 @@ mutual
   term_built (an_output {s = s} {r = r} x y) =
       let b = term_built y in
       record {
-        value = exprs.Out b.value; same = out_seen b.value ∙ ap out b.same;
+        value = exprs.Out b.value;
+        same = out_seen b.value ∙ ap out b.same;
         runs = λ under cs. tilde_goes s under cs ∙ b.runs (frames.Out ∷ under) cs ∙ gives r (out_given b.value under cs);
       }
   term_built (a_reference {s = s} {r = r} x y) =
       let b = term_built y in
       record {
-        value = exprs.Ref b.value; same = ref_seen b.value ∙ ap ref b.same;
+        value = exprs.Ref b.value;
+        same = ref_seen b.value ∙ ap ref b.same;
         runs = λ under cs. caret_goes s under cs ∙ b.runs (frames.Ref ∷ under) cs ∙ gives r (ref_given b.value under cs);
       }
   term_built (a_paren {s = s} {r = r} x y) =

@@ -33,10 +33,19 @@ pub data State : Type 0 where
 
 -- ---- parts
 
--- the innermost part, and what it is part of
-abbrev pub within : List Frame → (Frame → List Frame → Option State) → Option State
-within [] further = None
-within (f ∷ below) further = further f below
+-- the innermost part
+abbrev pub innermost : {X : Type 0} → (Frame → Option X) → List Frame → Option X
+innermost part [] = None
+innermost part (f ∷ below) = part f
+
+abbrev pub is_innermost : (Frame → Bool) → List Frame → Bool
+is_innermost is_part [] = false
+is_innermost is_part (f ∷ below) = is_part f
+
+-- what it is part of
+abbrev pub outer : List Frame → List Frame
+outer [] = []
+outer (f ∷ below) = below
 
 unfoldable pub is_paren : Frame → Bool
 is_paren frames.Paren = true
@@ -191,12 +200,12 @@ ends_right (Some (is, a, op)) e below cs = Some (at (Items (with_item is (Check 
 ends_right None e below cs = None
 
 unfoldable pub compared : Option Op → Expr → List Frame → List Constructor → Option State
-compared (Some op) e below cs = within below (λ f rest. ends_left (left_of f) e op rest cs)
+compared (Some op) e below cs = ends_left (innermost left_of below) e op (outer below) cs
 compared None e below cs = None
 
 unfoldable pub ends_sum : Sign → Expr → List Frame → List Constructor → Option State
-ends_sum CloseParen e below cs = within below (λ f rest. ends_paren (is_paren f) e rest cs)
-ends_sum CloseBrace e below cs = within below (λ f rest. ends_right (right_of f) e rest cs)
+ends_sum CloseParen e below cs = ends_paren (is_innermost is_paren below) e (outer below) cs
+ends_sum CloseBrace e below cs = ends_right (innermost right_of below) e (outer below) cs
 ends_sum s e below cs = compared (comparison s) e below cs
 
 -- behind a whole operand
@@ -216,7 +225,7 @@ kind_of x None below cs = None
 
 -- behind a name and maybe arguments
 unfoldable pub applied_sign : Sign → OpenSum → List ℕ → List Expr → List Frame → List Constructor → Option State
-applied_sign Colon sum x es below cs = within below (λ f rest. kind_of x (left_of f) rest cs)
+applied_sign Colon sum x es below cs = kind_of x (innermost left_of below) (outer below) cs
 applied_sign Hash sum x es below cs = term_sign Hash (frames.Argument sum x es ∷ below) cs
 applied_sign Tilde sum x es below cs = term_sign Tilde (frames.Argument sum x es ∷ below) cs
 applied_sign Caret sum x es below cs = term_sign Caret (frames.Argument sum x es ∷ below) cs
@@ -236,7 +245,7 @@ tagged b is (Some (name, mark)) below cs = Some (at (Items is) (frames.Declarati
 tagged b is None below cs = None
 
 unfoldable pub tag_behind : Option (List ℕ) → List Item → List Frame → List Constructor → Option State
-tag_behind (Some b) is below cs = within below (λ f rest. tagged b is (heading_of f) rest cs)
+tag_behind (Some b) is below cs = tagged b is (innermost heading_of below) (outer below) cs
 tag_behind None is below cs = None
 
 abbrev pub ends_record : Bool → List Item → List Frame → List Constructor → Option State
@@ -249,8 +258,8 @@ ends_items None is below cs = None
 
 unfoldable pub items_sign : Sign → List Item → List Frame → List Constructor → Option State
 items_sign OpenBrace is below cs = Some (at (Apply no_sum) (frames.Left is ∷ below) cs)
-items_sign Equal is below cs = within below (λ f rest. ends_items (heading_of f) is rest cs)
-items_sign CloseBracket is below cs = within below (λ f rest. ends_record (is_record f) is rest cs)
+items_sign Equal is below cs = ends_items (innermost heading_of below) is (outer below) cs
+items_sign CloseBracket is below cs = ends_record (is_innermost is_record below) is (outer below) cs
 items_sign s is below cs = term_sign s (frames.Field is None ∷ below) cs
 
 -- between items

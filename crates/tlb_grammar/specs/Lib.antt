@@ -1,2 +1,2 @@
 pub mod Builder
-
+pub mod Follows

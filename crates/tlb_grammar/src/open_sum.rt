@@ -9,12 +9,12 @@ use tlb_memory::NoMemory;
 use tlb_syntax::Expr;
 
 // The product of the factor, if there is one, and the expression.
-fn factored(alloc: Global, factor: Option<Expr>, e: Expr) -> Result<Expr, NoMemory>
+fn factored(alloc: Global, factor: Option<Boxed<Expr>>, e: Expr) -> Result<Expr, NoMemory>
     ensures { IfOk result (λ product. product ≡ plain.factored factor e) }
 {
     match factor {
         None => Ok(e),
-        Some(a) => Ok(Expr::Star(Boxed::new(alloc, a)?, Boxed::new(alloc, e)?)),
+        Some(a) => Ok(Expr::Star(a, Boxed::new(alloc, e)?)),
     }
 }
 
@@ -29,14 +29,14 @@ impl OpenSum {
     }
 
     /// The sum behind an operand and `*`.
-    pub(crate) fn times(self, e: Expr) -> OpenSum
-        ensures { result ≡ plain.times self e }
+    pub(crate) fn times(self, alloc: Global, e: Expr) -> Result<OpenSum, NoMemory>
+        ensures { IfOk result (λ sum. sum ≡ plain.times self e) }
     {
         let OpenSum { terms, factor: _ } = self;
-        OpenSum {
+        Ok(OpenSum {
             terms,
-            factor: Some(e),
-        }
+            factor: Some(Boxed::new(alloc, e)?),
+        })
     }
 
     /// The sum behind an operand and `+`.

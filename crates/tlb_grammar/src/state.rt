@@ -1,5 +1,5 @@
 //! The states in which lexemes are gone through, with the trees that are begun.
-use sqlite_items::Items;
+use sqlite_items::{Boxed, Items};
 use tlb_syntax::{Constructor, Expr, FieldType, Item, Name, Op, ParamKind, Tag};
 
 /// A sum that is begun, before an operand.
@@ -8,7 +8,7 @@ pub(crate) struct OpenSum {
     /// The whole terms.
     pub(crate) terms: Items<Expr>,
     /// The factor in front of a `*`.
-    pub(crate) factor: Option<Expr>,
+    pub(crate) factor: Option<Boxed<Expr>>,
 }
 
 /// `##`, `#<` or `#<=`.
