@@ -266,7 +266,7 @@ items_sign s is below cs = term_sign s (frames.Field is None ∷ below) cs
 unfoldable pub items : Lexeme → List Item → List Frame → List Constructor → Option State
 items (word x) is below cs = Some (at (ItemName is x) below cs)
 items blank is below cs = Some (at (ItemBlank is) below cs)
-items (number n) is below cs = term_number n (frames.Field is None ∷ below) cs
+items (number n) is below cs = term (number n) (frames.Field is None ∷ below) cs
 items (tag b) is below cs = tag_behind b is below cs
 items (sign s) is below cs = items_sign s is below cs
 items other is below cs = None

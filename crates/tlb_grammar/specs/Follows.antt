@@ -1,5 +1,9 @@
 -- What the builder's calls answer, by the plain machine.
-use Rattle.std.specs.Prelude.{◌≡◌, Bool, List, ◌∷◌, [], reverse, Option, option_map, Result, IfOk}
+use Rattle.std.specs.Prelude.{ℕ, ◌≡◌, Bool, IsTrue, List, ◌∷◌, [], reverse, Option, option_map, Result, IfOk}
+use Rattle.tlb_lexer.specs.declared.Token.{Token}
+use Rattle.tlb_lexer.specs.Cut.{token_bytes}
+use Rattle.tlb_lexer.specs.Spelling.{spells}
+use Rattle.tlb_syntax.specs.Placed.{IsWithin}
 use Rattle.tlb_memory.specs.declared.NoMemory.{NoMemory}
 use Rattle.tlb_grammar.specs.declared.state.Mode.{Mode}
 use Rattle.tlb_grammar.specs.declared.state.Frame.{Frame}
@@ -38,3 +42,12 @@ pub record HasLeft (is_part : Frame → Bool) (old new : Builder) (found : Bool)
   pub found_is : found ≡ is_innermost is_part (under old)
   pub below : under new ≡ outer (under old)
   pub done : new.done ≡ old.done
+
+-- a token within the text, with bytes that spell its kind
+pub record IsRead (text : List ℕ) (t : Token) : Type 0 where
+  pub within : IsWithin text t
+  pub spelled : IsTrue (spells t.kind (token_bytes text t))
+
+abbrev pub ArePlaced : List ℕ → List Token → Type 0
+ArePlaced text [] = Unit {0}
+ArePlaced text (t ∷ ts) = IsRead text t × ArePlaced text ts
