@@ -123,7 +123,8 @@ pub fn build_schema(alloc: Global, text: &[u8], tokens: &[Token]) -> Result<Sche
     requires written { (s : SchemaView) × Declarations standard (lexemes text.now tokens.now) s }
     ensures { IfOk result (λ r. (s : SchemaView) → Declarations standard (lexemes text.now tokens.now) s → schema r ≡ s) }
 {
-    match schema_of(alloc, text, tokens)? {
+    let built = schema_of(alloc, text, tokens)?;
+    match built {
         Some(found) => Ok(found),
         None => unreachable!(),
     }
@@ -135,7 +136,8 @@ pub fn build_word(alloc: Global, text: &[u8], tokens: &[Token]) -> Result<Expr, 
     requires written { (e : ExprView) × TypeWord standard (lexemes text.now tokens.now) e }
     ensures { IfOk result (λ r. (e : ExprView) → TypeWord standard (lexemes text.now tokens.now) e → expr r ≡ e) }
 {
-    match word_of(alloc, text, tokens)? {
+    let built = word_of(alloc, text, tokens)?;
+    match built {
         Some(found) => Ok(found),
         None => unreachable!(),
     }
