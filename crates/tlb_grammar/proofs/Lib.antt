@@ -1,0 +1,4 @@
+pub mod Views
+pub mod Goes
+pub mod Runs
+pub mod Whole

@@ -1,0 +1,95 @@
+//! The states in which lexemes are gone through, with the trees that are begun.
+use sqlite_items::{Boxed, Items};
+use tlb_syntax::{Constructor, Expr, FieldType, Item, Name, Op, ParamKind, Tag};
+
+/// A sum that is begun, before an operand.
+#[derive(Drop)]
+pub(crate) struct OpenSum {
+    /// The whole terms.
+    pub(crate) terms: Items<Expr>,
+    /// The factor in front of a `*`.
+    pub(crate) factor: Option<Boxed<Expr>>,
+}
+
+/// `##`, `#<` or `#<=`.
+#[derive(Clone, Copy)]
+pub(crate) enum Width {
+    Bits,
+    Below,
+    UpTo,
+}
+
+/// What is asked of a field's type.
+#[derive(Drop)]
+pub(crate) enum Guard {
+    /// `condition?`
+    Number(Expr),
+    /// `number.bit?`
+    Bit(Expr, u32),
+}
+
+/// What was read last, or what is wanted next. The items are those before it in the record.
+#[derive(Drop)]
+pub(crate) enum Mode {
+    /// Between declarations.
+    Start,
+    /// In a record, between items.
+    Items(Items<Item>),
+    /// Behind a name that begins an item.
+    ItemName(Items<Item>, Name),
+    /// Behind the `_` that begins an item.
+    ItemBlank(Items<Item>),
+    /// Behind the first term of a field.
+    Typed(Items<Item>, Option<Name>, Expr),
+    /// Behind the `.` of a field.
+    Bit(Items<Item>, Option<Name>, Expr),
+    /// Behind the number of a tested bit.
+    BitEnd(Items<Item>, Option<Name>, Expr, u32),
+    /// Behind `{`, a name and `:`.
+    Kind(Items<Item>, Name),
+    /// Behind the kind of an implicit field.
+    KindEnd(Items<Item>, Name, ParamKind),
+    /// A term is wanted.
+    Term,
+    /// An operand of the sum is wanted.
+    Apply(OpenSum),
+    /// Behind a name and maybe arguments, an operand of the sum.
+    Applied(OpenSum, Name, Items<Expr>),
+    /// Behind a whole operand of the sum.
+    Operated(OpenSum, Expr),
+    /// Behind the `=` of a declaration.
+    Result(Option<Name>, Tag, Items<Item>),
+    /// Behind the type's name.
+    Params(Constructor),
+}
+
+/// What a term, a sum or a record that is begun is part of.
+#[derive(Drop)]
+pub(crate) enum Frame {
+    /// The operand of a `~`.
+    Out,
+    /// The operand of a `^`.
+    Ref,
+    /// An operand of the sum.
+    Operand(OpenSum),
+    /// A further argument of a name that is an operand of the sum.
+    Argument(OpenSum, Name, Items<Expr>),
+    /// The argument of a `##`, `#<` or `#<=` that is an operand of the sum.
+    Width(OpenSum, Width),
+    /// The first term of a field, behind these items.
+    Field(Items<Item>, Option<Name>),
+    /// The type behind a `?`.
+    Guarded(Items<Item>, Option<Name>, Guard),
+    /// A further parameter of the constructor's result.
+    Param(Constructor),
+    /// A sum in parentheses, which is a term.
+    Paren,
+    /// A record in brackets, which is a term.
+    Record,
+    /// The left of a comparison.
+    Left(Items<Item>),
+    /// The right of a comparison.
+    Right(Items<Item>, Expr, Op),
+    /// The record of a declaration.
+    Declaration(Option<Name>, Tag),
+}
