@@ -1,2 +1,4 @@
 pub mod Views
 pub mod Runs
+pub mod Pieces
+pub mod PiecesLongest
