@@ -10,7 +10,7 @@ use Rattle.tlb_syntax.specs.Tree.{ExprView, ExprList, ItemView, ItemList, TypeVi
 use Rattle.tlb_syntax.specs.Text.{are_none}
 use Rattle.tlb_syntax.specs.Written.{bounds}
 use Rattle.tlb_syntax.specs.Grammar.{Count, Bounds, Spends, freely, one_less, Compares, equal, less, less_equal, greater, greater_equal, Heads, by_name, by_blank, Tagged, tagged, untagged, Term, Terms, Apply, Sum, Typed, AnItem, Items, Params, Declaration, Declarations, a_number, a_name, a_hash, an_output, a_reference, a_paren, a_record, no_terms, a_term, of_name, of_bits, of_below, of_up_to, of_term, one_factor, two_factors, a_sum, no_addend, an_addend, always, on_number, on_bit, of_numbers, of_types, a_check, a_field, no_item, one_item, no_param, a_param, a_declaration, no_declaration, one_more}
-use Rattle.tlb_grammar.specs.Levels.{expr_levels, exprs_levels, type_levels, item_levels, items_levels, constructor_levels}
+use Rattle.tlb_grammar.specs.Canonical.{expr_levels, exprs_levels, type_levels, item_levels, items_levels, constructor_levels}
 use Rattle.tlb_grammar.proofs.CanonicalTrees.{IsWord, IsMark, HasOne, exprs_count, items_count, IsExpr, AreExprs, IsType, IsItem, AreItems, IsConstructor, head, comparing, kind_lexeme, marked, expr_before, exprs_before, type_before, item_before, items_before, constructor_before}
 
 -- so many are within the count

@@ -5,3 +5,5 @@ pub mod PiecesLongest
 pub mod CanonicalTrees
 pub mod CanonicalWritten
 pub mod CanonicalPieces
+pub mod CanonicalMeant
+pub mod CanonicalProper

@@ -1,2 +1,2 @@
 pub mod Builder
-pub mod Levels
+pub mod Canonical

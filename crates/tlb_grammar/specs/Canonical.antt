@@ -1,8 +1,11 @@
--- How many levels the canonical text of a tree opens: each `(`, `[`, `^` and `~` opens one.
-use Rattle.std.specs.Prelude.{ℕ, suc, max, if◌then◌else◌}
-use Rattle.tlb_syntax.specs.Tree.{ExprView, ExprList, ItemView, ItemList, TypeView, ConstructorView, lit, named, nat32, bits, below, up_to, plus, star, out, ref, group, no_exprs, an_expr, plain, when, when_bit, implicit, check, explicit, no_items, an_item}
+-- Canonical texts that write their constructors: how many levels they open, and which trees they are of.
+use Rattle.std.specs.Prelude.{ℕ, suc, List, max, if◌then◌else◌}
+use Rattle.std.specs.List.{Contains}
+use Rattle.tlb_syntax.specs.Tree.{ExprView, ExprList, ItemView, ItemList, TypeView, ConstructorView, SchemaView, lit, named, nat32, bits, below, up_to, plus, star, out, ref, group, no_exprs, an_expr, plain, when, when_bit, implicit, check, explicit, no_items, an_item}
 use Rattle.tlb_syntax.specs.Text.{are_none}
+use Rattle.tlb_syntax.specs.Written.{Writes}
 
+-- how many levels the canonical text of a tree opens: each `(`, `[`, `^` and `~` opens one
 abbrev mutual
   pub expr_levels : ExprView → ℕ
   expr_levels (lit n) = 0
@@ -37,3 +40,10 @@ abbrev mutual
 
 abbrev pub constructor_levels : ConstructorView → ℕ
 constructor_levels c = max (items_levels c.items) (exprs_levels c.params)
+
+-- the constructor is one of a schema that some text writes
+pub record IsWritten (c : ConstructorView) : Type 0 where
+  pub text : List ℕ
+  pub schema : SchemaView
+  pub writes : Writes text schema
+  pub among : Contains schema c
