@@ -7,3 +7,4 @@ pub mod CanonicalWritten
 pub mod CanonicalPieces
 pub mod CanonicalMeant
 pub mod CanonicalProper
+pub mod CanonicalLaws
