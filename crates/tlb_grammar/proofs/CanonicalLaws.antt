@@ -1,10 +1,10 @@
 -- Canonical texts write what they are of.
-use Rattle.std.proofs.Common.{◌≡◌, ◌≤◌, ◌+◌, ◌∙◌, sym, ap, subst, ℕ, Bool, true, false, List, [], ◌∷◌, ◌++◌, length, None, Some, cond, count_by, bytes_eq, codes, arith}
+use Rattle.std.proofs.Common.{◌≡◌, ◌↔◌, ◌≤◌, ◌+◌, ◌∙◌, sym, ap, subst, ℕ, true, false, List, [], ◌∷◌, ◌++◌, None, Some, cond, bytes_eq, codes, arith}
 use Rattle.tlb_lexer.specs.declared.Token.{Token}
 use Rattle.tlb_lexer.specs.Cut.{Cut}
 use Rattle.tlb_lexer.proofs.Whole.{cut_once}
 use Rattle.tlb_syntax.specs.Lexeme.{Lexeme, lexemes}
-use Rattle.tlb_syntax.specs.Tree.{ConstructorView, SchemaView}
+use Rattle.tlb_syntax.specs.Tree.{ConstructorView}
 use Rattle.tlb_syntax.specs.Text.{constructor_text}
 use Rattle.tlb_syntax.specs.Grammar.{Declarations}
 use Rattle.tlb_syntax.specs.Written.{HasFew, Writes, standard}
@@ -14,6 +14,7 @@ use Rattle.tlb_grammar.proofs.Pieces.{CutAs, pieces_cut}
 use Rattle.tlb_grammar.proofs.CanonicalTrees.{IsConstructor, constructor_before}
 use Rattle.tlb_grammar.proofs.CanonicalWritten.{leveled, canonical_written}
 use Rattle.tlb_grammar.proofs.CanonicalPieces.{canonical_pieces}
+use Rattle.tlb_grammar.proofs.CanonicalLevels.{levels_within}
 use Rattle.tlb_grammar.proofs.CanonicalProper.{written_proper}
 
 one_few : (c : ConstructorView) → HasFew (c ∷ [])
@@ -26,18 +27,30 @@ one_few c = record {
 abbrev ended_text : ConstructorView → List ℕ
 ended_text c = constructor_text c ++ codes ";"
 
-canonical_cut : (c : ConstructorView) → IsConstructor c → CutAs (ended_text c) 0 (ended_text c) (constructor_before c [])
+canonical_cut : (c : ConstructorView) → IsConstructor c
+    → CutAs (ended_text c) 0 (ended_text c) (constructor_before c [])
 canonical_cut c p = pieces_cut (ended_text c) (constructor_before c []) (canonical_pieces c p)
 
-pub canonical_writes : (c : ConstructorView) → IsWritten c → constructor_levels c ≤ 64 → Writes (constructor_text c ++ codes ";") (c ∷ [])
-canonical_writes c w le =
-    let p = written_proper c w in
+shallow_writes : (c : ConstructorView) → IsConstructor c → constructor_levels c ≤ 64 → Writes (ended_text c) (c ∷ [])
+shallow_writes c p le =
     let r = canonical_cut c p in
     let P : List Lexeme → Type 0 = λ ls. Declarations standard ls (c ∷ []) in
     record { tokens = r.tokens; cut = r.cut; written = subst P (sym r.same) (canonical_written c (Some 64) p le); few = one_few c }
 
+written_shallow : (c : ConstructorView) → IsConstructor c → Writes (ended_text c) (c ∷ []) → constructor_levels c ≤ 64
+written_shallow c p w =
+    let r = canonical_cut c p in
+    let ls : lexemes (ended_text c) w.tokens ≡ constructor_before c [] = ap (lexemes (ended_text c)) (cut_once (ended_text c) w.tokens r.tokens w.cut r.cut) ∙ r.same in
+    let P : List Lexeme → Type 0 = λ xs. Declarations standard xs (c ∷ []) in
+    levels_within c (c ∷ []) (subst P ls w.written)
+
+pub canonical_writes : (c : ConstructorView) → IsWritten c
+    → (constructor_levels c ≤ 64 ↔ Writes (constructor_text c ++ codes ";") (c ∷ []))
+canonical_writes c w = let p = written_proper c w in (shallow_writes c p, written_shallow c p)
+
 -- what is written of the canonical text, whatever levels it opens
-canonical_derived : (c : ConstructorView) → IsConstructor c → (text : List ℕ) (tokens : List Token) → constructor_text c ≡ text → Cut (text ++ codes ";") tokens
+canonical_derived : (c : ConstructorView) → IsConstructor c → (text : List ℕ) (tokens : List Token)
+    → constructor_text c ≡ text → Cut (text ++ codes ";") tokens
     → Declarations (leveled None) (lexemes (text ++ codes ";") tokens) (c ∷ [])
 canonical_derived c p text tokens e cut =
     let r = canonical_cut c p in
@@ -52,7 +65,8 @@ canonical_derived c p text tokens e cut =
 one_head : (a b : ConstructorView) → a ∷ [] ≡ b ∷ [] → a ≡ b
 one_head a b e = cc
 
-pub canonical_once : (a b : ConstructorView) → IsWritten a → IsWritten b → constructor_text a ≡ constructor_text b → a ≡ b
+pub canonical_once : (a b : ConstructorView) → IsWritten a → IsWritten b → constructor_text a ≡ constructor_text b
+    → a ≡ b
 canonical_once a b v w e =
     let p = written_proper a v in
     let q = written_proper b w in

@@ -1,12 +1,12 @@
 -- The lexemes of a text: names of the lexer, numbers below 2^32, tags of bits.
-use Rattle.std.proofs.Common.{◌≡◌, ◌≤◌, ◌<◌, ◌+◌, ◌-◌, ◌*◌, ◌/◌, ◌%◌, ◌^◌, suc, zero, sym, ap, refl, subst, ◌∙◌, ℕ, true, false, Bool, ◌&&◌, ◌||◌, List, [], ◌∷◌, ◌++◌, map, length, take, drop, Option, Some, None, if◌then◌else◌, arith, nat_lt, nat_le, bytes_eq, inl, inr, ◌==◌}
+use Rattle.std.proofs.Common.{◌≡◌, ◌≤◌, ◌<◌, ◌+◌, ◌-◌, ◌/◌, ◌%◌, ◌^◌, sym, ap, refl, subst, ◌∙◌, ℕ, true, false, Bool, ◌||◌, List, [], ◌∷◌, map, length, take, drop, Option, Some, None, if◌then◌else◌, arith, nat_lt, nat_le, bytes_eq, inl, inr, ◌==◌}
 use Rattle.std.specs.List.{list_all, flat_map}
 use Rattle.std.proofs.lemmas.List.{drop-drop, length-take-le}
 use Rattle.bit_slice.specs.Bits.{AreBits}
 use Rattle.tlb_lexer.specs.declared.TokenKind.{TokenKind}
 use Rattle.tlb_lexer.specs.declared.TokenKind.TheVariants.{Name, Blank, Number, BinaryTag, HexTag, Symbol}
 use Rattle.tlb_lexer.specs.declared.Token.{Token}
-use Rattle.tlb_lexer.specs.Bytes.{is_digit, is_bit, is_hex_digit}
+use Rattle.tlb_lexer.specs.Bytes.{is_bit, is_hex_digit}
 use Rattle.tlb_lexer.specs.Spelling.{spells, is_underscore, are_bits, ends_hex}
 use Rattle.tlb_lexer.specs.Cut.{longest_name, CutFrom, ended, gap, token, Cut, Longest}
 use Rattle.tlb_lexer.proofs.Runs.{and_parts, or_parts, clash}
@@ -76,7 +76,8 @@ binary_meant ds e =
 hex_small : (d : ℕ) → is_hex_digit d ≡ true → hex_value d < 16
 hex_small d e = grind arith
 
-hex_bits_are : (d : ℕ) → is_hex_digit d ≡ true → (hex_value d / 8 < 2) × (((hex_value d / 4) % 2 < 2) × (((hex_value d / 2) % 2 < 2) × (hex_value d % 2 < 2)))
+hex_bits_are : (d : ℕ) → is_hex_digit d ≡ true
+    → (hex_value d / 8 < 2) × (((hex_value d / 4) % 2 < 2) × (((hex_value d / 2) % 2 < 2) × (hex_value d % 2 < 2)))
 hex_bits_are d e = parts (hex_value d) (hex_small d e)
   where
     parts : (v : ℕ) → v < 16 → (v / 8 < 2) × (((v / 4) % 2 < 2) × (((v / 2) % 2 < 2) × (v % 2 < 2)))
@@ -117,7 +118,8 @@ hex_front (d ∷ c ∷ ds) e =
     let p = and_parts (is_hex_digit d) (ends_hex (c ∷ ds)) e in
     rw p.0 (hex_front (c ∷ ds) p.1)
 
-hex_alone : (d : ℕ) → (is_hex_digit d || d == 95) ≡ true → (if d == 95 then true else false) ≡ false → list_all is_hex_digit (d ∷ []) ≡ true
+hex_alone : (d : ℕ) → (is_hex_digit d || d == 95) ≡ true → (if d == 95 then true else false) ≡ false
+    → list_all is_hex_digit (d ∷ []) ≡ true
 hex_alone d e f = elim (or_parts (is_hex_digit d) (d == 95) e) [ inl h ↦ rw h refl | inr h ↦ absurd (closes h) ]
   where
     closes : (d == 95) ≡ true → ⊥
@@ -134,16 +136,16 @@ hex_meant : (ds : List ℕ) → ends_hex ds ≡ true → IsMeant (tag (hexadecim
 hex_meant ds e =
     let closed = and_at_most_meant (without_completion (flat_map hex_bits (hex_digits ds))) (uncompleted_bits (flat_map hex_bits (hex_digits ds)) (hex_all_bits (hex_digits ds) (hex_front ds e))) in
     elim (is_underscore ds) as (λ t. IsMeant (tag (
-        if t then Some []
-        else if is_completed ds then and_at_most_1023 (without_completion (flat_map hex_bits (hex_digits ds)))
-        else at_most_1023 (flat_map hex_bits ds)))) [
+    if t then Some []
+    else if is_completed ds then and_at_most_1023 (without_completion (flat_map hex_bits (hex_digits ds)))
+    else at_most_1023 (flat_map hex_bits ds)))) [
       | true ↦ empty_meant
       | false ↦ elim (is_completed ds) as (λ t. is_completed ds ≡ t → IsMeant (tag (
-            if t then and_at_most_1023 (without_completion (flat_map hex_bits (hex_digits ds)))
-            else at_most_1023 (flat_map hex_bits ds)))) [
-        | true ↦ λ f. closed
-        | false ↦ λ f. at_most_meant (flat_map hex_bits ds) (hex_all_bits ds (hex_open ds e f))
-      ] refl
+          if t then and_at_most_1023 (without_completion (flat_map hex_bits (hex_digits ds)))
+          else at_most_1023 (flat_map hex_bits ds)))) [
+            | true ↦ λ f. closed
+            | false ↦ λ f. at_most_meant (flat_map hex_bits ds) (hex_all_bits ds (hex_open ds e f))
+          ] refl
     ]
 
 -- ---- tokens
@@ -152,7 +154,8 @@ sign_meant : (ss : List Sign) (text : List ℕ) → IsMeant (sign_among ss text)
 sign_meant [] text = tt
 sign_meant (s ∷ ss) text = elim (bytes_eq (sign_text s) text) as (λ t. IsMeant (if t then sign s else sign_among ss text)) [ true ↦ tt | false ↦ sign_meant ss text ]
 
-token_meant : (kind : TokenKind) (text : List ℕ) → spells kind text ≡ true → (kind ≡ Name → length text ≤ longest_name) → IsMeant (meaning kind text)
+token_meant : (kind : TokenKind) (text : List ℕ) → spells kind text ≡ true → (kind ≡ Name → length text ≤ longest_name)
+    → IsMeant (meaning kind text)
 token_meant Name text e short = record { spelled = e; short = short refl }
 token_meant Blank text e short = tt
 token_meant Number text e short = number_meant (decimal_onto 0 text)
@@ -162,7 +165,8 @@ token_meant HexTag [] e short = cc
 token_meant HexTag (b ∷ ds) e short = hex_meant ds (and_parts (b == 35) (ends_hex ds) e).1
 token_meant Symbol text e short = sign_meant signs text
 
-longest_meant : (kind : TokenKind) (n place : ℕ) (whole text : List ℕ) → Longest kind n text → (kind ≡ Name → n ≤ longest_name) → drop place whole ≡ text
+longest_meant : (kind : TokenKind) (n place : ℕ) (whole text : List ℕ) → Longest kind n text
+    → (kind ≡ Name → n ≤ longest_name) → drop place whole ≡ text
     → IsMeant (meaning kind (take ((place + n) - place) (drop place whole)))
 longest_meant kind n place whole text longest short e =
     let size : (place + n) - place ≡ n = omega arith in
@@ -174,7 +178,8 @@ longest_meant kind n place whole text longest short e =
 left_over : (n place : ℕ) (whole text : List ℕ) → drop place whole ≡ text → drop (place + n) whole ≡ drop n text
 left_over n place whole text e = sym (drop-drop n place whole) ∙ ap (drop n) e
 
-cut_meant : {place : ℕ} {text : List ℕ} {tokens : List Token} → CutFrom place text tokens → (whole : List ℕ) → drop place whole ≡ text → AreMeant (lexemes whole tokens)
+cut_meant : {place : ℕ} {text : List ℕ} {tokens : List Token} → CutFrom place text tokens → (whole : List ℕ)
+    → drop place whole ≡ text → AreMeant (lexemes whole tokens)
 cut_meant ended whole e = tt
 cut_meant (gap {place = place} {n = n} {text = text} g c) whole e = cut_meant c whole (left_over n place whole text e)
 cut_meant (token {place = place} {n = n} {text = text} {kind = kind} longest short c) whole e =

@@ -1,10 +1,9 @@
 -- The canonical text of a tree that texts write is made of tokens and single spaces.
-use Rattle.std.proofs.Common.{◌≡◌, ◌≤◌, ◌<◌, ◌+◌, ◌-◌, ◌^◌, sym, ap, refl, subst, ◌∙◌, rules, false,  ℕ, true, Bool, ◌&&◌, List, [], ◌∷◌, ◌++◌, map, length, drop, Option, Some, None, if◌then◌else◌, append_assoc, arith, nat_lt, nat_le, not, codes}
-use Rattle.std.specs.Prelude.{decimal, ◌==◌}
+use Rattle.std.proofs.Common.{◌≡◌, ◌≤◌, ◌<◌, ◌+◌, ◌-◌, ◌^◌, sym, ap, refl, subst, ◌∙◌, rules, false, ℕ, true, List, [], ◌∷◌, ◌++◌, map, length, Option, Some, None, if◌then◌else◌, append_assoc, arith, nat_lt, not, codes}
+use Rattle.std.specs.Prelude.{decimal}
 use Rattle.std.specs.List.{list_all}
 use Rattle.std.proofs.lemmas.Fmt.{digits_decimal, decimal_nonempty, digits_value-decimal}
 use Rattle.std.proofs.lemmas.Str.Parse.{IsNumeralModel, numerals_by_fold}
-use Rattle.std.proofs.lemmas.List.{length-map}
 use Rattle.nat_solver.specs.declared.compare.Op.{Op}
 use Rattle.nat_solver.specs.declared.compare.Op.TheVariants.{Eq, Lt, Le, Gt, Ge}
 use Rattle.bit_slice.specs.Bits.{AreBits}
@@ -26,7 +25,7 @@ use Rattle.tlb_syntax.specs.Tree.{ExprView, ExprList, ItemView, ItemList, TypeVi
 use Rattle.tlb_syntax.specs.Text.{name_text, kind_text, op_text, tag_text, expr_text, spaced, type_text, item_text, spaced_items, constructor_text}
 use Rattle.tlb_grammar.proofs.Pieces.{Pieces, no_piece, a_space, a_token}
 use Rattle.tlb_grammar.proofs.PiecesLongest.{is_inner, stops, longest_before}
-use Rattle.tlb_grammar.proofs.CanonicalTrees.{IsWord, IsMark, IsWordOrBlank, IsTag, HasOne, IsExpr, AreExprs, IsType, IsItem, AreItems, IsConstructor, head, comparing, kind_lexeme, marked, expr_before, exprs_before, type_before, item_before, items_before, constructor_before}
+use Rattle.tlb_grammar.proofs.CanonicalTrees.{IsWord, IsMark, IsWordOrBlank, IsTag, IsExpr, AreExprs, IsType, IsItem, AreItems, IsConstructor, head, comparing, kind_lexeme, marked, expr_before, exprs_before, type_before, item_before, items_before, constructor_before}
 
 -- ---- parts of texts, with what puts their lexemes in front
 
@@ -49,18 +48,22 @@ record Stops (xs : List ℕ) : Type 0 where
 regroup : (xs ys text : List ℕ) (ls : List Lexeme) → Pieces (xs ++ (ys ++ text)) ls → Pieces (xs ++ ys ++ text) ls
 regroup xs ys text ls p = let P : List ℕ → Type 0 = λ zs. Pieces zs ls in subst P (sym (append_assoc xs ys text)) p
 
-free_then : {xs ys : List ℕ} {f g : List Lexeme → List Lexeme} → Free xs f → Part ys g → Part (xs ++ ys) (λ ls. f (g ls))
+free_then : {xs ys : List ℕ} {f g : List Lexeme → List Lexeme} → Free xs f → Part ys g
+    → Part (xs ++ ys) (λ ls. f (g ls))
 free_then {xs} {ys} {f} {g} p q = record { goes = λ text ls ends r. regroup xs ys text (f (g ls)) (p.goes (ys ++ text) (g ls) (q.goes text ls ends r)) }
 
-part_then : {xs ys : List ℕ} {f g : List Lexeme → List Lexeme} → Part xs f → Ends ys → Part ys g → Part (xs ++ ys) (λ ls. f (g ls))
+part_then : {xs ys : List ℕ} {f g : List Lexeme → List Lexeme} → Part xs f → Ends ys → Part ys g
+    → Part (xs ++ ys) (λ ls. f (g ls))
 part_then {xs} {ys} {f} {g} p e q = record { goes = λ text ls ends r. regroup xs ys text (f (g ls)) (p.goes (ys ++ text) (g ls) (e.ends text ends) (q.goes text ls ends r)) }
 
 -- a part before a free text that ends it
-part_free : {xs ys : List ℕ} {f g : List Lexeme → List Lexeme} → Part xs f → Stops ys → Free ys g → Free (xs ++ ys) (λ ls. f (g ls))
+part_free : {xs ys : List ℕ} {f g : List Lexeme → List Lexeme} → Part xs f → Stops ys → Free ys g
+    → Free (xs ++ ys) (λ ls. f (g ls))
 part_free {xs} {ys} {f} {g} p e q = record { goes = λ text ls r. regroup xs ys text (f (g ls)) (p.goes (ys ++ text) (g ls) (e.stop text) (q.goes text ls r)) }
 
 -- a part that a free text closes
-closed : {xs ys : List ℕ} {f g : List Lexeme → List Lexeme} → Part xs f → Stops ys → Free ys g → Part (xs ++ ys) (λ ls. f (g ls))
+closed : {xs ys : List ℕ} {f g : List Lexeme → List Lexeme} → Part xs f → Stops ys → Free ys g
+    → Part (xs ++ ys) (λ ls. f (g ls))
 closed p e q = let r = part_free p e q in record { goes = λ text ls ends s. r.goes text ls s }
 
 nothing : Part [] (λ ls. ls)
@@ -72,7 +75,8 @@ space : Free (codes " ") (λ ls. ls)
 space = record { goes = λ text ls p. a_space p }
 
 -- a symbol of one byte that begins no longer one
-mark : (b : ℕ) (s : Sign) → class b ≡ classes.Sign → meaning kinds.Symbol (b ∷ []) ≡ sign s → Free (b ∷ []) (λ ls. sign s ∷ ls)
+mark : (b : ℕ) (s : Sign) → class b ≡ classes.Sign → meaning kinds.Symbol (b ∷ []) ≡ sign s
+    → Free (b ∷ []) (λ ls. sign s ∷ ls)
 mark b s is e = record { goes = goes }
   where
     symbol_name : kinds.Symbol ≡ kinds.Name → ⊥
@@ -83,7 +87,8 @@ mark b s is e = record { goes = goes }
         let P : Lexeme → Type 0 = λ l. Pieces (b ∷ text) (l ∷ ls) in
         subst P e (a_token kinds.Symbol (b ∷ []) text (sign_longest b text is) (λ k. absurd (symbol_name k)) p)
 
-token : (kind : TokenKind) (bytes : List ℕ) (l : Lexeme) → spells kind bytes ≡ true → (kind ≡ kinds.Name → length bytes ≤ longest_name) → meaning kind bytes ≡ l → Part bytes (λ ls. l ∷ ls)
+token : (kind : TokenKind) (bytes : List ℕ) (l : Lexeme) → spells kind bytes ≡ true
+    → (kind ≡ kinds.Name → length bytes ≤ longest_name) → meaning kind bytes ≡ l → Part bytes (λ ls. l ∷ ls)
 token kind bytes l sp short e = record { goes = goes }
   where
     goes : (text : List ℕ) (ls : List Lexeme) → stops text ≡ true → Pieces text ls → Pieces (bytes ++ text) (l ∷ ls)
@@ -103,7 +108,8 @@ blank_short bytes e = cc
 tag_short : (bytes : List ℕ) → kinds.BinaryTag ≡ kinds.Name → length bytes ≤ longest_name
 tag_short bytes e = cc
 
-symbol : (bytes : List ℕ) (s : Sign) → spells kinds.Symbol bytes ≡ true → meaning kinds.Symbol bytes ≡ sign s → Part bytes (λ ls. sign s ∷ ls)
+symbol : (bytes : List ℕ) (s : Sign) → spells kinds.Symbol bytes ≡ true → meaning kinds.Symbol bytes ≡ sign s
+    → Part bytes (λ ls. sign s ∷ ls)
 symbol bytes s sp e = token kinds.Symbol bytes (sign s) sp (symbol_short bytes) e
 
 word_part : (x : List ℕ) → IsWord x → Part x (λ ls. word x ∷ ls)
@@ -157,7 +163,8 @@ bits_digits : (bs : List ℕ) → AreBits bs → list_all is_bit (map (λ d. 48 
 bits_digits [] h = refl
 bits_digits (b ∷ bs) h = let one = bit_digit b h.0 in rw one (bits_digits bs h.1)
 
-bits_spelled : (b : ℕ) (bs : List ℕ) → AreBits (b ∷ bs) → spells kinds.BinaryTag (codes "$" ++ map (λ d. 48 + d) (b ∷ bs)) ≡ true
+bits_spelled : (b : ℕ) (bs : List ℕ) → AreBits (b ∷ bs)
+    → spells kinds.BinaryTag (codes "$" ++ map (λ d. 48 + d) (b ∷ bs)) ≡ true
 bits_spelled b bs h = or_right (is_underscore (map (λ d. 48 + d) (b ∷ bs))) (are_bits (map (λ d. 48 + d) (b ∷ bs))) (bits_digits (b ∷ bs) h)
 
 bits_read : (b : ℕ) (bs : List ℕ) → IsMark (b ∷ bs) → binary_bits (map (λ d. 48 + d) (b ∷ bs)) ≡ Some (b ∷ bs)
@@ -204,18 +211,21 @@ in_parens : (x : List ℕ) (l : Lexeme) (es : ExprList) → Part x (λ ls. l ∷
     → Part (codes "(" ++ x ++ spaced es ++ codes ")") (λ ls. sign OpenParen ∷ l ∷ exprs_before es (sign CloseParen ∷ ls))
 in_parens x l es p q = closed (part_then (free_then (mark 40 OpenParen refl refl) p) (spaced_ends es) q) (stopped 41 refl) (mark 41 CloseParen refl refl)
 
-named_part : (x : List ℕ) (es : ExprList) → IsWord x → Part (spaced es) (exprs_before es) → Part (expr_text (named x es)) (expr_before (named x es))
+named_part : (x : List ℕ) (es : ExprList) → IsWord x → Part (spaced es) (exprs_before es)
+    → Part (expr_text (named x es)) (expr_before (named x es))
 named_part x no_exprs w q = word_part x w
 named_part x (an_expr e es) w q = in_parens x (word x) (an_expr e es) (word_part x w) q
 
 -- an operator between spaces
-between : (b : ℕ) (s : Sign) → class b ≡ classes.Sign → meaning kinds.Symbol (b ∷ []) ≡ sign s → Free (32 ∷ b ∷ 32 ∷ []) (λ ls. sign s ∷ ls)
+between : (b : ℕ) (s : Sign) → class b ≡ classes.Sign → meaning kinds.Symbol (b ∷ []) ≡ sign s
+    → Free (32 ∷ b ∷ 32 ∷ []) (λ ls. sign s ∷ ls)
 between b s is e = let m = mark b s is e in record { goes = λ text ls p. a_space (m.goes (32 ∷ text) ls (a_space p)) }
 
 bracket : Free (codes " ]") (λ ls. sign CloseBracket ∷ ls)
 bracket = let m = mark 93 CloseBracket refl refl in record { goes = λ text ls p. a_space (m.goes text ls p) }
 
-two_terms : (xs ys : List ℕ) (f g : List Lexeme → List Lexeme) (b : ℕ) (s : Sign) → class b ≡ classes.Sign → meaning kinds.Symbol (b ∷ []) ≡ sign s → Part xs f → Part ys g
+two_terms : (xs ys : List ℕ) (f g : List Lexeme → List Lexeme) (b : ℕ) (s : Sign) → class b ≡ classes.Sign
+    → meaning kinds.Symbol (b ∷ []) ≡ sign s → Part xs f → Part ys g
     → Part (codes "(" ++ xs ++ (32 ∷ b ∷ 32 ∷ []) ++ ys ++ codes ")") (λ ls. sign OpenParen ∷ f (sign s ∷ g (sign CloseParen ∷ ls)))
 two_terms xs ys f g b s is e p q =
     closed (free_then (part_free (free_then (mark 40 OpenParen refl refl) p) (record { stop = λ text. refl }) (between b s is e)) q) (stopped 41 refl) (mark 41 CloseParen refl refl)
@@ -261,10 +271,11 @@ constructor_part : (c : ConstructorView) → IsConstructor c
     → Part (constructor_text c) (λ ls. head c.name ∷ marked c.tag (items_before c.items (sign Equal ∷ word c.result ∷ exprs_before c.params ls)))
 constructor_part c p =
     part_then (free_then (part_free (part_then (part_then (head_part c.name p.name) (tag_ends c.tag) (tag_part c.tag p.tag)) (items_end c.items) (items_part c.items p.items))
-        (record { stop = λ text. refl }) (between 61 Equal refl refl)) (word_part c.result p.result)) (spaced_ends c.params) (exprs_part c.params p.params)
+    (record { stop = λ text. refl }) (between 61 Equal refl refl)) (word_part c.result p.result)) (spaced_ends c.params) (exprs_part c.params p.params)
 
 -- the canonical text and a semicolon are made of these pieces
-pub canonical_pieces : (c : ConstructorView) → IsConstructor c → Pieces (constructor_text c ++ codes ";") (constructor_before c [])
+pub canonical_pieces : (c : ConstructorView) → IsConstructor c
+    → Pieces (constructor_text c ++ codes ";") (constructor_before c [])
 canonical_pieces c p =
     let m = mark 59 Semicolon refl refl in
     let q = constructor_part c p in

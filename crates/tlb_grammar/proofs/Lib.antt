@@ -7,4 +7,5 @@ pub mod CanonicalWritten
 pub mod CanonicalPieces
 pub mod CanonicalMeant
 pub mod CanonicalProper
+pub mod CanonicalLevels
 pub mod CanonicalLaws

@@ -12,7 +12,8 @@ use Rattle.tlb_syntax.specs.Lexeme.{Lexeme, meaning, lexemes}
 pub data Pieces : List ℕ → List Lexeme → Type 0 where
   no_piece : Pieces [] []
   a_space : {text : List ℕ} {ls : List Lexeme} → Pieces text ls → Pieces (32 ∷ text) ls
-  a_token : (kind : TokenKind) (bytes text : List ℕ) {ls : List Lexeme} → Longest kind (length bytes) (bytes ++ text) → (kind ≡ Name → length bytes ≤ longest_name) → Pieces text ls
+  a_token : (kind : TokenKind) (bytes text : List ℕ) {ls : List Lexeme} → Longest kind (length bytes) (bytes ++ text)
+      → (kind ≡ Name → length bytes ≤ longest_name) → Pieces text ls
       → Pieces (bytes ++ text) (meaning kind bytes ∷ ls)
 
 -- the tokens of what is left of a text from a place on
@@ -24,16 +25,19 @@ pub record CutAs (whole : List ℕ) (place : ℕ) (text : List ℕ) (ls : List L
 both : {A B C : Type 0} {a b : A} {c d : B} (f : A → B → C) → a ≡ b → c ≡ d → f a c ≡ f b d
 both f p q = λ i. f (p i) (q i)
 
-left_by : (n place : ℕ) (whole front text : List ℕ) → length front ≡ n → drop place whole ≡ front ++ text → drop (place + n) whole ≡ text
+left_by : (n place : ℕ) (whole front text : List ℕ) → length front ≡ n → drop place whole ≡ front ++ text
+    → drop (place + n) whole ≡ text
 left_by n place whole front text size e =
     sym (drop-drop n place whole) ∙ ap (drop n) e ∙ ap (λ k. drop k (front ++ text)) (sym size) ∙ drop-append_seam front text
 
-bytes_at : (place : ℕ) (whole bytes text : List ℕ) → drop place whole ≡ bytes ++ text → take ((place + length bytes) - place) (drop place whole) ≡ bytes
+bytes_at : (place : ℕ) (whole bytes text : List ℕ) → drop place whole ≡ bytes ++ text
+    → take ((place + length bytes) - place) (drop place whole) ≡ bytes
 bytes_at place whole bytes text e =
     let size : (place + length bytes) - place ≡ length bytes = omega arith in
     ap (λ k. take k (drop place whole)) size ∙ ap (take (length bytes)) e ∙ take-append_seam bytes text
 
-cut_as : {text : List ℕ} {ls : List Lexeme} → Pieces text ls → (place : ℕ) (whole : List ℕ) → drop place whole ≡ text → CutAs whole place text ls
+cut_as : {text : List ℕ} {ls : List Lexeme} → Pieces text ls → (place : ℕ) (whole : List ℕ) → drop place whole ≡ text
+    → CutAs whole place text ls
 cut_as no_piece place whole e = record { tokens = []; cut = ended; same = refl }
 cut_as (a_space {text = text} p) place whole e =
     let r = cut_as p (place + 1) whole (left_by 1 place whole (32 ∷ []) text refl e) in

@@ -34,7 +34,8 @@ underscore_inner b e = grind arith
 hex_inner : (b : ℕ) → is_hex_digit b ≡ true → is_inner b ≡ true
 hex_inner b e = grind arith
 
-all_of : (p q : ℕ → Bool) → ((b : ℕ) → p b ≡ true → q b ≡ true) → (bs : List ℕ) → list_all p bs ≡ true → list_all q bs ≡ true
+all_of : (p q : ℕ → Bool) → ((b : ℕ) → p b ≡ true → q b ≡ true) → (bs : List ℕ) → list_all p bs ≡ true
+    → list_all q bs ≡ true
 all_of p q f [] e = refl
 all_of p q f (b ∷ bs) e =
     let parts = and_parts (p b) (list_all p bs) e in
@@ -104,7 +105,8 @@ no_longer kind other (b ∷ bs) (c ∷ cs) sp ends m lt le e = further (m - suc 
         not_true (is_inner c) ends inner
 
 -- no longer front spells any token where the text behind a token begins with a byte that no token goes on with
-pub longest_before : (kind : TokenKind) (bytes text : List ℕ) → spells kind bytes ≡ true → stops text ≡ true → Longest kind (length bytes) (bytes ++ text)
+pub longest_before : (kind : TokenKind) (bytes text : List ℕ) → spells kind bytes ≡ true → stops text ≡ true
+    → Longest kind (length bytes) (bytes ++ text)
 longest_before kind bytes text sp ends =
     let P : List ℕ → Type 0 = λ xs. spells kind xs ≡ true in
     record {
