@@ -35,12 +35,18 @@ shallow_writes : (c : ConstructorView) → IsConstructor c → constructor_level
 shallow_writes c p le =
     let r = canonical_cut c p in
     let P : List Lexeme → Type 0 = λ ls. Declarations standard ls (c ∷ []) in
-    record { tokens = r.tokens; cut = r.cut; written = subst P (sym r.same) (canonical_written c (Some 64) p le); few = one_few c }
+    record {
+      tokens = r.tokens;
+      cut = r.cut;
+      written = subst P (sym r.same) (canonical_written c (Some 64) p le);
+      few = one_few c;
+    }
 
 written_shallow : (c : ConstructorView) → IsConstructor c → Writes (ended_text c) (c ∷ []) → constructor_levels c ≤ 64
 written_shallow c p w =
     let r = canonical_cut c p in
-    let ls : lexemes (ended_text c) w.tokens ≡ constructor_before c [] = ap (lexemes (ended_text c)) (cut_once (ended_text c) w.tokens r.tokens w.cut r.cut) ∙ r.same in
+    let ls : lexemes (ended_text c) w.tokens ≡ constructor_before c [] =
+    ap (lexemes (ended_text c)) (cut_once (ended_text c) w.tokens r.tokens w.cut r.cut) ∙ r.same in
     let P : List Lexeme → Type 0 = λ xs. Declarations standard xs (c ∷ []) in
     levels_within c (c ∷ []) (subst P ls w.written)
 
@@ -73,5 +79,6 @@ canonical_once a b v w e =
     let r = canonical_cut b q in
     let x = canonical_derived a p (constructor_text b) r.tokens e r.cut in
     let P : List Lexeme → Type 0 = λ ls. Declarations (leveled None) ls (b ∷ []) in
-    let y : Declarations (leveled None) (lexemes (ended_text b) r.tokens) (b ∷ []) = subst P (sym r.same) (canonical_written b None q tt) in
+    let y : Declarations (leveled None) (lexemes (ended_text b) r.tokens) (b ∷ []) =
+    subst P (sym r.same) (canonical_written b None q tt) in
     one_head a b (schema_once (leveled None) (lexemes (ended_text b) r.tokens) (a ∷ []) (b ∷ []) x y)

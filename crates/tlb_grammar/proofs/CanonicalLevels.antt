@@ -1,4 +1,5 @@
--- The levels that lexemes open, told by the lexemes alone: no derivation opens fewer, and a canonical text opens so many.
+-- The levels that lexemes open, told by the lexemes alone: no derivation opens fewer, and a canonical text opens so
+-- many.
 use Rattle.std.proofs.Common.{◌≡◌, ◌≤◌, ◌+◌, suc, max, sym, refl, subst, ℕ, List, [], ◌∷◌, length, Option, Some, None, arith}
 use Rattle.nat_solver.specs.declared.compare.Op.{Op}
 use Rattle.nat_solver.specs.declared.compare.Op.TheVariants.{Eq, Lt, Le, Gt, Ge}
@@ -102,7 +103,8 @@ mutual
   term_peak {d = d} a_name n st h p = next d st n h p
   term_peak {d = d} a_hash n st h p = next d st n h p
   term_peak {d = d} (an_output sp t) n st h p = next d st n h (term_peak t n (prefix ∷ st) (inside sp prefix st n h) p)
-  term_peak {d = d} (a_reference sp t) n st h p = next d st n h (term_peak t n (prefix ∷ st) (inside sp prefix st n h) p)
+  term_peak {d = d} (a_reference sp t) n st h p =
+      next d st n h (term_peak t n (prefix ∷ st) (inside sp prefix st n h) p)
   term_peak {d = d} (a_paren {left = left} sp t) n st h p =
       let k = inside sp bracket st n h in
       next d st n h (sum_peak t n (bracket ∷ st) refl k (next left (bracket ∷ st) n k p))
@@ -140,17 +142,23 @@ mutual
   type_peak : {m : Bounds} {d : Count} {s : List Lexeme} {t : TypeView} {r : List Lexeme} → Typed m d s t r
       → (n : ℕ) (st : List Open) → IsBase st → Room d st n → Fits n st r → Fits n st s
   type_peak (always t) n st b h p = term_peak t n st h (based st b p)
-  type_peak {d = d} (on_number t u) n st b h p = term_peak t n st h (based st b (next d st n h (term_peak u n st h (based st b p))))
+  type_peak {d = d} (on_number t u) n st b h p =
+      term_peak t n st h (based st b (next d st n h (term_peak u n st h (based st b p))))
   type_peak {d = d} (on_bit le t u) n st b h p =
-      term_peak t n st h (based st b (next d st n h (next d st n h (based st b (next d st n h (term_peak u n st h (based st b p)))))))
+      term_peak t n st h (based st b
+      (next d st n h (next d st n h (based st b (next d st n h (term_peak u n st h (based st b p)))))))
 
   item_peak : {m : Bounds} {d : Count} {s : List Lexeme} {i : ItemView} {r : List Lexeme} → AnItem m d s i r
       → (n : ℕ) (st : List Open) → IsBase st → Room d st n → Fits n st r → Fits n st s
-  item_peak {d = d} of_numbers n st b h p = next d st n h (next d st n h (based st b (next d st n h (next d st n h (based st b (next d st n h p))))))
-  item_peak {d = d} of_types n st b h p = next d st n h (next d st n h (based st b (next d st n h (next d st n h (based st b (next d st n h p))))))
+  item_peak {d = d} of_numbers n st b h p =
+      next d st n h (next d st n h (based st b (next d st n h (next d st n h (based st b (next d st n h p))))))
+  item_peak {d = d} of_types n st b h p =
+      next d st n h (next d st n h (based st b (next d st n h (next d st n h (based st b (next d st n h p))))))
   item_peak {d = d} (a_check {c = c} o t u) n st b h p =
-      next d st n h (sum_peak t n st b h (next d st n h (along st (by_sign c st) (compared_peak o st) (sum_peak u n st b h (next d st n h p)))))
-  item_peak {d = d} (a_field {h = l} o t) n st b h p = next d st n h (along st (after l st) (headed_peak o st b) (next d st n h (type_peak t n st b h p)))
+      next d st n h (sum_peak t n st b h
+      (next d st n h (along st (by_sign c st) (compared_peak o st) (sum_peak u n st b h (next d st n h p)))))
+  item_peak {d = d} (a_field {h = l} o t) n st b h p =
+      next d st n h (along st (after l st) (headed_peak o st b) (next d st n h (type_peak t n st b h p)))
   item_peak (a_bare_field t) n st b h p = type_peak t n st b h p
 
   items_peak : {m : Bounds} {d k : Count} {s : List Lexeme} {is : ItemList} {r : List Lexeme} → Items m d k s is r
@@ -170,7 +178,9 @@ tag_peak untagged n p = p
 declaration_peak : {m : Bounds} {s : List Lexeme} {c : ConstructorView} {r : List Lexeme} → Declaration m s c r
     → (n : ℕ) → Room m.levels [] n → Fits n [] r → Fits n [] s
 declaration_peak {m = m} (a_declaration {h = l} o t is ps) n h p =
-    next m.levels [] n h (along [] (after l []) (headed_peak o [] refl) (tag_peak t n (items_peak is n [] refl h (next m.levels [] n h (next m.levels [] n h (params_peak ps n h (next m.levels [] n h p)))))))
+    next m.levels [] n h (along [] (after l []) (headed_peak o [] refl)
+    (tag_peak t n (items_peak is n [] refl h
+    (next m.levels [] n h (next m.levels [] n h (params_peak ps n h (next m.levels [] n h p)))))))
 
 -- no more than the bound is open at once
 declarations_peak : {m : Bounds} {s : List Lexeme} {cs : SchemaView} → Declarations m s cs → (n : ℕ)
@@ -263,7 +273,8 @@ prefixed {o} {st} {k} {s} {r} e p =
 
 -- the terms behind a name or a `##`, `#<` or `#<=` in parentheses
 abbrev Behind : List Open → ExprList → List Lexeme → Type 0
-Behind st es r = Reach (bracket ∷ st) (bracket ∷ st) (exprs_levels es) (exprs_before es (sign CloseParen ∷ r)) (sign CloseParen ∷ r)
+Behind st es r = Reach (bracket ∷ st) (bracket ∷ st) (exprs_levels es) (exprs_before es (sign CloseParen ∷ r))
+    (sign CloseParen ∷ r)
 
 named_reach : (x : List ℕ) (es : ExprList) (st : List Open) (r : List Lexeme) → Behind st es r
     → Reach st (behind st) (expr_levels (named x es)) (expr_before (named x es) r) r
@@ -291,13 +302,18 @@ mutual
   expr_reach (lit n) st r = leaf (number (Some n)) st r
   expr_reach (named x es) st r = named_reach x es st r (exprs_reach es (bracket ∷ st) (sign CloseParen ∷ r) refl)
   expr_reach nat32 st r = leaf (sign Hash) st r
-  expr_reach (bits es) st r = in_paren (skip {l = sign HashHash} refl (exprs_reach es (bracket ∷ st) (sign CloseParen ∷ r) refl))
-  expr_reach (below es) st r = in_paren (skip {l = sign HashLess} refl (exprs_reach es (bracket ∷ st) (sign CloseParen ∷ r) refl))
-  expr_reach (up_to es) st r = in_paren (skip {l = sign HashLessEqual} refl (exprs_reach es (bracket ∷ st) (sign CloseParen ∷ r) refl))
+  expr_reach (bits es) st r =
+      in_paren (skip {l = sign HashHash} refl (exprs_reach es (bracket ∷ st) (sign CloseParen ∷ r) refl))
+  expr_reach (below es) st r =
+      in_paren (skip {l = sign HashLess} refl (exprs_reach es (bracket ∷ st) (sign CloseParen ∷ r) refl))
+  expr_reach (up_to es) st r =
+      in_paren (skip {l = sign HashLessEqual} refl (exprs_reach es (bracket ∷ st) (sign CloseParen ∷ r) refl))
   expr_reach (plus a b) st r =
-      in_paren (chain (expr_reach a (bracket ∷ st) (sign Plus ∷ expr_before b (sign CloseParen ∷ r))) (skip {l = sign Plus} refl (expr_reach b (bracket ∷ st) (sign CloseParen ∷ r))))
+      in_paren (chain (expr_reach a (bracket ∷ st) (sign Plus ∷ expr_before b (sign CloseParen ∷ r)))
+      (skip {l = sign Plus} refl (expr_reach b (bracket ∷ st) (sign CloseParen ∷ r))))
   expr_reach (star a b) st r =
-      in_paren (chain (expr_reach a (bracket ∷ st) (sign Asterisk ∷ expr_before b (sign CloseParen ∷ r))) (skip {l = sign Asterisk} refl (expr_reach b (bracket ∷ st) (sign CloseParen ∷ r))))
+      in_paren (chain (expr_reach a (bracket ∷ st) (sign Asterisk ∷ expr_before b (sign CloseParen ∷ r)))
+      (skip {l = sign Asterisk} refl (expr_reach b (bracket ∷ st) (sign CloseParen ∷ r))))
   expr_reach (out e) st r = prefixed {o = Tilde} refl (expr_reach e (prefix ∷ st) r)
   expr_reach (ref e) st r = prefixed {o = Caret} refl (expr_reach e (prefix ∷ st) r)
   expr_reach (group is) st r = in_record (items_reach is (bracket ∷ st) (sign CloseBracket ∷ r) refl)
@@ -305,25 +321,34 @@ mutual
   exprs_reach : (es : ExprList) (st : List Open) (r : List Lexeme) → IsBase st
       → Reach st st (exprs_levels es) (exprs_before es r) r
   exprs_reach no_exprs st r b = none_reach st r
-  exprs_reach (an_expr e es) st r b = chain (into st (behind st) st b (expr_reach e st (exprs_before es r))) (exprs_reach es st r b)
+  exprs_reach (an_expr e es) st r b =
+      chain (into st (behind st) st b (expr_reach e st (exprs_before es r))) (exprs_reach es st r b)
 
   type_reach : (t : TypeView) (st : List Open) (r : List Lexeme) → IsBase st
       → Reach st st (type_levels t) (type_before t r) r
   type_reach (plain e) st r b = into st (behind st) st b (expr_reach e st r)
   type_reach (when c e) st r b =
-      chain (into st (behind st) st b (expr_reach c st (sign Question ∷ expr_before e r))) (skip {l = sign Question} refl (into st (behind st) st b (expr_reach e st r)))
+      chain (into st (behind st) st b (expr_reach c st (sign Question ∷ expr_before e r)))
+      (skip {l = sign Question} refl (into st (behind st) st b (expr_reach e st r)))
   type_reach (when_bit c k e) st r b =
       chain (into st (behind st) st b (expr_reach c st (sign Dot ∷ number (Some k) ∷ sign Question ∷ expr_before e r)))
-      (skip {l = sign Dot} refl (skip {l = number (Some k)} b (skip {l = sign Question} refl (into st (behind st) st b (expr_reach e st r)))))
+      (skip {l = sign Dot} refl
+      (skip {l = number (Some k)} b (skip {l = sign Question} refl (into st (behind st) st b (expr_reach e st r)))))
 
   item_reach : (i : ItemView) (st : List Open) (r : List Lexeme) → IsBase st
       → Reach st st (item_levels i) (item_before i r) r
   item_reach (implicit x k) st r b =
-      skip {l = sign OpenBrace} refl (skip {l = word x} b (skip {l = sign Colon} refl (skip {l = kind_lexeme k} (kind_same k st b) (skip {l = sign CloseBrace} refl (none_reach st r)))))
+      skip {l = sign OpenBrace} refl
+      (skip {l = word x} b (skip {l = sign Colon} refl
+      (skip {l = kind_lexeme k} (kind_same k st b) (skip {l = sign CloseBrace} refl (none_reach st r)))))
   item_reach (check a op c) st r b =
-      skip {l = sign OpenBrace} refl (chain (into st (behind st) st b (expr_reach a st (sign (comparing op) ∷ expr_before c (sign CloseBrace ∷ r))))
-      (skip {l = sign (comparing op)} (comparing_same op st) (upto {l = sign CloseBrace} refl (into st (behind st) st b (expr_reach c st (sign CloseBrace ∷ r))))))
-  item_reach (explicit x t) st r b = skip {l = head x} (head_same x st b) (skip {l = sign Colon} refl (type_reach t st r b))
+      skip {l = sign OpenBrace} refl
+      (chain (into st (behind st) st b
+      (expr_reach a st (sign (comparing op) ∷ expr_before c (sign CloseBrace ∷ r))))
+      (skip {l = sign (comparing op)} (comparing_same op st)
+      (upto {l = sign CloseBrace} refl (into st (behind st) st b (expr_reach c st (sign CloseBrace ∷ r))))))
+  item_reach (explicit x t) st r b =
+      skip {l = head x} (head_same x st b) (skip {l = sign Colon} refl (type_reach t st r b))
 
   items_reach : (is : ItemList) (st : List Open) (r : List Lexeme) → IsBase st
       → Reach st st (items_levels is) (items_before is r) r
@@ -337,7 +362,9 @@ tag_reach (given b) p = skip {l = tag (Some b)} refl p
 constructor_reach : (c : ConstructorView) (r : List Lexeme)
     → Reach [] [] (constructor_levels c) (constructor_before c r) (sign Semicolon ∷ r)
 constructor_reach c r =
-    skip {l = head c.name} (head_same c.name [] refl) (tag_reach c.tag (chain (items_reach c.items [] (sign Equal ∷ word c.result ∷ exprs_before c.params (sign Semicolon ∷ r)) refl)
+    skip {l = head c.name} (head_same c.name [] refl)
+    (tag_reach c.tag (chain
+    (items_reach c.items [] (sign Equal ∷ word c.result ∷ exprs_before c.params (sign Semicolon ∷ r)) refl)
     (skip {l = sign Equal} refl (skip {l = word c.result} refl (exprs_reach c.params [] (sign Semicolon ∷ r) refl)))))
 
 -- what derives the lexemes of a canonical text has room for its levels

@@ -44,7 +44,8 @@ number_meant n =
 
 at_most_meant : (bits : List ℕ) → AreBits bits → IsMeant (tag (at_most_1023 bits))
 at_most_meant bits h =
-    elim (nat_le (length bits) 1023) as (λ t. nat_le (length bits) 1023 ≡ t → IsMeant (tag (if t then Some bits else None))) [
+    elim (nat_le (length bits) 1023) as
+    (λ t. nat_le (length bits) 1023 ≡ t → IsMeant (tag (if t then Some bits else None))) [
       | true ↦ λ e. record { bits = h; few = few e }
       | false ↦ λ e. tt
     ] refl
@@ -68,7 +69,8 @@ are_bits_all (d ∷ ds) e = e
 
 binary_meant : (ds : List ℕ) → (is_underscore ds || are_bits ds) ≡ true → IsMeant (tag (binary_bits ds))
 binary_meant ds e =
-    elim (is_underscore ds) as (λ t. (t || are_bits ds) ≡ true → IsMeant (tag (if t then Some [] else at_most_1023 (map (λ d. d - 48) ds)))) [
+    elim (is_underscore ds) as
+    (λ t. (t || are_bits ds) ≡ true → IsMeant (tag (if t then Some [] else at_most_1023 (map (λ d. d - 48) ds)))) [
       | true ↦ λ h. empty_meant
       | false ↦ λ h. at_most_meant (map (λ d. d - 48) ds) (digits_bits ds (are_bits_all ds h))
     ] e
@@ -134,7 +136,8 @@ hex_open (d ∷ c ∷ ds) e f =
 
 hex_meant : (ds : List ℕ) → ends_hex ds ≡ true → IsMeant (tag (hexadecimal_bits ds))
 hex_meant ds e =
-    let closed = and_at_most_meant (without_completion (flat_map hex_bits (hex_digits ds))) (uncompleted_bits (flat_map hex_bits (hex_digits ds)) (hex_all_bits (hex_digits ds) (hex_front ds e))) in
+    let closed = and_at_most_meant (without_completion (flat_map hex_bits (hex_digits ds)))
+    (uncompleted_bits (flat_map hex_bits (hex_digits ds)) (hex_all_bits (hex_digits ds) (hex_front ds e))) in
     elim (is_underscore ds) as (λ t. IsMeant (tag (
     if t then Some []
     else if is_completed ds then and_at_most_1023 (without_completion (flat_map hex_bits (hex_digits ds)))
@@ -152,7 +155,9 @@ hex_meant ds e =
 
 sign_meant : (ss : List Sign) (text : List ℕ) → IsMeant (sign_among ss text)
 sign_meant [] text = tt
-sign_meant (s ∷ ss) text = elim (bytes_eq (sign_text s) text) as (λ t. IsMeant (if t then sign s else sign_among ss text)) [ true ↦ tt | false ↦ sign_meant ss text ]
+sign_meant (s ∷ ss) text =
+    elim (bytes_eq (sign_text s) text) as
+    (λ t. IsMeant (if t then sign s else sign_among ss text)) [ true ↦ tt | false ↦ sign_meant ss text ]
 
 token_meant : (kind : TokenKind) (text : List ℕ) → spells kind text ≡ true → (kind ≡ Name → length text ≤ longest_name)
     → IsMeant (meaning kind text)
@@ -170,10 +175,12 @@ longest_meant : (kind : TokenKind) (n place : ℕ) (whole text : List ℕ) → L
     → IsMeant (meaning kind (take ((place + n) - place) (drop place whole)))
 longest_meant kind n place whole text longest short e =
     let size : (place + n) - place ≡ n = omega arith in
-    let bytes : take ((place + n) - place) (drop place whole) ≡ take n text = ap (λ k. take k (drop place whole)) size ∙ ap (take n) e in
+    let bytes : take ((place + n) - place) (drop place whole) ≡ take n text =
+    ap (λ k. take k (drop place whole)) size ∙ ap (take n) e in
     let P : List ℕ → Type 0 = λ xs. IsMeant (meaning kind xs) in
     let Q : ℕ → Type 0 = λ k. k ≤ longest_name in
-    subst P (sym bytes) (token_meant kind (take n text) longest.spelled (λ is. subst Q (sym (length-take-le n text longest.within)) (short is)))
+    subst P (sym bytes) (token_meant kind (take n text) longest.spelled
+    (λ is. subst Q (sym (length-take-le n text longest.within)) (short is)))
 
 left_over : (n place : ℕ) (whole text : List ℕ) → drop place whole ≡ text → drop (place + n) whole ≡ drop n text
 left_over n place whole text e = sym (drop-drop n place whole) ∙ ap (drop n) e

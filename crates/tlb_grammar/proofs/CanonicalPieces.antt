@@ -23,7 +23,7 @@ use Rattle.tlb_syntax.specs.declared.sign.Sign.TheVariants.{Hash, HashHash, Hash
 use Rattle.tlb_syntax.specs.Lexeme.{Lexeme, word, blank, number, tag, sign, meaning, decimal_onto, number_of, binary_bits, at_most_1023}
 use Rattle.tlb_syntax.specs.Tree.{ExprView, ExprList, ItemView, ItemList, TypeView, TagView, ConstructorView, lit, named, nat32, bits, below, up_to, plus, star, out, ref, group, no_exprs, an_expr, plain, when, when_bit, implicit, check, explicit, no_items, an_item, computed, given}
 use Rattle.tlb_syntax.specs.Text.{name_text, kind_text, op_text, tag_text, expr_text, spaced, type_text, item_text, spaced_items, constructor_text}
-use Rattle.tlb_grammar.proofs.Pieces.{Pieces, no_piece, a_space, a_token}
+use Rattle.tlb_grammar.proofs.Pieces.{both, Pieces, no_piece, a_space, a_token}
 use Rattle.tlb_grammar.proofs.PiecesLongest.{is_inner, stops, longest_before}
 use Rattle.tlb_grammar.proofs.CanonicalTrees.{IsWord, IsMark, IsWordOrBlank, IsTag, IsExpr, AreExprs, IsType, IsItem, AreItems, IsConstructor, head, comparing, kind_lexeme, marked, expr_before, exprs_before, type_before, item_before, items_before, constructor_before}
 
@@ -41,8 +41,9 @@ pub record Part (xs : List ℕ) (f : List Lexeme → List Lexeme) : Type 0 where
 record Ends (xs : List ℕ) : Type 0 where
   ends : (text : List ℕ) → stops text ≡ true → stops (xs ++ text) ≡ true
 
--- it ends a token, whatever follows
-record Stops (xs : List ℕ) : Type 0 where
+-- in front of any text of pieces, and it ends a token
+record Breaks (xs : List ℕ) (f : List Lexeme → List Lexeme) : Type 0 where
+  free : Free xs f
   stop : (text : List ℕ) → stops (xs ++ text) ≡ true
 
 regroup : (xs ys text : List ℕ) (ls : List Lexeme) → Pieces (xs ++ (ys ++ text)) ls → Pieces (xs ++ ys ++ text) ls
@@ -50,29 +51,40 @@ regroup xs ys text ls p = let P : List ℕ → Type 0 = λ zs. Pieces zs ls in s
 
 free_then : {xs ys : List ℕ} {f g : List Lexeme → List Lexeme} → Free xs f → Part ys g
     → Part (xs ++ ys) (λ ls. f (g ls))
-free_then {xs} {ys} {f} {g} p q = record { goes = λ text ls ends r. regroup xs ys text (f (g ls)) (p.goes (ys ++ text) (g ls) (q.goes text ls ends r)) }
+free_then {xs} {ys} {f} {g} p q =
+    record {
+      goes = λ text ls ends r. regroup xs ys text (f (g ls))
+          (p.goes (ys ++ text) (g ls) (q.goes text ls ends r));
+    }
 
 part_then : {xs ys : List ℕ} {f g : List Lexeme → List Lexeme} → Part xs f → Ends ys → Part ys g
     → Part (xs ++ ys) (λ ls. f (g ls))
-part_then {xs} {ys} {f} {g} p e q = record { goes = λ text ls ends r. regroup xs ys text (f (g ls)) (p.goes (ys ++ text) (g ls) (e.ends text ends) (q.goes text ls ends r)) }
+part_then {xs} {ys} {f} {g} p e q =
+    record {
+      goes = λ text ls ends r. regroup xs ys text (f (g ls))
+          (p.goes (ys ++ text) (g ls) (e.ends text ends) (q.goes text ls ends r));
+    }
 
--- a part before a free text that ends it
-part_free : {xs ys : List ℕ} {f g : List Lexeme → List Lexeme} → Part xs f → Stops ys → Free ys g
+-- a part that is ended
+broken : {xs ys : List ℕ} {f g : List Lexeme → List Lexeme} → Part xs f → Breaks ys g
     → Free (xs ++ ys) (λ ls. f (g ls))
-part_free {xs} {ys} {f} {g} p e q = record { goes = λ text ls r. regroup xs ys text (f (g ls)) (p.goes (ys ++ text) (g ls) (e.stop text) (q.goes text ls r)) }
+broken {xs} {ys} {f} {g} p q =
+    record {
+      goes = λ text ls r. regroup xs ys text (f (g ls))
+          (p.goes (ys ++ text) (g ls) (q.stop text) (q.free.goes text ls r));
+    }
 
--- a part that a free text closes
-closed : {xs ys : List ℕ} {f g : List Lexeme → List Lexeme} → Part xs f → Stops ys → Free ys g
+closed : {xs ys : List ℕ} {f g : List Lexeme → List Lexeme} → Part xs f → Breaks ys g
     → Part (xs ++ ys) (λ ls. f (g ls))
-closed p e q = let r = part_free p e q in record { goes = λ text ls ends s. r.goes text ls s }
+closed p q = let r = broken p q in record { goes = λ text ls ends s. r.goes text ls s }
 
 nothing : Part [] (λ ls. ls)
 nothing = record { goes = λ text ls ends p. p }
 
 -- ---- tokens
 
-space : Free (codes " ") (λ ls. ls)
-space = record { goes = λ text ls p. a_space p }
+space : Breaks (codes " ") (λ ls. ls)
+space = record { free = record { goes = λ text ls p. a_space p }; stop = λ text. refl }
 
 -- a symbol of one byte that begins no longer one
 mark : (b : ℕ) (s : Sign) → class b ≡ classes.Sign → meaning kinds.Symbol (b ∷ []) ≡ sign s
@@ -138,7 +150,9 @@ number_read n h =
 
 number_part : (n : ℕ) → n < 2 ^ 32 → Part (decimal n) (λ ls. number (Some n) ∷ ls)
 number_part n h =
-    token kinds.Number (decimal n) (number (Some n)) (digits_spell (decimal n) (decimal_nonempty n (omega arith)) (digits_decimal own n (omega arith))) (number_short (decimal n)) (ap number (number_read n h))
+    token kinds.Number (decimal n) (number (Some n))
+    (digits_spell (decimal n) (decimal_nonempty n (omega arith)) (digits_decimal own n (omega arith)))
+    (number_short (decimal n)) (ap number (number_read n h))
 
 -- ---- tags
 
@@ -149,9 +163,6 @@ not_underscore b (c ∷ bs) h = refl
 read_back : (bs : List ℕ) → map (λ d. d - 48) (map (λ d. 48 + d) bs) ≡ bs
 read_back [] = refl
 read_back (b ∷ bs) = both (λ x xs. x ∷ xs) (omega arith) (read_back bs)
-  where
-    both : {A B C : Type 0} {a b : A} {c d : B} (f : A → B → C) → a ≡ b → c ≡ d → f a c ≡ f b d
-    both f p q = λ i. f (p i) (q i)
 
 few_bits : (bs : List ℕ) → length bs ≤ 1023 → at_most_1023 bs ≡ Some bs
 few_bits bs h = grind arith
@@ -165,18 +176,22 @@ bits_digits (b ∷ bs) h = let one = bit_digit b h.0 in rw one (bits_digits bs h
 
 bits_spelled : (b : ℕ) (bs : List ℕ) → AreBits (b ∷ bs)
     → spells kinds.BinaryTag (codes "$" ++ map (λ d. 48 + d) (b ∷ bs)) ≡ true
-bits_spelled b bs h = or_right (is_underscore (map (λ d. 48 + d) (b ∷ bs))) (are_bits (map (λ d. 48 + d) (b ∷ bs))) (bits_digits (b ∷ bs) h)
+bits_spelled b bs h =
+    or_right (is_underscore (map (λ d. 48 + d) (b ∷ bs))) (are_bits (map (λ d. 48 + d) (b ∷ bs)))
+    (bits_digits (b ∷ bs) h)
 
 bits_read : (b : ℕ) (bs : List ℕ) → IsMark (b ∷ bs) → binary_bits (map (λ d. 48 + d) (b ∷ bs)) ≡ Some (b ∷ bs)
 bits_read b bs h =
-    ap (λ t. if t then Some [] else at_most_1023 (map (λ d. d - 48) (map (λ d. 48 + d) (b ∷ bs)))) (not_underscore b bs h.bits.0)
+    ap (λ t. if t then Some [] else at_most_1023 (map (λ d. d - 48) (map (λ d. 48 + d) (b ∷ bs))))
+    (not_underscore b bs h.bits.0)
     ∙ ap at_most_1023 (read_back (b ∷ bs)) ∙ few_bits (b ∷ bs) h.few
 
 tag_part : (t : TagView) → IsTag t → Part (tag_text t) (marked t)
 tag_part computed h = nothing
 tag_part (given []) h = token kinds.BinaryTag (codes "$_") (tag (Some [])) refl (tag_short (codes "$_")) refl
 tag_part (given (b ∷ bs)) h =
-    token kinds.BinaryTag (codes "$" ++ map (λ d. 48 + d) (b ∷ bs)) (tag (Some (b ∷ bs))) (bits_spelled b bs h.bits) (tag_short (codes "$" ++ map (λ d. 48 + d) (b ∷ bs))) (ap tag (bits_read b bs h))
+    token kinds.BinaryTag (codes "$" ++ map (λ d. 48 + d) (b ∷ bs)) (tag (Some (b ∷ bs))) (bits_spelled b bs h.bits)
+    (tag_short (codes "$" ++ map (λ d. 48 + d) (b ∷ bs))) (ap tag (bits_read b bs h))
 
 tag_ends : (t : TagView) → Ends (tag_text t)
 tag_ends computed = record { ends = λ text e. e }
@@ -204,79 +219,121 @@ items_end : (is : ItemList) → Ends (spaced_items is)
 items_end no_items = record { ends = λ text e. e }
 items_end (an_item i is) = record { ends = λ text e. refl }
 
-stopped : (b : ℕ) → not (is_inner b) ≡ true → Stops (b ∷ [])
-stopped b e = record { stop = λ text. e }
+breaking : (b : ℕ) (s : Sign) → class b ≡ classes.Sign → meaning kinds.Symbol (b ∷ []) ≡ sign s
+    → not (is_inner b) ≡ true → Breaks (b ∷ []) (λ ls. sign s ∷ ls)
+breaking b s is e stop = record { free = mark b s is e; stop = λ text. stop }
+
+open_paren : Breaks (codes "(") (λ ls. sign OpenParen ∷ ls)
+open_paren = breaking 40 OpenParen refl refl refl
+
+close_paren : Breaks (codes ")") (λ ls. sign CloseParen ∷ ls)
+close_paren = breaking 41 CloseParen refl refl refl
+
+open_brace : Breaks (codes "{") (λ ls. sign OpenBrace ∷ ls)
+open_brace = breaking 123 OpenBrace refl refl refl
+
+close_brace : Breaks (codes "}") (λ ls. sign CloseBrace ∷ ls)
+close_brace = breaking 125 CloseBrace refl refl refl
+
+colon : Breaks (codes ":") (λ ls. sign Colon ∷ ls)
+colon = breaking 58 Colon refl refl refl
+
+question : Breaks (codes "?") (λ ls. sign Question ∷ ls)
+question = breaking 63 Question refl refl refl
+
+dot : Breaks (codes ".") (λ ls. sign Dot ∷ ls)
+dot = breaking 46 Dot refl refl refl
+
+semicolon : Breaks (codes ";") (λ ls. sign Semicolon ∷ ls)
+semicolon = breaking 59 Semicolon refl refl refl
+
+-- a bracket behind a space
+close_bracket : Breaks (codes " ]") (λ ls. sign CloseBracket ∷ ls)
+close_bracket =
+    let m = mark 93 CloseBracket refl refl in
+    record { free = record { goes = λ text ls p. a_space (m.goes text ls p) }; stop = λ text. refl }
+
+-- a symbol between spaces
+between : (b : ℕ) (s : Sign) → class b ≡ classes.Sign → meaning kinds.Symbol (b ∷ []) ≡ sign s
+    → Breaks (32 ∷ b ∷ 32 ∷ []) (λ ls. sign s ∷ ls)
+between b s is e =
+    let m = mark b s is e in
+    record { free = record { goes = λ text ls p. a_space (m.goes (32 ∷ text) ls (a_space p)) }; stop = λ text. refl }
 
 in_parens : (x : List ℕ) (l : Lexeme) (es : ExprList) → Part x (λ ls. l ∷ ls) → Part (spaced es) (exprs_before es)
-    → Part (codes "(" ++ x ++ spaced es ++ codes ")") (λ ls. sign OpenParen ∷ l ∷ exprs_before es (sign CloseParen ∷ ls))
-in_parens x l es p q = closed (part_then (free_then (mark 40 OpenParen refl refl) p) (spaced_ends es) q) (stopped 41 refl) (mark 41 CloseParen refl refl)
+    → Part (codes "(" ++ x ++ spaced es ++ codes ")")
+    (λ ls. sign OpenParen ∷ l ∷ exprs_before es (sign CloseParen ∷ ls))
+in_parens x l es p q = closed (part_then (free_then open_paren.free p) (spaced_ends es) q) close_paren
 
 named_part : (x : List ℕ) (es : ExprList) → IsWord x → Part (spaced es) (exprs_before es)
     → Part (expr_text (named x es)) (expr_before (named x es))
 named_part x no_exprs w q = word_part x w
 named_part x (an_expr e es) w q = in_parens x (word x) (an_expr e es) (word_part x w) q
 
--- an operator between spaces
-between : (b : ℕ) (s : Sign) → class b ≡ classes.Sign → meaning kinds.Symbol (b ∷ []) ≡ sign s
-    → Free (32 ∷ b ∷ 32 ∷ []) (λ ls. sign s ∷ ls)
-between b s is e = let m = mark b s is e in record { goes = λ text ls p. a_space (m.goes (32 ∷ text) ls (a_space p)) }
-
-bracket : Free (codes " ]") (λ ls. sign CloseBracket ∷ ls)
-bracket = let m = mark 93 CloseBracket refl refl in record { goes = λ text ls p. a_space (m.goes text ls p) }
-
-two_terms : (xs ys : List ℕ) (f g : List Lexeme → List Lexeme) (b : ℕ) (s : Sign) → class b ≡ classes.Sign
+two_terms : {xs ys : List ℕ} {f g : List Lexeme → List Lexeme} (b : ℕ) (s : Sign) → class b ≡ classes.Sign
     → meaning kinds.Symbol (b ∷ []) ≡ sign s → Part xs f → Part ys g
-    → Part (codes "(" ++ xs ++ (32 ∷ b ∷ 32 ∷ []) ++ ys ++ codes ")") (λ ls. sign OpenParen ∷ f (sign s ∷ g (sign CloseParen ∷ ls)))
-two_terms xs ys f g b s is e p q =
-    closed (free_then (part_free (free_then (mark 40 OpenParen refl refl) p) (record { stop = λ text. refl }) (between b s is e)) q) (stopped 41 refl) (mark 41 CloseParen refl refl)
+    → Part (codes "(" ++ xs ++ (32 ∷ b ∷ 32 ∷ []) ++ ys ++ codes ")")
+    (λ ls. sign OpenParen ∷ f (sign s ∷ g (sign CloseParen ∷ ls)))
+two_terms b s is e p q = closed (free_then (broken (free_then open_paren.free p) (between b s is e)) q) close_paren
 
 mutual
   expr_part : (e : ExprView) → IsExpr e → Part (expr_text e) (expr_before e)
   expr_part (lit n) p = number_part n p
   expr_part (named x es) p = named_part x es p.0 (exprs_part es p.1)
   expr_part nat32 p = symbol (codes "#") Hash refl refl
-  expr_part (bits es) p = in_parens (codes "##") (sign HashHash) es (symbol (codes "##") HashHash refl refl) (exprs_part es p.1)
-  expr_part (below es) p = in_parens (codes "#<") (sign HashLess) es (symbol (codes "#<") HashLess refl refl) (exprs_part es p.1)
-  expr_part (up_to es) p = in_parens (codes "#<=") (sign HashLessEqual) es (symbol (codes "#<=") HashLessEqual refl refl) (exprs_part es p.1)
-  expr_part (plus a b) p = two_terms (expr_text a) (expr_text b) (expr_before a) (expr_before b) 43 Plus refl refl (expr_part a p.0) (expr_part b p.1)
-  expr_part (star a b) p = two_terms (expr_text a) (expr_text b) (expr_before a) (expr_before b) 42 Asterisk refl refl (expr_part a p.0) (expr_part b p.1)
+  expr_part (bits es) p =
+      in_parens (codes "##") (sign HashHash) es (symbol (codes "##") HashHash refl refl) (exprs_part es p.1)
+  expr_part (below es) p =
+      in_parens (codes "#<") (sign HashLess) es (symbol (codes "#<") HashLess refl refl) (exprs_part es p.1)
+  expr_part (up_to es) p =
+      in_parens (codes "#<=") (sign HashLessEqual) es (symbol (codes "#<=") HashLessEqual refl refl) (exprs_part es p.1)
+  expr_part (plus a b) p = two_terms 43 Plus refl refl (expr_part a p.0) (expr_part b p.1)
+  expr_part (star a b) p = two_terms 42 Asterisk refl refl (expr_part a p.0) (expr_part b p.1)
   expr_part (out e) p = free_then (mark 126 Tilde refl refl) (expr_part e p)
   expr_part (ref e) p = free_then (mark 94 Caret refl refl) (expr_part e p)
-  expr_part (group is) p = closed (free_then (mark 91 OpenBracket refl refl) (items_part is p.1)) (record { stop = λ text. refl }) bracket
+  expr_part (group is) p = closed (free_then (mark 91 OpenBracket refl refl) (items_part is p.1)) close_bracket
 
   exprs_part : (es : ExprList) → AreExprs es → Part (spaced es) (exprs_before es)
   exprs_part no_exprs p = nothing
-  exprs_part (an_expr e es) p = part_then (free_then space (expr_part e p.0)) (spaced_ends es) (exprs_part es p.1)
+  exprs_part (an_expr e es) p =
+      part_then (free_then space.free (expr_part e p.0)) (spaced_ends es) (exprs_part es p.1)
 
   type_part : (t : TypeView) → IsType t → Part (type_text t) (type_before t)
   type_part (plain e) p = expr_part e p
-  type_part (when c e) p = free_then (part_free (expr_part c p.0) (stopped 63 refl) (mark 63 Question refl refl)) (expr_part e p.1)
+  type_part (when c e) p = free_then (broken (expr_part c p.0) question) (expr_part e p.1)
   type_part (when_bit c k e) p =
-      free_then (part_free (free_then (part_free (expr_part c p.1) (stopped 46 refl) (mark 46 Dot refl refl)) (number_part k (omega (arith, p.0)))) (stopped 63 refl) (mark 63 Question refl refl)) (expr_part e p.2)
+      let tested = free_then (broken (expr_part c p.1) dot) (number_part k (omega (arith, p.0))) in
+      free_then (broken tested question) (expr_part e p.2)
 
   item_part : (i : ItemView) → IsItem i → Part (item_text i) (item_before i)
   item_part (implicit x k) p =
-      closed (free_then (part_free (free_then (mark 123 OpenBrace refl refl) (word_part x p)) (stopped 58 refl) (mark 58 Colon refl refl)) (kind_part k)) (stopped 125 refl) (mark 125 CloseBrace refl refl)
+      let name = free_then open_brace.free (word_part x p) in
+      closed (free_then (broken name colon) (kind_part k)) close_brace
   item_part (check a op b) p =
-      closed (free_then (part_free (free_then (part_free (free_then (mark 123 OpenBrace refl refl) (expr_part a p.0)) (stopped 32 refl) space) (op_part op)) (stopped 32 refl) space) (expr_part b p.1)) (stopped 125 refl) (mark 125 CloseBrace refl refl)
-  item_part (explicit x t) p = free_then (part_free (head_part x p.0) (stopped 58 refl) (mark 58 Colon refl refl)) (type_part t p.1)
+      let left = free_then open_brace.free (expr_part a p.0) in
+      let with_op = free_then (broken left space) (op_part op) in
+      closed (free_then (broken with_op space) (expr_part b p.1)) close_brace
+  item_part (explicit x t) p = free_then (broken (head_part x p.0) colon) (type_part t p.1)
 
   items_part : (is : ItemList) → AreItems is → Part (spaced_items is) (items_before is)
   items_part no_items p = nothing
-  items_part (an_item i is) p = part_then (free_then space (item_part i p.0)) (items_end is) (items_part is p.1)
+  items_part (an_item i is) p =
+      part_then (free_then space.free (item_part i p.0)) (items_end is) (items_part is p.1)
 
 -- ---- constructors
 
-constructor_part : (c : ConstructorView) → IsConstructor c
-    → Part (constructor_text c) (λ ls. head c.name ∷ marked c.tag (items_before c.items (sign Equal ∷ word c.result ∷ exprs_before c.params ls)))
+abbrev unended : ConstructorView → List Lexeme → List Lexeme
+unended c ls = head c.name ∷ marked c.tag (items_before c.items (sign Equal ∷ word c.result ∷ exprs_before c.params ls))
+
+constructor_part : (c : ConstructorView) → IsConstructor c → Part (constructor_text c) (unended c)
 constructor_part c p =
-    part_then (free_then (part_free (part_then (part_then (head_part c.name p.name) (tag_ends c.tag) (tag_part c.tag p.tag)) (items_end c.items) (items_part c.items p.items))
-    (record { stop = λ text. refl }) (between 61 Equal refl refl)) (word_part c.result p.result)) (spaced_ends c.params) (exprs_part c.params p.params)
+    let marked_name = part_then (head_part c.name p.name) (tag_ends c.tag) (tag_part c.tag p.tag) in
+    let with_items = part_then marked_name (items_end c.items) (items_part c.items p.items) in
+    let with_result = free_then (broken with_items (between 61 Equal refl refl)) (word_part c.result p.result) in
+    part_then with_result (spaced_ends c.params) (exprs_part c.params p.params)
 
 -- the canonical text and a semicolon are made of these pieces
 pub canonical_pieces : (c : ConstructorView) → IsConstructor c
     → Pieces (constructor_text c ++ codes ";") (constructor_before c [])
 canonical_pieces c p =
-    let m = mark 59 Semicolon refl refl in
-    let q = constructor_part c p in
-    q.goes (codes ";") (sign Semicolon ∷ []) refl (m.goes [] [] no_piece)
+    (constructor_part c p).goes (codes ";") (sign Semicolon ∷ []) refl (semicolon.free.goes [] [] no_piece)

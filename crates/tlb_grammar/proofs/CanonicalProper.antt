@@ -38,7 +38,8 @@ mutual
   term_proper (an_output sp t) b p = term_proper t b p.1
   term_proper (a_reference sp t) b p = term_proper t b p.1
   term_proper (a_paren sp t) b p = let q = sum_proper t b p.1 in (q.0, q.1.1)
-  term_proper {m = m} (a_record {is = is} sp t) b p = let q = items_proper t b p.1 in ((few_items m (items_count is) b q.0, q.1), q.2.1)
+  term_proper {m = m} (a_record {is = is} sp t) b p = let q = items_proper t b p.1 in
+      ((few_items m (items_count is) b q.0, q.1), q.2.1)
 
   terms_proper : {m : Bounds} {d : Count} {s : List Lexeme} {es : ExprList} {r : List Lexeme} → Terms m d s es r
       → IsStandard m → AreMeant s → AreExprs es × AreMeant r
@@ -56,7 +57,8 @@ mutual
   product_proper : {m : Bounds} {d : Count} {s : List Lexeme} {e : ExprView} {r : List Lexeme} → Product m d s e r
       → IsStandard m → AreMeant s → IsExpr e × AreMeant r
   product_proper (one_factor t) b p = apply_proper t b p
-  product_proper (two_factors t u) b p = let q = apply_proper t b p in let v = apply_proper u b q.1.1 in ((q.0, v.0), v.1)
+  product_proper (two_factors t u) b p = let q = apply_proper t b p in let v = apply_proper u b q.1.1 in
+      ((q.0, v.0), v.1)
 
   sum_proper : {m : Bounds} {d : Count} {s : List Lexeme} {e : ExprView} {r : List Lexeme} → Sum m d s e r
       → IsStandard m → AreMeant s → IsExpr e × AreMeant r
@@ -71,7 +73,8 @@ mutual
       → IsStandard m → AreMeant s → IsType t × AreMeant r
   type_proper (always t) b p = term_proper t b p
   type_proper (on_number t u) b p = let q = term_proper t b p in let v = term_proper u b q.1.1 in ((q.0, v.0), v.1)
-  type_proper (on_bit le t u) b p = let q = term_proper t b p in let v = term_proper u b q.1.1.1.1 in ((le, q.0, v.0), v.1)
+  type_proper (on_bit le t u) b p = let q = term_proper t b p in let v = term_proper u b q.1.1.1.1 in
+      ((le, q.0, v.0), v.1)
 
   item_proper : {m : Bounds} {d : Count} {s : List Lexeme} {i : ItemView} {r : List Lexeme} → AnItem m d s i r
       → IsStandard m → AreMeant s → IsItem i × AreMeant r
@@ -106,8 +109,19 @@ declaration_proper : {s : List Lexeme} {c : ConstructorView} {r : List Lexeme} �
 declaration_proper (a_declaration h t is ps) p =
     let mark = tag_proper t p.1 in
     let inside = items_proper is refl mark.1 in
-    let behind = params_proper ps refl inside.2.1.1 in
-    (record { name = headed h p.0; tag = mark.0; few_items = inside.0; items = inside.1; result = inside.2.1.0; few_params = behind.0; params = behind.1 }, behind.2.1)
+    let behind = params_proper ps refl inside.2.1.1 in (
+      record {
+        name = headed h p.0;
+        tag = mark.0;
+        few_items = inside.0;
+        items = inside.1;
+        result =
+            inside.2.1.0;
+        few_params = behind.0;
+        params = behind.1;
+      },
+      behind.2.1,
+    )
 
 abbrev AreConstructors : SchemaView → Type 0
 AreConstructors [] = Unit {0}

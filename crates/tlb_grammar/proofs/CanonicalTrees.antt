@@ -111,7 +111,8 @@ marked (given b) r = tag (Some b) ∷ r
 abbrev mutual
   pub expr_before : ExprView → List Lexeme → List Lexeme
   expr_before (lit n) r = number (Some n) ∷ r
-  expr_before (named x es) r = if are_none es then word x ∷ r else sign OpenParen ∷ word x ∷ exprs_before es (sign CloseParen ∷ r)
+  expr_before (named x es) r =
+      if are_none es then word x ∷ r else sign OpenParen ∷ word x ∷ exprs_before es (sign CloseParen ∷ r)
   expr_before nat32 r = sign Hash ∷ r
   expr_before (bits es) r = sign OpenParen ∷ sign HashHash ∷ exprs_before es (sign CloseParen ∷ r)
   expr_before (below es) r = sign OpenParen ∷ sign HashLess ∷ exprs_before es (sign CloseParen ∷ r)
@@ -133,7 +134,8 @@ abbrev mutual
 
   pub item_before : ItemView → List Lexeme → List Lexeme
   item_before (implicit x k) r = sign OpenBrace ∷ word x ∷ sign Colon ∷ kind_lexeme k ∷ sign CloseBrace ∷ r
-  item_before (check a op b) r = sign OpenBrace ∷ expr_before a (sign (comparing op) ∷ expr_before b (sign CloseBrace ∷ r))
+  item_before (check a op b) r =
+      sign OpenBrace ∷ expr_before a (sign (comparing op) ∷ expr_before b (sign CloseBrace ∷ r))
   item_before (explicit x t) r = head x ∷ sign Colon ∷ type_before t r
 
   pub items_before : ItemList → List Lexeme → List Lexeme
@@ -141,4 +143,6 @@ abbrev mutual
   items_before (an_item i is) r = item_before i (items_before is r)
 
 abbrev pub constructor_before : ConstructorView → List Lexeme → List Lexeme
-constructor_before c r = head c.name ∷ marked c.tag (items_before c.items (sign Equal ∷ word c.result ∷ exprs_before c.params (sign Semicolon ∷ r)))
+constructor_before c r =
+    head c.name ∷ marked c.tag
+    (items_before c.items (sign Equal ∷ word c.result ∷ exprs_before c.params (sign Semicolon ∷ r)))

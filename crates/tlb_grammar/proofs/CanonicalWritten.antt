@@ -4,7 +4,8 @@ use Rattle.nat_solver.specs.declared.compare.Op.{Op}
 use Rattle.nat_solver.specs.declared.compare.Op.TheVariants.{Eq, Lt, Le, Gt, Ge}
 use Rattle.tlb_syntax.specs.declared.tree.ParamKind.{ParamKind}
 use Rattle.tlb_syntax.specs.declared.tree.ParamKind.TheVariants.{Nat, Ty}
-use Rattle.tlb_syntax.specs.declared.sign.Sign.TheVariants.{HashHash, HashLess, HashLessEqual, CloseParen}
+use Rattle.tlb_syntax.specs.declared.sign.Sign.{Sign}
+use Rattle.tlb_syntax.specs.declared.sign.Sign.TheVariants.{HashHash, HashLess, HashLessEqual, OpenParen, CloseParen}
 use Rattle.tlb_syntax.specs.Lexeme.{Lexeme, sign}
 use Rattle.tlb_syntax.specs.Tree.{ExprView, ExprList, ItemView, ItemList, TypeView, TagView, ConstructorView, lit, named, nat32, bits, below, up_to, plus, star, out, ref, group, no_exprs, an_expr, plain, when, when_bit, implicit, check, explicit, no_items, an_item, computed, given}
 use Rattle.tlb_syntax.specs.Written.{bounds}
@@ -50,7 +51,8 @@ alone P f (an_expr e (an_expr g es)) one t = absurd one
 
 -- the terms behind a name or a `##`, `#<` or `#<=` in parentheses
 abbrev Inner : Count → ExprList → List Lexeme → Type 0
-Inner top es r = (left : Count) → Within left (exprs_levels es) → Terms (leveled top) left (exprs_before es (sign CloseParen ∷ r)) es (sign CloseParen ∷ r)
+Inner top es r = (left : Count) → Within left (exprs_levels es) → Terms (leveled top) left
+    (exprs_before es (sign CloseParen ∷ r)) es (sign CloseParen ∷ r)
 
 named_term : (x : List ℕ) (es : ExprList) (top d : Count) (r : List Lexeme) → Within d (expr_levels (named x es))
     → Inner top es r → Term (leveled top) d (expr_before (named x es) r) (named x es) r
@@ -59,26 +61,18 @@ named_term x (an_expr e es) top d r w f =
     let o = opened d (exprs_levels (an_expr e es)) w in
     a_paren o.1 (a_sum (one_factor (of_name (f o.0 o.2))) no_addend)
 
-bits_term : (es : ExprList) (top d : Count) (r : List Lexeme) → HasOne es → Within d (expr_levels (bits es))
-    → Inner top es r → Term (leveled top) d (expr_before (bits es) r) (bits es) r
-bits_term es top d r one w f =
+-- one term in parentheses behind a symbol that takes one
+alone_term : (k : Sign) (make : ExprList → ExprView) (top : Count)
+    → ((d : Count) (s r : List Lexeme) (e : ExprView) → Term (leveled top) d s e r
+    → Apply (leveled top) d (sign k ∷ s) (make (an_expr e no_exprs)) r)
+    → (es : ExprList) (d : Count) (r : List Lexeme) → HasOne es → Within d (suc (exprs_levels es)) → Inner top es r
+    → Term (leveled top) d (sign OpenParen ∷ sign k ∷ exprs_before es (sign CloseParen ∷ r)) (make es) r
+alone_term k make top apply es d r one w f =
     let o = opened d (exprs_levels es) w in
-    let P : ExprList → Type 0 = λ z. Apply (leveled top) o.0 (sign HashHash ∷ exprs_before es (sign CloseParen ∷ r)) (bits z) (sign CloseParen ∷ r) in
-    a_paren o.1 (a_sum (one_factor (alone P (λ e t. of_bits t) es one (f o.0 o.2))) no_addend)
-
-below_term : (es : ExprList) (top d : Count) (r : List Lexeme) → HasOne es → Within d (expr_levels (below es))
-    → Inner top es r → Term (leveled top) d (expr_before (below es) r) (below es) r
-below_term es top d r one w f =
-    let o = opened d (exprs_levels es) w in
-    let P : ExprList → Type 0 = λ z. Apply (leveled top) o.0 (sign HashLess ∷ exprs_before es (sign CloseParen ∷ r)) (below z) (sign CloseParen ∷ r) in
-    a_paren o.1 (a_sum (one_factor (alone P (λ e t. of_below t) es one (f o.0 o.2))) no_addend)
-
-up_to_term : (es : ExprList) (top d : Count) (r : List Lexeme) → HasOne es → Within d (expr_levels (up_to es))
-    → Inner top es r → Term (leveled top) d (expr_before (up_to es) r) (up_to es) r
-up_to_term es top d r one w f =
-    let o = opened d (exprs_levels es) w in
-    let P : ExprList → Type 0 = λ z. Apply (leveled top) o.0 (sign HashLessEqual ∷ exprs_before es (sign CloseParen ∷ r)) (up_to z) (sign CloseParen ∷ r) in
-    a_paren o.1 (a_sum (one_factor (alone P (λ e t. of_up_to t) es one (f o.0 o.2))) no_addend)
+    let shut = sign CloseParen ∷ r in
+    let terms = exprs_before es shut in
+    let P : ExprList → Type 0 = λ z. Apply (leveled top) o.0 (sign k ∷ terms) (make z) shut in
+    a_paren o.1 (a_sum (one_factor (alone P (λ e t. apply o.0 terms shut e t) es one (f o.0 o.2))) no_addend)
 
 compared : (op : Op) → Compares (comparing op) op
 compared Eq = equal
@@ -100,11 +94,18 @@ mutual
   pub term_written : (e : ExprView) (top d : Count) (r : List Lexeme) → IsExpr e → Within d (expr_levels e)
       → Term (leveled top) d (expr_before e r) e r
   term_written (lit n) top d r p w = a_number
-  term_written (named x es) top d r p w = named_term x es top d r w (λ left h. terms_written es top left (sign CloseParen ∷ r) p.1 h)
+  term_written (named x es) top d r p w =
+      named_term x es top d r w (λ left h. terms_written es top left (sign CloseParen ∷ r) p.1 h)
   term_written nat32 top d r p w = a_hash
-  term_written (bits es) top d r p w = bits_term es top d r p.0 w (λ left h. terms_written es top left (sign CloseParen ∷ r) p.1 h)
-  term_written (below es) top d r p w = below_term es top d r p.0 w (λ left h. terms_written es top left (sign CloseParen ∷ r) p.1 h)
-  term_written (up_to es) top d r p w = up_to_term es top d r p.0 w (λ left h. terms_written es top left (sign CloseParen ∷ r) p.1 h)
+  term_written (bits es) top d r p w =
+      alone_term HashHash bits top (λ d s r e t. of_bits t) es d r p.0 w
+      (λ left h. terms_written es top left (sign CloseParen ∷ r) p.1 h)
+  term_written (below es) top d r p w =
+      alone_term HashLess below top (λ d s r e t. of_below t) es d r p.0 w
+      (λ left h. terms_written es top left (sign CloseParen ∷ r) p.1 h)
+  term_written (up_to es) top d r p w =
+      alone_term HashLessEqual up_to top (λ d s r e t. of_up_to t) es d r p.0 w
+      (λ left h. terms_written es top left (sign CloseParen ∷ r) p.1 h)
   term_written (plus a b) top d r p w =
       let o = opened d (max (expr_levels a) (expr_levels b)) w in
       let s = term_written a top o.0 _ p.0 (in_left o.0 (expr_levels a) (expr_levels b) o.2) in
@@ -115,9 +116,12 @@ mutual
       let s = term_written a top o.0 _ p.0 (in_left o.0 (expr_levels a) (expr_levels b) o.2) in
       let t = term_written b top o.0 _ p.1 (in_right o.0 (expr_levels a) (expr_levels b) o.2) in
       a_paren o.1 (a_sum (two_factors (of_term s) (of_term t)) no_addend)
-  term_written (out e) top d r p w = let o = opened d (expr_levels e) w in an_output o.1 (term_written e top o.0 r p o.2)
-  term_written (ref e) top d r p w = let o = opened d (expr_levels e) w in a_reference o.1 (term_written e top o.0 r p o.2)
-  term_written (group is) top d r p w = let o = opened d (items_levels is) w in a_record o.1 (items_written is top o.0 (Some 255) _ p.1 o.2 p.0)
+  term_written (out e) top d r p w = let o = opened d (expr_levels e) w in
+      an_output o.1 (term_written e top o.0 r p o.2)
+  term_written (ref e) top d r p w = let o = opened d (expr_levels e) w in
+      a_reference o.1 (term_written e top o.0 r p o.2)
+  term_written (group is) top d r p w = let o = opened d (items_levels is) w in
+      a_record o.1 (items_written is top o.0 (Some 255) _ p.1 o.2 p.0)
 
   pub terms_written : (es : ExprList) (top d : Count) (r : List Lexeme) → AreExprs es → Within d (exprs_levels es)
       → Terms (leveled top) d (exprs_before es r) es r
@@ -130,9 +134,11 @@ mutual
       → Typed (leveled top) d (type_before t r) t r
   type_written (plain e) top d r p w = always (term_written e top d r p w)
   type_written (when c e) top d r p w =
-      on_number (term_written c top d _ p.0 (in_left d (expr_levels c) (expr_levels e) w)) (term_written e top d r p.1 (in_right d (expr_levels c) (expr_levels e) w))
+      on_number (term_written c top d _ p.0 (in_left d (expr_levels c) (expr_levels e) w))
+      (term_written e top d r p.1 (in_right d (expr_levels c) (expr_levels e) w))
   type_written (when_bit c k e) top d r p w =
-      on_bit p.0 (term_written c top d _ p.1 (in_left d (expr_levels c) (expr_levels e) w)) (term_written e top d r p.2 (in_right d (expr_levels c) (expr_levels e) w))
+      on_bit p.0 (term_written c top d _ p.1 (in_left d (expr_levels c) (expr_levels e) w))
+      (term_written e top d r p.2 (in_right d (expr_levels c) (expr_levels e) w))
 
   pub item_written : (i : ItemView) (top d : Count) (r : List Lexeme) → IsItem i → Within d (item_levels i)
       → AnItem (leveled top) d (item_before i r) i r
@@ -167,7 +173,9 @@ declaration_written : (c : ConstructorView) (top : Count) (r : List Lexeme) → 
 declaration_written c top r p w =
     let i = in_left top (items_levels c.items) (exprs_levels c.params) w in
     let q = in_right top (items_levels c.items) (exprs_levels c.params) w in
-    a_declaration (headed c.name) (tag_written c.tag _) (items_written c.items top top (Some 255) _ p.items i p.few_items) (params_written c.params top (Some 8) _ p.params q p.few_params)
+    a_declaration (headed c.name) (tag_written c.tag _)
+    (items_written c.items top top (Some 255) _ p.items i p.few_items)
+    (params_written c.params top (Some 8) _ p.params q p.few_params)
 
 -- the lexemes of the canonical text and a semicolon derive the constructor
 pub canonical_written : (c : ConstructorView) (top : Count) → IsConstructor c → Within top (constructor_levels c)

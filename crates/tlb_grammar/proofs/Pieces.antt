@@ -22,13 +22,14 @@ pub record CutAs (whole : List ℕ) (place : ℕ) (text : List ℕ) (ls : List L
   pub cut : CutFrom place text tokens
   pub same : lexemes whole tokens ≡ ls
 
-both : {A B C : Type 0} {a b : A} {c d : B} (f : A → B → C) → a ≡ b → c ≡ d → f a c ≡ f b d
+pub both : {A B C : Type 0} {a b : A} {c d : B} (f : A → B → C) → a ≡ b → c ≡ d → f a c ≡ f b d
 both f p q = λ i. f (p i) (q i)
 
 left_by : (n place : ℕ) (whole front text : List ℕ) → length front ≡ n → drop place whole ≡ front ++ text
     → drop (place + n) whole ≡ text
 left_by n place whole front text size e =
-    sym (drop-drop n place whole) ∙ ap (drop n) e ∙ ap (λ k. drop k (front ++ text)) (sym size) ∙ drop-append_seam front text
+    sym (drop-drop n place whole) ∙ ap (drop n) e ∙ ap (λ k. drop k (front ++ text)) (sym size)
+    ∙ drop-append_seam front text
 
 bytes_at : (place : ℕ) (whole bytes text : List ℕ) → drop place whole ≡ bytes ++ text
     → take ((place + length bytes) - place) (drop place whole) ≡ bytes
@@ -41,7 +42,13 @@ cut_as : {text : List ℕ} {ls : List Lexeme} → Pieces text ls → (place : �
 cut_as no_piece place whole e = record { tokens = []; cut = ended; same = refl }
 cut_as (a_space {text = text} p) place whole e =
     let r = cut_as p (place + 1) whole (left_by 1 place whole (32 ∷ []) text refl e) in
-    record { tokens = r.tokens; cut = gap {n = 1} (white (record { byte = 32; rest = text; whole = refl; white = refl; size = refl })) r.cut; same = r.same }
+    record {
+      tokens = r.tokens;
+      cut =
+          gap {n = 1} (white (record { byte = 32; rest = text; whole = refl; white = refl; size = refl })) r.cut;
+      same =
+          r.same;
+    }
 cut_as (a_token kind bytes text longest short p) place whole e =
     let n = length bytes in
     let r = cut_as p (place + n) whole (left_by n place whole bytes text refl e) in

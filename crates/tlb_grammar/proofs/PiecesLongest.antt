@@ -64,7 +64,8 @@ hex_all (b ∷ c ∷ bs) e =
     rw one (hex_all (c ∷ bs) parts.1)
 
 inner_behind : (kind : TokenKind) (b : ℕ) (bs : List ℕ) → spells kind (b ∷ bs) ≡ true → list_all is_inner bs ≡ true
-inner_behind Name b bs e = all_of is_name_byte is_inner name_inner bs (and_parts (is_letter b) (list_all is_name_byte bs) e).1
+inner_behind Name b bs e =
+    all_of is_name_byte is_inner name_inner bs (and_parts (is_letter b) (list_all is_name_byte bs) e).1
 inner_behind Blank b [] e = refl
 inner_behind Blank b (c ∷ bs) e = cc
 inner_behind Number b bs e = all_of is_digit is_inner digit_inner bs (and_parts (is_digit b) (list_all is_digit bs) e).1
@@ -99,7 +100,8 @@ no_longer kind other (b ∷ bs) (c ∷ cs) sp ends m lt le e = further (m - suc 
   where
     further : (k : ℕ) → m ≡ length (b ∷ bs) + suc k → ⊥
     further k size =
-        let cut : take m (b ∷ bs ++ c ∷ cs) ≡ b ∷ bs ++ c ∷ take k cs = ap (λ j. take j (b ∷ bs ++ c ∷ cs)) size ∙ take-append-add (b ∷ bs) (c ∷ cs) (suc k) in
+        let cut : take m (b ∷ bs ++ c ∷ cs) ≡ b ∷ bs ++ c ∷ take k cs =
+        ap (λ j. take j (b ∷ bs ++ c ∷ cs)) size ∙ take-append-add (b ∷ bs) (c ∷ cs) (suc k) in
         let P : List ℕ → Type 0 = λ xs. spells other xs ≡ true in
         let inner = among_behind bs (take k cs) c (inner_behind other b (bs ++ c ∷ take k cs) (subst P cut e)) in
         not_true (is_inner c) ends inner
