@@ -1,4 +1,13 @@
-pub mod Views
+pub mod CanonicalLaws
+pub mod CanonicalLevels
+pub mod CanonicalMeant
+pub mod CanonicalPieces
+pub mod CanonicalProper
+pub mod CanonicalTrees
+pub mod CanonicalWritten
 pub mod Goes
+pub mod Pieces
+pub mod PiecesLongest
 pub mod Runs
+pub mod Views
 pub mod Whole

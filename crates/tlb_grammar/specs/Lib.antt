@@ -1,2 +1,3 @@
 pub mod Builder
+pub mod Canonical
 pub mod Follows

@@ -1,0 +1,5 @@
+use Rattle.tlb_grammar.proofs.CanonicalLaws.{canonical_writes}
+use Rattle.tlb_grammar.proofs.canonical_laws.canonical_text.Goals as goal
+
+pub returns : goal.returns
+returns c = canonical_writes
