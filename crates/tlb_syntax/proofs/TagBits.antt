@@ -13,7 +13,7 @@ use Rattle.bit_slice.specs.HexLists.{take-spelled}
 use Rattle.tlb_lexer.specs.Bytes.{is_hex_digit, is_bit}
 use Rattle.tlb_lexer.specs.Spelling.{is_underscore, are_bits, ends_hex}
 use Rattle.tlb_syntax.specs.Lexeme.{hex_value, hex_bits, or_behind, without_completion, hex_digits, is_completed, hexadecimal_bits, at_most_1023, and_at_most_1023}
-use Rattle.tlb_syntax.specs.Tags.{HasBits, IsLastNonzero}
+use Rattle.tlb_syntax.specs.Tags.{HasBits, IsCompleted, IsLastNonzero, IsUncompleted}
 
 -- ---- one digit
 
@@ -256,9 +256,10 @@ pub no-bits : (digits front : List ℕ) → digits ≡ front ++ codes "_" → fr
 no-bits digits front is n none = completed-bits digits front is n ∙ none
 
 pub HasBits-completed : (digits front : List ℕ) (n : ℕ) → digits ≡ front ++ codes "_" → front ≢ [] → ends_hex digits ≡ true
-    → n ≤ 1023 → n ≤ 4 * length front → without_completion (flat_map hex_bits front) ≡ Some (take n (flat_map hex_bits front))
-    → HasBits digits n
-HasBits-completed digits front n is some_front h few within bits =
+    → IsCompleted front n → HasBits digits n
+HasBits-completed digits front n is some_front h done =
+    let few = done.few in
+    let within = done.within in
     let size : length digits ≡ length front + 1 = ap length is ∙ length-append front (codes "_") in
     let some : List ℕ → Option (List ℕ) = λ x. Some x in
     let same : take n (flat_map hex_bits digits) ≡ take n (flat_map hex_bits front) =
@@ -270,7 +271,7 @@ HasBits-completed digits front n is some_front h few within bits =
       are_digits = ap (λ x. list_all is_hex_digit (take ((n + 3) / 4) x)) is
           ∙ ap (list_all is_hex_digit) (take-append-le ((n + 3) / 4) front (codes "_") (omega (arith, within)))
           ∙ list_all-take is_hex_digit ((n + 3) / 4) front (digits-front digits front is h);
-      bits = completed-bits digits front is some_front ∙ ap and_at_most_1023 bits
+      bits = completed-bits digits front is some_front ∙ ap and_at_most_1023 done.bits
           ∙ few-enough (take n (flat_map hex_bits front)) (omega (arith, few, length-take-le n (flat_map hex_bits front) (omega (arith, within, length-hex_bits front))))
           ∙ ap some (sym same);
     }
@@ -318,17 +319,11 @@ front-part initial bits new ds n v within part value small is more =
 -- ---- answers
 
 pub HasBits-counted : (digits front : List ℕ) (found : Option ℕ) → digits ≡ front ++ codes "_" → front ≢ [] → ends_hex digits ≡ true
-    → MatchOption found (and_at_most_1023 (without_completion (flat_map hex_bits front)) ≡ None)
-    (λ n. (n ≤ 1023) × (n ≤ 4 * length front) × (without_completion (flat_map hex_bits front) ≡ Some (take n (flat_map hex_bits front))))
+    → MatchOption found (IsUncompleted front) (λ n. IsCompleted front n)
     → MatchOption found (hexadecimal_bits digits ≡ None) (λ n. HasBits digits n)
 HasBits-counted digits front None is n h found = no-bits digits front is n found
-HasBits-counted digits front (Some k) is n h found = HasBits-completed digits front k is n h found.0 found.1 found.2
+HasBits-counted digits front (Some k) is n h found = HasBits-completed digits front k is n h found
 
 pub no-elements : (xs : List ℕ) → (length xs == 0) ≡ true → xs ≡ []
 no-elements [] h = refl
 no-elements (x ∷ xs) h = absurd (grind (arith, nat_tests, h))
-
-pub counted-none : (digits : List ℕ) (found : Option ℕ) → found ≡ None
-    → MatchOption found (hexadecimal_bits digits ≡ None) (λ n. HasBits digits n) → hexadecimal_bits digits ≡ None
-counted-none digits None e h = h
-counted-none digits (Some n) e h = absurd (cc)

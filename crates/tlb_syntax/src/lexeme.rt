@@ -5,9 +5,9 @@ ghost use Rattle.bit_slice.specs.Bits.{spelled};
 ghost use Rattle.tlb_lexer.specs.Bytes.{is_hex_digit};
 ghost use Rattle.tlb_lexer.specs.Cut.{token_bytes};
 ghost use Rattle.tlb_lexer.specs.Spelling.{spells, is_underscore, are_bits, ends_hex};
-ghost use Rattle.tlb_syntax.specs.Lexeme.{lexeme, lexeme_of, number_of, sign_among, signs, sign_text, binary_bits, hexadecimal_bits, hex_value, hex_bits, without_completion, and_at_most_1023};
+ghost use Rattle.tlb_syntax.specs.Lexeme.{lexeme, lexeme_of, number_of, sign_among, signs, sign_text, binary_bits, hexadecimal_bits, hex_value, hex_bits};
 ghost use Rattle.tlb_syntax.specs.Placed.{IsWithin, IsSpelled};
-ghost use Rattle.tlb_syntax.specs.Tags.{bits_of, HasBits, IsLastNonzero};
+ghost use Rattle.tlb_syntax.specs.Tags.{bits_of, HasBits, IsCompleted, IsLastNonzero, IsUncompleted};
 
 use crate::sign::Sign;
 use bit_slice::{BitString, BitWriter};
@@ -178,7 +178,7 @@ fn before_underscore(digits: &[u8]) -> Option<&[u8]>
 // How many bits stand before the last 1 of the digits, where that is at most 1023.
 fn completed_len(digits: &[u8]) -> Option<usize>
     requires { IsTrue (list_all is_hex_digit digits.now) }
-    ensures { MatchOption result (and_at_most_1023 (without_completion (flat_map hex_bits digits.now)) ≡ None) (λ n. (n ≤ 1023) × (n ≤ 4 * length digits.now) × (without_completion (flat_map hex_bits digits.now) ≡ Some (take n (flat_map hex_bits digits.now)))) }
+    ensures { MatchOption result (IsUncompleted digits.now) (λ n. IsCompleted digits.now n) }
 {
     let last = last_nonzero(digits)?;
     if last > MOST_BITS / 4 {

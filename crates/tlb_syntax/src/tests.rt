@@ -7,6 +7,14 @@ use std::alloc::Global;
 use std::test::Fail;
 use tlb_lexer::{Token, TokenKind};
 
+// 256 digits and `_`, of which the last digit drops a bit.
+const MOST: &[u8] =
+    b"0000000000000000000000000000000000000000000000000000000000000000000000000000000000000000000000000000000000000000000000000000000000000000000000000000000000000000000000000000000000000000000000000000000000000000000000000000000000000000000000000000000000000001_";
+
+// 256 digits.
+const MORE: &[u8] =
+    b"ffffffffffffffffffffffffffffffffffffffffffffffffffffffffffffffffffffffffffffffffffffffffffffffffffffffffffffffffffffffffffffffffffffffffffffffffffffffffffffffffffffffffffffffffffffffffffffffffffffffffffffffffffffffffffffffffffffffffffffffffffffffffffffffff";
+
 // The lexeme of a token that is the whole text.
 fn lexeme<'a>(kind: TokenKind, text: &'a [u8]) -> Lexeme<'a>
     requires { length text.now < 100 }
@@ -123,5 +131,14 @@ fn binary_tags_have_at_most_1023_bits(rt: HostRuntime) -> Result<(), Fail> {
     let more = [b'1'; 1024];
     assert!(rt; stands_for(rt.alloc(), &Lexeme::BinaryTag(&most), Some(&most))?);
     assert!(rt; stands_for(rt.alloc(), &Lexeme::BinaryTag(&more), None)?);
+    Ok(())
+}
+
+#[test]
+fn hexadecimal_tags_have_at_most_1023_bits(rt: HostRuntime) -> Result<(), Fail> {
+    let alloc = rt.alloc();
+    let found = tag_bits(alloc, &Lexeme::HexTag(MOST))?.ok_or("bits")?;
+    assert_eq!(rt; found.slice().len(), 1023);
+    assert!(rt; stands_for(alloc, &Lexeme::HexTag(MORE), None)?);
     Ok(())
 }

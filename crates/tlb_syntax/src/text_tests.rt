@@ -41,7 +41,15 @@ fn star(alloc: Global, left: Expr, right: Expr) -> Result<Expr, Fail> {
 }
 
 fn sum(alloc: Global, left: Expr, right: Expr) -> Result<Expr, Fail> {
-    Ok(Expr::Sum(Items::from_vec(vec![in alloc; left, right]?)))
+    Ok(Expr::Sum(Items::from_vec(two(alloc, left, right)?)))
+}
+
+fn one(alloc: Global, e: Expr) -> Result<Vec<Expr>, Fail> {
+    Ok(vec![in alloc; e]?)
+}
+
+fn two(alloc: Global, e: Expr, other: Expr) -> Result<Vec<Expr>, Fail> {
+    Ok(vec![in alloc; e, other]?)
 }
 
 fn implicit(alloc: Global, text: &[u8], kind: ParamKind) -> Result<Item, Fail> {
@@ -76,30 +84,35 @@ fn declared(
     })
 }
 
-// `{n:#}` and `{X:Type}`
-fn number_and_type(alloc: Global) -> Result<Vec<Item>, Fail> {
-    Ok(vec![in alloc;
-        implicit(alloc, b"n", ParamKind::Nat)?,
-        implicit(alloc, b"X", ParamKind::Ty)?,
-    ]?)
+fn has_text(alloc: Global, made: Constructor, expected: &[u8]) -> Result<bool, Fail> {
+    Ok(canonical(alloc, &made)?.as_slice() == expected)
 }
 
-// The type of that name over n and X.
-fn over(alloc: Global, text: &[u8]) -> Result<Expr, Fail> {
-    named(
-        alloc,
-        text,
-        vec![in alloc; var(alloc, b"n")?, var(alloc, b"X")?]?,
-    )
+// `{n:#}` and `{X:Type}`
+fn number_and_type(alloc: Global) -> Result<Vec<Item>, Fail> {
+    let mut items = Vec::new(alloc);
+    items.push(implicit(alloc, b"n", ParamKind::Nat)?)?;
+    items.push(implicit(alloc, b"X", ParamKind::Ty)?)?;
+    Ok(items)
+}
+
+// The type of that name over two names.
+fn over(alloc: Global, text: &[u8], first: &[u8], second: &[u8]) -> Result<Expr, Fail> {
+    let args = two(alloc, var(alloc, first)?, var(alloc, second)?)?;
+    named(alloc, text, args)
 }
 
 // `HmLabel ~l n`, for two names
 fn label(alloc: Global, len: &[u8], most: &[u8]) -> Result<Expr, Fail> {
-    named(
-        alloc,
-        b"HmLabel",
-        vec![in alloc; out(alloc, var(alloc, len)?)?, var(alloc, most)?]?,
-    )
+    let args = two(alloc, out(alloc, var(alloc, len)?)?, var(alloc, most)?)?;
+    named(alloc, b"HmLabel", args)
+}
+
+// `{n = (~m) + l}`
+fn rest_of_label(alloc: Global) -> Result<Item, Fail> {
+    let left = var(alloc, b"n")?;
+    let right = sum(alloc, out(alloc, var(alloc, b"m")?)?, var(alloc, b"l")?)?;
+    Ok(Item::Check(left, Op::Eq, right))
 }
 
 #[test]
@@ -109,24 +122,22 @@ fn edges_of_hashmaps_have_their_text(rt: HostRuntime) -> Result<(), Fail> {
     items.push(implicit(alloc, b"l", ParamKind::Nat)?)?;
     items.push(implicit(alloc, b"m", ParamKind::Nat)?)?;
     items.push(field(alloc, b"label", label(alloc, b"l", b"n")?)?)?;
-    let right = sum(alloc, out(alloc, var(alloc, b"m")?)?, var(alloc, b"l")?)?;
-    items.push(Item::Check(var(alloc, b"n")?, Op::Eq, right))?;
-    let node = named(
-        alloc,
-        b"HashmapNode",
-        vec![in alloc; var(alloc, b"m")?, var(alloc, b"X")?]?,
-    )?;
-    items.push(field(alloc, b"node", node)?)?;
+    items.push(rest_of_label(alloc)?)?;
+    items.push(field(alloc, b"node", over(alloc, b"HashmapNode", b"m", b"X")?)?)?;
     let edge = declared(
         alloc,
         b"hm_edge",
         Some(b""),
         items,
-        over(alloc, b"Hashmap")?,
+        over(alloc, b"Hashmap", b"n", b"X")?,
     )?;
-    let expected: &[u8] =
-        b"hm_edge$_ {n:#} {X:Type} {l:#} {m:#} label:(HmLabel ~l n) {n = (~m + l)} node:(HashmapNode m X) = Hashmap n X";
-    assert_eq!(rt; canonical(alloc, &edge)?.as_slice(), expected);
+    assert!(rt;
+        has_text(
+            alloc,
+            edge,
+            b"hm_edge$_ {n:#} {X:Type} {l:#} {m:#} label:(HmLabel ~l n) {n = (~m + l)} node:(HashmapNode m X) = Hashmap n X"
+        )?
+    );
     Ok(())
 }
 
@@ -134,37 +145,49 @@ fn edges_of_hashmaps_have_their_text(rt: HostRuntime) -> Result<(), Fail> {
 fn forks_of_hashmaps_have_their_text(rt: HostRuntime) -> Result<(), Fail> {
     let alloc = rt.alloc();
     let mut items = number_and_type(alloc)?;
-    items.push(field(alloc, b"left", reference(alloc, over(alloc, b"Hashmap")?)?)?)?;
-    items.push(field(alloc, b"right", reference(alloc, over(alloc, b"Hashmap")?)?)?)?;
-    let next = sum(alloc, var(alloc, b"n")?, Expr::Lit(1))?;
-    let result = named(
+    items.push(field(
         alloc,
-        b"HashmapNode",
-        vec![in alloc; next, var(alloc, b"X")?]?,
+        b"left",
+        reference(alloc, over(alloc, b"Hashmap", b"n", b"X")?)?,
+    )?)?;
+    items.push(field(
+        alloc,
+        b"right",
+        reference(alloc, over(alloc, b"Hashmap", b"n", b"X")?)?,
+    )?)?;
+    let next = sum(alloc, var(alloc, b"n")?, Expr::Lit(1))?;
+    let args = two(alloc, next, var(alloc, b"X")?)?;
+    let fork = declared(
+        alloc,
+        b"hmn_fork",
+        Some(b""),
+        items,
+        named(alloc, b"HashmapNode", args)?,
     )?;
-    let fork = declared(alloc, b"hmn_fork", Some(b""), items, result)?;
-    let expected: &[u8] =
-        b"hmn_fork$_ {n:#} {X:Type} left:^(Hashmap n X) right:^(Hashmap n X) = HashmapNode (n + 1) X";
-    assert_eq!(rt; canonical(alloc, &fork)?.as_slice(), expected);
+    assert!(rt;
+        has_text(
+            alloc,
+            fork,
+            b"hmn_fork$_ {n:#} {X:Type} left:^(Hashmap n X) right:^(Hashmap n X) = HashmapNode (n + 1) X"
+        )?
+    );
     Ok(())
 }
 
 #[test]
-fn labels_have_their_texts(rt: HostRuntime) -> Result<(), Fail> {
+fn short_labels_have_their_text(rt: HostRuntime) -> Result<(), Fail> {
     let alloc = rt.alloc();
-    let unary = named(
+    let mut items = Vec::new(alloc);
+    items.push(implicit(alloc, b"m", ParamKind::Nat)?)?;
+    items.push(implicit(alloc, b"n", ParamKind::Nat)?)?;
+    let unary = named(alloc, b"Unary", one(alloc, out(alloc, var(alloc, b"n")?)?)?)?;
+    items.push(field(alloc, b"len", unary)?)?;
+    items.push(Item::Check(var(alloc, b"n")?, Op::Le, var(alloc, b"m")?))?;
+    items.push(field(
         alloc,
-        b"Unary",
-        vec![in alloc; out(alloc, var(alloc, b"n")?)?]?,
-    )?;
-    let bits = star(alloc, var(alloc, b"n")?, var(alloc, b"Bit")?)?;
-    let items = vec![in alloc;
-        implicit(alloc, b"m", ParamKind::Nat)?,
-        implicit(alloc, b"n", ParamKind::Nat)?,
-        field(alloc, b"len", unary)?,
-        Item::Check(var(alloc, b"n")?, Op::Le, var(alloc, b"m")?),
-        field(alloc, b"s", bits)?,
-    ]?;
+        b"s",
+        star(alloc, var(alloc, b"n")?, var(alloc, b"Bit")?)?,
+    )?)?;
     let short = declared(
         alloc,
         b"hml_short",
@@ -172,15 +195,24 @@ fn labels_have_their_texts(rt: HostRuntime) -> Result<(), Fail> {
         items,
         label(alloc, b"n", b"m")?,
     )?;
-    let expected: &[u8] =
-        b"hml_short$0 {m:#} {n:#} len:(Unary ~n) {n <= m} s:(n * Bit) = HmLabel ~n m";
-    assert_eq!(rt; canonical(alloc, &short)?.as_slice(), expected);
-    let below = Expr::UpTo(Items::from_vec(vec![in alloc; var(alloc, b"m")?]?));
-    let items = vec![in alloc;
-        implicit(alloc, b"m", ParamKind::Nat)?,
-        field(alloc, b"v", var(alloc, b"Bit")?)?,
-        field(alloc, b"n", below)?,
-    ]?;
+    assert!(rt;
+        has_text(
+            alloc,
+            short,
+            b"hml_short$0 {m:#} {n:#} len:(Unary ~n) {n <= m} s:(n * Bit) = HmLabel ~n m"
+        )?
+    );
+    Ok(())
+}
+
+#[test]
+fn same_labels_have_their_text(rt: HostRuntime) -> Result<(), Fail> {
+    let alloc = rt.alloc();
+    let mut items = Vec::new(alloc);
+    items.push(implicit(alloc, b"m", ParamKind::Nat)?)?;
+    items.push(field(alloc, b"v", var(alloc, b"Bit")?)?)?;
+    let most = Expr::UpTo(Items::from_vec(one(alloc, var(alloc, b"m")?)?));
+    items.push(field(alloc, b"n", most)?)?;
     let same = declared(
         alloc,
         b"hml_same",
@@ -188,104 +220,99 @@ fn labels_have_their_texts(rt: HostRuntime) -> Result<(), Fail> {
         items,
         label(alloc, b"n", b"m")?,
     )?;
-    let expected: &[u8] = b"hml_same$11 {m:#} v:Bit n:(#<= m) = HmLabel ~n m";
-    assert_eq!(rt; canonical(alloc, &same)?.as_slice(), expected);
+    assert!(rt;
+        has_text(
+            alloc,
+            same,
+            b"hml_same$11 {m:#} v:Bit n:(#<= m) = HmLabel ~n m"
+        )?
+    );
     Ok(())
 }
 
 #[test]
-fn small_constructors_have_their_texts(rt: HostRuntime) -> Result<(), Fail> {
+fn constructors_without_items_have_their_texts(rt: HostRuntime) -> Result<(), Fail> {
     let alloc = rt.alloc();
-    let bit = Expr::Bits(Items::from_vec(vec![in alloc; Expr::Lit(1)]?));
-    let zero = named(alloc, b"Unary", vec![in alloc; out(alloc, Expr::Lit(0))?]?)?;
-    let value = vec![in alloc;
-        implicit(alloc, b"X", ParamKind::Ty)?,
-        field(alloc, b"value", var(alloc, b"X")?)?,
-    ]?;
-    let maybe = named(alloc, b"Maybe", vec![in alloc; var(alloc, b"X")?]?)?;
-    let none = Vec::new(alloc);
-    let rows: [(Constructor, &[u8]); 6] = [
-        (
-            declared(
-                alloc,
-                b"unit",
-                Some(b""),
-                Vec::new(alloc),
-                var(alloc, b"Unit")?,
-            )?,
-            b"unit$_ = Unit",
-        ),
-        (
-            declared(alloc, b"a", None, none, var(alloc, b"A")?)?,
-            b"a = A",
-        ),
-        (
-            declared(alloc, b"_", None, Vec::new(alloc), var(alloc, b"A")?)?,
-            b"_ = A",
-        ),
-        (
-            declared(
-                alloc,
-                b"bit",
-                Some(b""),
-                vec![in alloc; field(alloc, b"_", bit)?]?,
-                var(alloc, b"Bit")?,
-            )?,
-            b"bit$_ _:(## 1) = Bit",
-        ),
-        (
-            declared(alloc, b"unary_zero", Some(b"4_"), Vec::new(alloc), zero)?,
-            b"unary_zero$0 = Unary ~0",
-        ),
-        (
-            declared(alloc, b"just", Some(b"C_"), value, maybe)?,
-            b"just$1 {X:Type} value:X = Maybe X",
-        ),
+    let rows: [(&[u8], Option<&[u8]>, &[u8], &[u8]); 4] = [
+        (b"unit", Some(b""), b"Unit", b"unit$_ = Unit"),
+        (b"bool_true", Some(b"C_"), b"Bool", b"bool_true$1 = Bool"),
+        (b"a", None, b"A", b"a = A"),
+        (b"_", None, b"A", b"_ = A"),
     ];
-    for (made, expected) in &rows {
-        assert_eq!(rt; canonical(alloc, made)?.as_slice(), *expected);
+    for (text, tag, of_type, expected) in rows {
+        let made = declared(alloc, text, tag, Vec::new(alloc), var(alloc, of_type)?)?;
+        assert!(rt; has_text(alloc, made, expected)?);
     }
+    let unary = named(alloc, b"Unary", one(alloc, out(alloc, Expr::Lit(0))?)?)?;
+    let zero = declared(alloc, b"unary_zero", Some(b"4_"), Vec::new(alloc), unary)?;
+    assert!(rt; has_text(alloc, zero, b"unary_zero$0 = Unary ~0")?);
     Ok(())
 }
 
 #[test]
-fn conditions_and_inner_records_have_their_text(rt: HostRuntime) -> Result<(), Fail> {
+fn fields_without_a_name_are_blank(rt: HostRuntime) -> Result<(), Fail> {
     let alloc = rt.alloc();
-    let below = Expr::Below(Items::from_vec(vec![in alloc; Expr::Lit(4_294_967_295)]?));
-    let inner = vec![in alloc;
-        field(alloc, b"x", Expr::Nat32)?,
-        Item::Check(var(alloc, b"x")?, Op::Lt, Expr::Lit(3)),
-        Item::Check(var(alloc, b"x")?, Op::Gt, Expr::Lit(1)),
-        Item::Check(var(alloc, b"x")?, Op::Ge, Expr::Lit(2)),
-    ]?;
-    let cell = reference(alloc, var(alloc, b"Cell")?)?;
-    let items = vec![in alloc;
-        field(alloc, b"flags", Expr::Nat32)?,
-        Item::Explicit(
-            Some(name(alloc, b"a")?),
-            FieldType::If(var(alloc, b"flags")?, cell)
-        ),
-        Item::Explicit(None, FieldType::IfBit(var(alloc, b"flags")?, 31, below)),
-        field(alloc, b"g", Expr::Group(Items::from_vec(inner)))?,
-        field(alloc, b"e", Expr::Group(Items::from_vec(Vec::new(alloc))))?,
-    ]?;
+    let mut items = Vec::new(alloc);
+    items.push(field(
+        alloc,
+        b"_",
+        Expr::Bits(Items::from_vec(one(alloc, Expr::Lit(1))?)),
+    )?)?;
+    let bit = declared(alloc, b"bit", Some(b""), items, var(alloc, b"Bit")?)?;
+    assert!(rt; has_text(alloc, bit, b"bit$_ _:(## 1) = Bit")?);
+    Ok(())
+}
+
+#[test]
+fn conditions_have_their_text(rt: HostRuntime) -> Result<(), Fail> {
+    let alloc = rt.alloc();
+    let mut items = Vec::new(alloc);
+    items.push(field(alloc, b"flags", Expr::Nat32)?)?;
+    let cell = FieldType::If(
+        var(alloc, b"flags")?,
+        reference(alloc, var(alloc, b"Cell")?)?,
+    );
+    items.push(Item::Explicit(Some(name(alloc, b"a")?), cell))?;
+    let below = Expr::Below(Items::from_vec(one(alloc, Expr::Lit(4_294_967_295))?));
+    items.push(Item::Explicit(None, FieldType::IfBit(var(alloc, b"flags")?, 31, below)))?;
     let made = declared(alloc, b"_", Some(b"A"), items, var(alloc, b"T")?)?;
-    let expected: &[u8] =
-        b"_$1010 flags:# a:flags?^Cell _:flags.31?(#< 4294967295) g:[ x:# {x < 3} {x > 1} {x >= 2} ] e:[ ] = T";
-    assert_eq!(rt; canonical(alloc, &made)?.as_slice(), expected);
+    assert!(rt;
+        has_text(
+            alloc,
+            made,
+            b"_$1010 flags:# a:flags?^Cell _:flags.31?(#< 4294967295) = T"
+        )?
+    );
+    Ok(())
+}
+
+#[test]
+fn inner_records_have_their_text(rt: HostRuntime) -> Result<(), Fail> {
+    let alloc = rt.alloc();
+    let mut inner = Vec::new(alloc);
+    inner.push(field(alloc, b"x", Expr::Nat32)?)?;
+    inner.push(Item::Check(var(alloc, b"x")?, Op::Lt, Expr::Lit(3)))?;
+    inner.push(Item::Check(var(alloc, b"x")?, Op::Gt, Expr::Lit(1)))?;
+    inner.push(Item::Check(var(alloc, b"x")?, Op::Ge, Expr::Lit(2)))?;
+    let group = Expr::Group(Items::from_vec(inner));
+    assert_eq!(rt;
+        show(alloc, &group)?.as_slice(),
+        b"[ x:# {x < 3} {x > 1} {x >= 2} ]".as_slice()
+    );
+    let empty = Expr::Group(Items::from_vec(Vec::new(alloc)));
+    assert_eq!(rt; show(alloc, &empty)?.as_slice(), b"[ ]".as_slice());
     Ok(())
 }
 
 #[test]
 fn sums_are_nested_to_the_left(rt: HostRuntime) -> Result<(), Fail> {
     let alloc = rt.alloc();
-    let twice = star(alloc, Expr::Lit(2), var(alloc, b"b")?)?;
-    let e = Expr::Sum(Items::from_vec(vec![in alloc;
-        var(alloc, b"a")?,
-        twice,
-        Expr::Nat32,
-        Expr::Lit(7),
-    ]?));
+    let mut terms = Vec::new(alloc);
+    terms.push(var(alloc, b"a")?)?;
+    terms.push(star(alloc, Expr::Lit(2), var(alloc, b"b")?)?)?;
+    terms.push(Expr::Nat32)?;
+    terms.push(Expr::Lit(7))?;
+    let e = Expr::Sum(Items::from_vec(terms));
     assert_eq!(rt;
         show(alloc, &e)?.as_slice(),
         b"(((a + (2 * b)) + #) + 7)".as_slice()

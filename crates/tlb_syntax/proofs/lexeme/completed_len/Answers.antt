@@ -25,8 +25,9 @@ returns c =
     let last = c.in_ok-last.last in
     let within = c.in_ok-last.ensures.within in
     let bits = flat_map hex_bits c.args.digits.now in
-    let some : ℕ → Option (List ℕ) = λ v. Some (take (4 * last + 3 - count_trailing_zeros 8 v) bits) in (
-      omega (arith, c.if-last.false),
-      omega (arith, within),
-      completion c.args.digits.now last c.in_ok-last.ensures c.requires ∙ sym (ap some c.hex_value.ensures.value),
-    )
+    let some : ℕ → Option (List ℕ) = λ v. Some (take (4 * last + 3 - count_trailing_zeros 8 v) bits) in
+    record {
+      few = omega (arith, c.if-last.false);
+      within = omega (arith, within);
+      bits = completion c.args.digits.now last c.in_ok-last.ensures c.requires ∙ sym (ap some c.hex_value.ensures.value);
+    }
