@@ -9,5 +9,6 @@ pub mod Goes
 pub mod Pieces
 pub mod PiecesLongest
 pub mod Runs
+pub mod Reading
 pub mod Views
 pub mod Whole

@@ -1,5 +1,5 @@
-mod Numbers
-mod TagBits
-mod Texts
+pub mod Numbers
+pub mod TagBits
+pub mod Texts
 pub mod Limited
-mod OfText
+pub mod OfText
