@@ -1,12 +1,10 @@
 -- From what the layers answer to what is judged.
-use Rattle.std.proofs.Common.{◌≡◌, ◌≢◌, ◌∙◌, ap, sym, subst, ℕ, Bool, false, List, ◌++◌, length, codes, Result, Ok, Err, IfOk}
-use Rattle.std.proofs.lemmas.Bool.{false≢true}
+use Rattle.std.proofs.Common.{◌≡◌, ◌≢◌, ◌∙◌, ap, sym, subst, ℕ, Bool, false, List, ◌++◌, length, codes, Option, Some, None, MatchOption, Result, Ok, Err, IfOk}
 use Rattle.bag_cells.specs.Bag.{BagRefused as IsRefused}
 use Rattle.bag_cells.specs.declared.error.BagError.{BagError}
 use Rattle.bag_cells.specs.declared.error.BagError.TheVariants.{NoMemory}
 use Rattle.cell_nodes.specs.Tree.{is_exotic}
 use Rattle.cell_nodes.specs.declared.tree.Tree.{Tree, out-Tree}
-use Rattle.flat_records.proofs.Single.{form-once}
 use Rattle.flat_records.specs.Form.{Declares}
 use Rattle.flat_records.specs.Lexemes.{lexemes}
 use Rattle.flat_records.specs.Spelling.{Reading, Stuck}
@@ -14,14 +12,18 @@ use Rattle.flat_records.specs.Text.{text_of}
 use Rattle.flat_records.specs.declared.declaration.Declaration.{Declaration}
 use Rattle.flat_records.specs.declared.read.Cause.{Cause}
 use Rattle.flat_records.specs.declared.read.Spot.{Spot}
-use Rattle.tlb_cli.specs.Lines.{bag_cause, cause_text}
-use Rattle.tlb_cli.specs.Outcome.{Verdict, says, cell_refusal, OfCell, stops, holds, OfBag, refused}
-use Rattle.tlb_cli.specs.Schema.{FormOf, is_plain}
+use Rattle.tlb_cli.specs.Lines.{bag_cause, cause_text, grammar_cause}
+use Rattle.tlb_cli.specs.Outcome.{Verdict, says, cell_refusal, OfCell, stops, holds, OfBag, refused, OfSchema, refused_text}
+use Rattle.tlb_cli.specs.Schema.{FormOf}
 use Rattle.tlb_cli.specs.View.{verdict_by}
 use Rattle.tlb_cli.specs.declared.answer.Answer.{Answer}
-use Rattle.tlb_cli.specs.declared.status.Status.TheVariants.{Done, BagRefused}
+use Rattle.tlb_cli.specs.declared.status.Status.TheVariants.{Done, BagRefused, SchemaRefused}
 use Rattle.tlb_lexer.specs.Cut.{Cut}
 use Rattle.tlb_lexer.specs.declared.Token.{Token}
+use Rattle.tlb_edge.specs.Files.{Name}
+use Rattle.tlb_grammar.specs.Answer.{Refuses}
+use Rattle.tlb_grammar.specs.declared.error.GrammarError.{GrammarError}
+use Rattle.tlb_grammar.specs.declared.error.GrammarError.TheVariants as grammar
 use Rattle.typed_value.specs.Val.{Val}
 
 pub bag-refused : {E : Type 0} (r : Result Answer E) (next : Tree → Verdict → Type 0) (bag : List ℕ) (error : BagError) →
@@ -50,14 +52,20 @@ pub cell-stops : (d : Declaration) (t : Tree) (v : Verdict) (spot : Spot) (cause
 cell-stops d t v spot cause exotic bits refs words is other same_bits same_refs stuck said same_words =
     stops spot cause (sym is ∙ other) (moved t (λ xs n. Stuck d xs n spot cause) bits refs same_bits same_refs stuck) (said ∙ ap (cell_refusal d spot) same_words)
 
--- the one cut and its one list of declarations are not plain
-pub not-plain : (text : List ℕ) (tokens first second : List Token) (found shown : List Declaration) (plain : Bool) →
-    ((ts : List Token) → Cut text ts → tokens ≡ ts) → first ≡ tokens → second ≡ tokens → Declares (lexemes text first) found → shown ≡ found →
-    plain ≡ is_plain text second shown → plain ≡ false → (ds : List Declaration) → FormOf text ds → ⊥
-not-plain text tokens first second found shown plain cut is_first is_second declares is_found is other ds form =
-    let t : tokens ≡ form.tokens = cut form.tokens form.cut in
-    let P : List Token → Type 0 = λ ts. Declares (lexemes text ts) found in
-    let d : ds ≡ found = form-once (lexemes text form.tokens) ds found form.declares (subst P (is_first ∙ t) declares) in
-    let same : is_plain text second shown ≡ is_plain text form.tokens ds =
-    ap (λ ts. is_plain text ts shown) (is_second ∙ t) ∙ ap (is_plain text form.tokens) (is_found ∙ sym d) in
-    false≢true (sym other ∙ is ∙ same ∙ form.plain)
+-- what is found among the tokens of the one cut is what the text has
+pub form-found : (text : List ℕ) (tokens first : List Token) (found : Option (List Declaration)) →
+    Cut text tokens → ((ts : List Token) → Cut text ts → tokens ≡ ts) → first ≡ tokens →
+    MatchOption found ((ds : List Declaration) → Declares (lexemes text first) ds → ⊥) (λ ds. Declares (lexemes text first) ds) →
+    MatchOption found ((ds : List Declaration) → FormOf text ds → ⊥) (λ ds. FormOf text ds)
+form-found text tokens first None whole cut same none = λ ds form.
+    let P : List Token → Type 0 = λ ts. Declares (lexemes text ts) ds in
+    none ds (subst P (sym (same ∙ cut form.tokens form.cut)) form.declares)
+form-found text tokens first (Some ds) whole cut same declares =
+    let P : List Token → Type 0 = λ ts. Declares (lexemes text ts) ds in
+    record { tokens = tokens; cut = whole; declares = subst P same declares }
+
+pub schema-refused : {E : Type 0} (r : Result Answer E) (word : Name) (schema bag : List ℕ) (error : GrammarError) →
+    (error ≢ grammar.NoMemory → Refuses schema error) → IfOk r (λ a. verdict_by a ≡ says SchemaRefused (codes "refused: schema " ++ grammar_cause error)) →
+    IfOk r (λ _. error ≢ grammar.NoMemory) → IfOk r (λ a. OfSchema word schema bag (verdict_by a))
+schema-refused (Ok a) word schema bag error why is memory = refused_text error (why memory) is
+schema-refused (Err e) word schema bag error why is memory = tt

@@ -12,13 +12,18 @@ use Rattle.flat_records.specs.Text.{text_of}
 use Rattle.flat_records.specs.declared.declaration.Declaration.{Declaration}
 use Rattle.flat_records.specs.declared.read.Cause.{Cause}
 use Rattle.flat_records.specs.declared.read.Spot.{Spot}
+use Rattle.tlb_grammar.proofs.Reading.{refused_at_most_once, not_both_read}
 use Rattle.tlb_lexer.proofs.Whole.{cut_once}
 use Rattle.tlb_lexer.specs.declared.Token.{Token}
-use Rattle.tlb_cli.specs.Lines.{bag_cause, cause_text}
-use Rattle.tlb_cli.specs.Outcome.{Verdict, says, cell_refusal, OfCell, exotic, stops, holds as cell_holds, OfLevels, OfBag, refused, holds, OfType, unknown, named, OfSchema, outside, written, OfFile, too_long, within, with_file, of_form}
+use Rattle.tlb_syntax.specs.Tree.{SchemaView}
+use Rattle.tlb_syntax.specs.Written.{Writes}
+use Rattle.tlb_grammar.specs.Answer.{Refuses}
+use Rattle.tlb_grammar.specs.declared.error.GrammarError.{GrammarError}
+use Rattle.tlb_cli.specs.Lines.{bag_cause, cause_text, grammar_cause}
+use Rattle.tlb_cli.specs.Outcome.{Verdict, says, cell_refusal, OfCell, exotic, stops, holds as cell_holds, OfLevels, OfBag, refused, holds, OfType, unknown, named, OfForm, outside, formed, OfSchema, refused_text, written, OfFile, too_long, within, with_file, of_form}
 use Rattle.tlb_cli.specs.Schema.{FormOf}
 use Rattle.tlb_cli.specs.Words.{Form, FileWord, read_form, hash_form, schema_word, bag_word, schema_limit, bag_limit, files_of, HoldsAll}
-use Rattle.tlb_cli.specs.declared.status.Status.TheVariants.{Done, BagRefused}
+use Rattle.tlb_cli.specs.declared.status.Status.TheVariants.{Done, BagRefused, SchemaRefused}
 
 -- two verdicts that are judged alike are one
 abbrev IsOnce : (Verdict → Type 0) → Type 0
@@ -67,13 +72,20 @@ forms-same text ds es a b =
     let P : List Token → Type 0 = λ ts. Declares (lexemes text ts) ds in
     form-once (lexemes text b.tokens) ds es (subst P (cut_once text a.tokens b.tokens a.cut b.cut) a.declares) b.declares
 
-schema-once : (word : Name) (schema bag : List ℕ) → IsOnce (OfSchema word schema bag)
-schema-once word schema bag v w (outside none is) (outside none' is') = is ∙ sym is'
-schema-once word schema bag v w (outside none is) (written ds form judged) = absurd (none ds form)
-schema-once word schema bag v w (written ds form judged) (outside none is) = absurd (none ds form)
-schema-once word schema bag v w (written ds form judged) (written es form' judged') =
+form-judged-once : (word : Name) (schema bag : List ℕ) → IsOnce (OfForm word schema bag)
+form-judged-once word schema bag v w (outside none is) (outside none' is') = is ∙ sym is'
+form-judged-once word schema bag v w (outside none is) (formed ds form judged) = absurd (none ds form)
+form-judged-once word schema bag v w (formed ds form judged) (outside none is) = absurd (none ds form)
+form-judged-once word schema bag v w (formed ds form judged) (formed es form' judged') =
     let P : List Declaration → Type 0 = λ x. OfType word x bag v in
     type-once word es bag v w (subst P (forms-same schema ds es form form') judged) judged'
+
+schema-once : (word : Name) (schema bag : List ℕ) → IsOnce (OfSchema word schema bag)
+schema-once word schema bag v w (refused_text error why is) (refused_text error' why' is') =
+    is ∙ ap (λ e. says SchemaRefused (codes "refused: schema " ++ grammar_cause e)) (refused_at_most_once schema error error' why why') ∙ sym is'
+schema-once word schema bag v w (refused_text error why is) (written s writes judged) = absurd (not_both_read schema s error writes why)
+schema-once word schema bag v w (written s writes judged) (refused_text error why is) = absurd (not_both_read schema s error writes why)
+schema-once word schema bag v w (written s writes judged) (written t writes' judged') = form-judged-once word schema bag v w judged judged'
 
 file-once : (next : List ℕ → Verdict → Type 0) (name : Name) (limit : ℕ) (bytes : List ℕ) → IsOnce (next bytes) → IsOnce (OfFile next name limit bytes)
 file-once next name limit bytes once v w (too_long more is) (too_long more' is') = is ∙ sym is'

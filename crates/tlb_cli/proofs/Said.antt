@@ -6,8 +6,8 @@ use Rattle.flat_records.specs.declared.declaration.Declaration.{Declaration}
 use Rattle.flat_records.specs.declared.read.Spot.{Spot}
 use Rattle.flat_records.specs.declared.read.Spot.TheVariants.{Root}
 use Rattle.tlb_cli.specs.Causes.{IsAnswer, IsRefusal, IsRefusalLine}
-use Rattle.tlb_cli.specs.Lines.{spaced, spot_text, bag_cause, cause_text}
-use Rattle.tlb_cli.specs.Outcome.{Verdict, says, cell_refusal, OfCell, exotic, stops, holds as cell_holds, OfLevels, OfBag, refused, holds, OfType, unknown, named, OfSchema, outside, written}
+use Rattle.tlb_cli.specs.Lines.{spaced, spot_text, bag_cause, cause_text, grammar_cause}
+use Rattle.tlb_cli.specs.Outcome.{Verdict, says, cell_refusal, OfCell, exotic, stops, holds as cell_holds, OfLevels, OfBag, refused, holds, OfType, unknown, named, OfForm, outside, formed, OfSchema, refused_text, written}
 use Rattle.tlb_cli.specs.declared.status.Status.{Status}
 use Rattle.tlb_cli.specs.declared.status.Status.TheVariants.{Done, Usage, ReadFault, WriteFault, TooLong, SchemaRefused, BagRefused, TypeRefused, CellRefused, NoMemory}
 
@@ -56,9 +56,13 @@ pub type-said : (word : Name) (ds : List Declaration) (bag : List ℕ) (v : Verd
 type-said word ds bag v (unknown none is) = same v _ is (line TypeRefused (codes "type Unsupported") tt)
 type-said word ds bag v (named d found judged) = bag-said (OfCell d) bag v (λ t is. cell-said d t v is) judged
 
+form-said : (word : Name) (schema bag : List ℕ) (v : Verdict) → OfForm word schema bag v → IsSaid v
+form-said word schema bag v (outside none is) = same v _ is (line SchemaRefused (codes "schema Unsupported") tt)
+form-said word schema bag v (formed ds form judged) = type-said word ds bag v judged
+
 pub schema-said : (word : Name) (schema bag : List ℕ) (v : Verdict) → OfSchema word schema bag v → IsSaid v
-schema-said word schema bag v (outside none is) = same v _ is (line SchemaRefused (codes "schema Unsupported") tt)
-schema-said word schema bag v (written ds form judged) = type-said word ds bag v judged
+schema-said word schema bag v (refused_text error why is) = same v _ is (line SchemaRefused (codes "schema " ++ grammar_cause error) tt)
+schema-said word schema bag v (written s writes judged) = form-said word schema bag v judged
 
 answers : (s : Status) → IsFound s → IsAnswer s
 answers Usage found = found

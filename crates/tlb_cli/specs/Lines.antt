@@ -5,6 +5,11 @@ use Rattle.std.specs.Int.{to_be_bytes, w32}
 use Rattle.hex.specs.Hex.{encode_lower}
 use Rattle.bag_cells.specs.declared.error.BagError.{BagError}
 use Rattle.bag_cells.specs.declared.error.BagError.TheVariants.{BadHex, BadBase64, BadMagic, Truncated, BadHeader, TooManyCells, ManyRoots, AbsentCells, Trailing, BadSum, StoredHashes, BadCell, BackReference, BadExotic, BadMask, TooDeep, Sprawl, NoMemory}
+use Rattle.tlb_lexer.specs.declared.LexError.{LexError}
+use Rattle.tlb_lexer.specs.declared.LexError.TheVariants as token
+use Rattle.tlb_lexer.specs.declared.LexError.TheVariants.{BadCharacter, OpenComment, TooLongName}
+use Rattle.tlb_grammar.specs.declared.error.GrammarError.{GrammarError}
+use Rattle.tlb_grammar.specs.declared.error.GrammarError.TheVariants as grammar
 use Rattle.cell_nodes.specs.Tree.{hash, depth}
 use Rattle.cell_nodes.specs.declared.tree.Tree.{Tree}
 use Rattle.flat_records.specs.Form.{field_name}
@@ -50,6 +55,22 @@ bag_cause (BadMask cell) = numbered (codes "BadMask") cell
 bag_cause (TooDeep cell) = numbered (codes "TooDeep") cell
 bag_cause Sprawl = codes "Sprawl"
 bag_cause NoMemory = []
+
+-- the cause and the place of a schema's refusal; none is refused for want of memory
+abbrev pub token_cause : LexError → List ℕ
+token_cause (BadCharacter place) = numbered (codes "BadCharacter") place
+token_cause (OpenComment place) = numbered (codes "OpenComment") place
+token_cause (TooLongName place) = numbered (codes "TooLongName") place
+token_cause token.NoMemory = []
+
+abbrev pub grammar_cause : GrammarError → List ℕ
+grammar_cause (grammar.Lex error) = token_cause error
+grammar_cause (grammar.Syntax place) = numbered (codes "Syntax") place
+grammar_cause (grammar.DeepType place) = numbered (codes "DeepType") place
+grammar_cause (grammar.TooManyConstructors place) = numbered (codes "TooManyConstructors") place
+grammar_cause (grammar.TooManyFields place) = numbered (codes "TooManyFields") place
+grammar_cause (grammar.TooManyParams place) = numbered (codes "TooManyParams") place
+grammar_cause grammar.NoMemory = []
 
 -- the name of the field with that number, where there is one
 abbrev pub name_at : List Field → ℕ → List ℕ

@@ -12,8 +12,12 @@ use Rattle.flat_records.specs.declared.declaration.Declaration.{Declaration}
 use Rattle.flat_records.specs.declared.read.Cause.{Cause}
 use Rattle.flat_records.specs.declared.read.Spot.{Spot}
 use Rattle.flat_records.specs.declared.read.Spot.TheVariants.{Root}
+use Rattle.tlb_syntax.specs.Tree.{SchemaView}
+use Rattle.tlb_syntax.specs.Written.{Writes}
+use Rattle.tlb_grammar.specs.Answer.{Refuses}
+use Rattle.tlb_grammar.specs.declared.error.GrammarError.{GrammarError}
 use Rattle.typed_value.specs.Val.{Val}
-use Rattle.tlb_cli.specs.Lines.{line_of, spaced, bag_cause, spot_text, cause_text, level_lines}
+use Rattle.tlb_cli.specs.Lines.{line_of, spaced, bag_cause, grammar_cause, spot_text, cause_text, level_lines}
 use Rattle.tlb_cli.specs.Schema.{FormOf}
 use Rattle.tlb_cli.specs.Words.{Form, TypedWords, read_form, hash_form, form_of, schema_limit, bag_limit}
 use Rattle.tlb_cli.specs.declared.status.Status.{Status}
@@ -66,10 +70,15 @@ pub data OfType (word : Name) (ds : List Declaration) (bag : List ℕ) (v : Verd
   unknown : declared ds word ≡ None → v ≡ says TypeRefused (codes "refused: type Unsupported") → OfType word ds bag v
   named : (d : Declaration) → declared ds word ≡ Some d → OfBag (OfCell d) bag v → OfType word ds bag v
 
--- A schema is outside the form, or the type word is judged over its declarations.
+-- A schema is outside the form that `read` takes, or the type word is judged over its declarations.
+pub data OfForm (word : Name) (schema bag : List ℕ) (v : Verdict) : Type 0 where
+  outside : ((ds : List Declaration) → FormOf schema ds → ⊥) → v ≡ says SchemaRefused (codes "refused: schema Unsupported") → OfForm word schema bag v
+  formed : (ds : List Declaration) → FormOf schema ds → OfType word ds bag v → OfForm word schema bag v
+
+-- A schema's text is refused, or it writes a schema, whose form is judged.
 pub data OfSchema (word : Name) (schema bag : List ℕ) (v : Verdict) : Type 0 where
-  outside : ((ds : List Declaration) → FormOf schema ds → ⊥) → v ≡ says SchemaRefused (codes "refused: schema Unsupported") → OfSchema word schema bag v
-  written : (ds : List Declaration) → FormOf schema ds → OfType word ds bag v → OfSchema word schema bag v
+  refused_text : (error : GrammarError) → Refuses schema error → v ≡ says SchemaRefused (codes "refused: schema " ++ grammar_cause error) → OfSchema word schema bag v
+  written : (s : SchemaView) → Writes schema s → OfForm word schema bag v → OfSchema word schema bag v
 
 -- A file has more bytes than its limit, or they are judged.
 pub data OfFile (next : List ℕ → Verdict → Type 0) (name : Name) (limit : ℕ) (bytes : List ℕ) (v : Verdict) : Type 0 where

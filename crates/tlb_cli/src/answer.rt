@@ -5,21 +5,26 @@ ghost use Rattle.bag_cells.specs.declared.error.BagError.TheVariants.{NoMemory a
 ghost use Rattle.cell_nodes.specs.Tree.{is_exotic};
 ghost use Rattle.cell_nodes.specs.declared.tree.Tree.{out-Tree};
 ghost use Rattle.flat_records.specs.Form.{AreShaped, AreShapedFields};
+ghost use Rattle.tlb_syntax.specs.Tree.{SchemaView};
+ghost use Rattle.tlb_syntax.specs.Written.{Writes};
+ghost use Rattle.tlb_grammar.specs.Answer.{IfRead, Refuses};
+ghost use Rattle.tlb_grammar.specs.declared.error.GrammarError.TheVariants.{NoMemory as WantOfMemory};
 ghost use Rattle.tlb_cli.specs.Causes.{Judges, ReadFails, IsTooLong, IsAnswer, IsRefusal, IsRefusalLine};
-ghost use Rattle.tlb_cli.specs.Lines.{bag_cause};
-ghost use Rattle.tlb_cli.specs.Outcome.{OfCell, OfLevels, OfBag, OfType, OfSchema, cell_refusal, says, read_line, long_line, long_refusal};
+ghost use Rattle.tlb_cli.specs.Lines.{bag_cause, grammar_cause};
+ghost use Rattle.tlb_cli.specs.Outcome.{OfCell, OfLevels, OfBag, OfType, OfForm, OfSchema, cell_refusal, says, read_line, long_line, long_refusal};
 ghost use Rattle.tlb_cli.specs.View.{form_by, verdict_by, words_by};
 ghost use Rattle.tlb_cli.specs.Words.{files_of, read_form, hash_form};
 
 use crate::command::{Command, Typed};
-use crate::lines::{bag_words, cause_words, level_lines, spot_words};
+use crate::lines::{bag_words, cause_words, grammar_words, level_lines, spot_words};
 use crate::load::{LoadError, load};
-use crate::schema::read_schema;
+use crate::schema::read_form;
 use crate::status::Status;
 use bag_cells::{BagError, read_bag};
 use cell_nodes::{Cell, Kind};
 use flat_records::{Declaration, ReadError, Spot, of_type, print, read_record};
 use std::alloc::Global;
+use tlb_grammar::{GrammarError, read_schema};
 use tlb_edge::Shelf;
 use tlb_memory::NoMemory;
 
@@ -141,6 +146,43 @@ fn judge_type(
     }
 }
 
+fn refuse_schema(alloc: Global, error: GrammarError) -> Result<Answer, NoMemory>
+    ensures refused { IfOk result (λ a. verdict_by a ≡ says Status.SchemaRefused (codes "refused: schema " ++ grammar_cause error)) }
+    ensures memory { IfOk result (λ _. error ≢ WantOfMemory) }
+{
+    let words = grammar_words(alloc, error)?;
+    refusal(alloc, Status::SchemaRefused, b"refused: schema ", &words)
+}
+
+// What follows where the text writes a schema.
+fn judge_form(
+    alloc: Global,
+    type_word: &str,
+    schema: Vec<u8>,
+    bag: Vec<u8>,
+) -> Result<Answer, NoMemory>
+    requires { length schema.items ≤ 1048576 }
+    ensures { IfOk result (λ a. OfForm type_word.now schema.items bag.items (verdict_by a)) }
+{
+    let found = read_form(alloc, &schema)?;
+    drop(schema);
+    match found {
+        None => line(alloc, Status::SchemaRefused, b"refused: schema Unsupported"),
+        Some(declarations) => judge_type(alloc, type_word, declarations.as_slice(), bag),
+    }
+}
+
+// Whether the text writes a schema, or its refusal.
+fn check_schema(alloc: Global, schema: &[u8]) -> Result<(), GrammarError>
+    requires { length schema.now ≤ 1048576 }
+    ensures { IfRead result (λ _. (s : SchemaView) × Writes schema.now s) (λ e. Refuses schema.now e) }
+{
+    match read_schema(alloc, schema) {
+        Ok(_) => Ok(()),
+        Err(error) => Err(error),
+    }
+}
+
 // The value in the bag, or the first refusal of the schema, the type word, the bag and the cell.
 fn judge_read(
     alloc: Global,
@@ -151,11 +193,9 @@ fn judge_read(
     requires { length schema.items ≤ 1048576 }
     ensures { IfOk result (λ a. OfSchema type_word.now schema.items bag.items (verdict_by a)) }
 {
-    let found = read_schema(alloc, &schema)?;
-    drop(schema);
-    match found {
-        None => line(alloc, Status::SchemaRefused, b"refused: schema Unsupported"),
-        Some(declarations) => judge_type(alloc, type_word, declarations.as_slice(), bag),
+    match check_schema(alloc, &schema) {
+        Ok(()) => judge_form(alloc, type_word, schema, bag),
+        Err(error) => refuse_schema(alloc, error),
     }
 }
 

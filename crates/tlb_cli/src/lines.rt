@@ -2,12 +2,16 @@
 ghost use Rattle.std.specs.Prelude.{◌≡◌, ◌≢◌, ◌≤◌, decimal, IfOk};
 ghost use Rattle.bag_cells.specs.declared.error.BagError.TheVariants.{NoMemory as OutOfMemory};
 ghost use Rattle.cell_nodes.specs.Tree.{mask};
-ghost use Rattle.tlb_cli.specs.Lines.{bag_cause, cause_text, level_line, level_lines, name_at, numbered, spaced, spot_text, sum_text};
+ghost use Rattle.tlb_grammar.specs.declared.error.GrammarError.TheVariants as grammar;
+ghost use Rattle.tlb_lexer.specs.declared.LexError.TheVariants as tokens;
+ghost use Rattle.tlb_cli.specs.Lines.{bag_cause, cause_text, grammar_cause, level_line, level_lines, name_at, numbered, spaced, spot_text, sum_text, token_cause};
 
 use bag_cells::BagError;
 use cell_nodes::Cell;
 use flat_records::{Cause, Declaration, Field, Spot};
 use std::alloc::Global;
+use tlb_grammar::GrammarError;
+use tlb_lexer::LexError;
 use tlb_memory::NoMemory;
 
 // Words, a space, and other words.
@@ -79,6 +83,34 @@ pub fn bag_words(alloc: Global, error: BagError) -> Result<Vec<u8>, NoMemory>
         BagError::TooDeep(cell) => numbered(alloc, b"TooDeep", cell),
         BagError::Sprawl => words(alloc, b"Sprawl"),
         BagError::NoMemory => Err(NoMemory),
+    }
+}
+
+fn token_words(alloc: Global, error: LexError) -> Result<Vec<u8>, NoMemory>
+    ensures words { IfOk result (λ text. text.items ≡ token_cause error) }
+    ensures memory { IfOk result (λ _. error ≢ tokens.NoMemory) }
+{
+    match error {
+        LexError::BadCharacter(place) => numbered(alloc, b"BadCharacter", place),
+        LexError::OpenComment(place) => numbered(alloc, b"OpenComment", place),
+        LexError::TooLongName(place) => numbered(alloc, b"TooLongName", place),
+        LexError::NoMemory => Err(NoMemory),
+    }
+}
+
+/// The cause and the place of a schema's refusal.
+pub fn grammar_words(alloc: Global, error: GrammarError) -> Result<Vec<u8>, NoMemory>
+    ensures words { IfOk result (λ text. text.items ≡ grammar_cause error) }
+    ensures memory { IfOk result (λ _. error ≢ grammar.NoMemory) }
+{
+    match error {
+        GrammarError::Lex(error) => token_words(alloc, error),
+        GrammarError::Syntax(place) => numbered(alloc, b"Syntax", place),
+        GrammarError::DeepType(place) => numbered(alloc, b"DeepType", place),
+        GrammarError::TooManyConstructors(place) => numbered(alloc, b"TooManyConstructors", place),
+        GrammarError::TooManyFields(place) => numbered(alloc, b"TooManyFields", place),
+        GrammarError::TooManyParams(place) => numbered(alloc, b"TooManyParams", place),
+        GrammarError::NoMemory => Err(NoMemory),
     }
 }
 

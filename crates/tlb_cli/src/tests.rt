@@ -94,7 +94,6 @@ fn read_prints_the_value_or_the_first_refusal(rt: HostRuntime) -> Result<(), Fai
     let wide = "a$101 n:uint8 m:uint6 = A;";
     let other = "a$100 n:uint13 = A;";
     let no_type = "refused: type Unsupported\n";
-    let no_schema = "refused: schema Unsupported\n";
     for (schema, bag, line, code, text) in [
         (UNIT, EMPTY, "read s Unit b", 0, "unit{}\n"),
         (UNIT, EMPTY, "read s Unit r", 0, "unit{}\n"),
@@ -143,7 +142,13 @@ fn read_prints_the_value_or_the_first_refusal(rt: HostRuntime) -> Result<(), Fai
             "refused: bag BadMagic\n",
         ),
         (UNIT, "68ff65f3", "read s Nope b", 7, no_type),
-        (UNIT, "68ff65f3", "read b Nope b", 5, no_schema),
+        (
+            UNIT,
+            "68ff65f3",
+            "read b Nope b",
+            5,
+            "refused: schema Syntax 0\n",
+        ),
     ] {
         let (status, output) = answer(alloc, line, files(alloc, schema, bag)?, 0, 0)?;
         assert_eq!(rt; status, code, "at {schema} {bag} {line}");
@@ -156,25 +161,56 @@ fn read_prints_the_value_or_the_first_refusal(rt: HostRuntime) -> Result<(), Fai
     Ok(())
 }
 
-// Each line: a schema's text, and the status of `read`.
+// Each line: a schema of several declarations, the type, and the value of the bits a0f1 there.
 #[test]
-fn a_schema_is_one_flat_declaration_without_comments(rt: HostRuntime) -> Result<(), Fail> {
+fn the_named_declaration_is_read_among_others(rt: HostRuntime) -> Result<(), Fail> {
     let alloc = rt.alloc();
-    for (schema, code) in [
-        (" \ta\r\n$_ = A\n; ", 0),
-        ("", 5),
-        ("a$_ = A", 5),
-        ("a$0 = A; b$0 = B;", 5),
-        ("a$_ = A; // end", 5),
-        ("a$_ /* */ = A;", 5),
-        ("x$_ = A;", 5),
-        ("a$_ = uint8;", 5),
-        ("a$_ = A; @", 5),
-        ("a$_ = A; /*", 5),
+    for (schema, type_word, text) in [
+        ("a$1 n:uint15 = A; b$_ = B;", "A", "a{n:8433}\n"),
+        ("a$0 = A; // c\nb$101 n:uint8 m:uint5 = B;", "B", "b{n:7,m:17}\n"),
+        ("/* c */ a$_ = A; b$10 n:uint14 = B; c$1 = C;", "B", "b{n:8433}\n"),
+        ("a$_ = A; b$_ = B; c$10 n:uint14 = C;//", "C", "c{n:8433}\n"),
+    ] {
+        let line = padded(alloc, "read s ", type_word, 1, " b")?;
+        let held = files(alloc, schema, BITS)?;
+        let (status, output) = answer(alloc, line.as_str(), held, 0, 0)?;
+        assert_eq!(rt; status, 0, "at {schema}");
+        assert_eq!(rt; output.as_slice(), text.as_bytes(), "at {schema}");
+    }
+    Ok(())
+}
+
+// Each line: a schema's text, and the cause and the place of its refusal.
+#[test]
+fn a_refused_schema_is_shown_with_its_cause_and_place(rt: HostRuntime) -> Result<(), Fail> {
+    let alloc = rt.alloc();
+    let long_name = padded(alloc, "", "n", 128, "$_ = A;")?;
+    let deep = padded(alloc, "a$_ x:", "^", 65, "Cell = A;")?;
+    let params = padded(alloc, "a$_ = A", " 1", 9, ";")?;
+    let fields = padded(alloc, "a$_ ", "# ", 256, "= A;")?;
+    for (schema, cause) in [
+        ("a$_ x = ;", "Syntax 8"),
+        ("a$_ = A", "Syntax 7"),
+        ("a$_ = A; @", "BadCharacter 9"),
+        ("a$_ = A; /*", "OpenComment 9"),
+        (long_name.as_str(), "TooLongName 0"),
+        (deep.as_str(), "DeepType 70"),
+        (params.as_str(), "TooManyParams 24"),
+        (fields.as_str(), "TooManyFields 514"),
+        ("x$_ = A;", "Unsupported"),
+        ("a = A;", "Unsupported"),
+        ("a#8 = A;", "Unsupported"),
+        ("a$_ x:(uint8) = A;", "Unsupported"),
+        ("a$_ x:^Cell = A;", "Unsupported"),
+        ("a$_ x:uint129 = A;", "Unsupported"),
+        ("a$0 = A; b$1 = A;", "Unsupported"),
+        ("a$_ = uint8;", "Unsupported"),
     ] {
         let held = files(alloc, schema, EMPTY)?;
-        let (status, _output) = answer(alloc, "read s A b", held, 0, 0)?;
-        assert_eq!(rt; status, code, "at {schema}");
+        let (status, output) = answer(alloc, "read s A b", held, 0, 0)?;
+        let text = padded(alloc, "refused: schema ", cause, 1, "\n")?;
+        assert_eq!(rt; status, 5, "at {schema}");
+        assert_eq!(rt; output.as_slice(), text.as_bytes(), "at {schema}");
     }
     Ok(())
 }

@@ -1,13 +1,14 @@
 use Rattle.std.proofs.lemmas.Result.{IfOk-weaker}
-use Rattle.tlb_cli.specs.Outcome.{outside, written}
+use Rattle.tlb_cli.proofs.Layers.{schema-refused}
+use Rattle.tlb_cli.specs.Outcome.{written}
 use Rattle.tlb_cli.proofs.answer.judge_read.Goals as goal
 
-pub returns-in-None : goal.returns-in-None
-returns-in-None c =
-    let none = rw c.deref.ensures.value at (rw c.in-None.is at c.in_ok-found.ensures) in
-    IfOk-weaker c.line.result _ _ (λ a is. outside none is) c.line.ensures
+pub returns-in-Ok : goal.returns-in-Ok
+returns-in-Ok c =
+    let writes = rw c.deref.ensures.value at c.in-Ok.ensures in
+    IfOk-weaker c.judge_form.result _ _ (λ a is. written writes.0 writes.1 is) c.judge_form.ensures
 
-pub returns-in-Some : goal.returns-in-Some
-returns-in-Some c =
-    let form = rw c.deref.ensures.value at (rw c.in-Some.is at c.in_ok-found.ensures) in
-    IfOk-weaker c.judge_type.result _ _ (λ a is. written c.in-Some.declarations form (rw c.as_slice.ensures at is)) c.judge_type.ensures
+pub returns-in-Err : goal.returns-in-Err
+returns-in-Err c =
+    let why = rw c.deref.ensures.value at c.in-Err.ensures in
+    schema-refused c.refuse_schema.result c.args.type_word.now c.args.schema.items c.args.bag.items c.in-Err.error why c.refuse_schema.ensures.refused c.refuse_schema.ensures.memory
