@@ -151,7 +151,9 @@ impl<'a> Judge<'a> {
         }
         match self.met {
             Some(met) => Some(met),
-            None if self.names.len() == MOST_DECLARATIONS => Some(self.refusal(Cause::TooManyConstructors)),
+            None if self.names.len() == MOST_DECLARATIONS => Some(self.refusal(
+                Cause::TooManyConstructors,
+            )),
             None => None,
         }
     }

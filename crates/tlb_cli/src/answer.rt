@@ -24,8 +24,8 @@ use bag_cells::{BagError, read_bag};
 use cell_nodes::{Cell, Kind};
 use flat_records::{Declaration, ReadError, Spot, of_type, print, read_record};
 use std::alloc::Global;
-use tlb_grammar::{GrammarError, read_schema};
 use tlb_edge::Shelf;
+use tlb_grammar::{GrammarError, read_schema};
 use tlb_memory::NoMemory;
 
 const SCHEMA_LIMIT: usize = 1_048_576;

@@ -167,8 +167,16 @@ fn the_named_declaration_is_read_among_others(rt: HostRuntime) -> Result<(), Fai
     let alloc = rt.alloc();
     for (schema, type_word, text) in [
         ("a$1 n:uint15 = A; b$_ = B;", "A", "a{n:8433}\n"),
-        ("a$0 = A; // c\nb$101 n:uint8 m:uint5 = B;", "B", "b{n:7,m:17}\n"),
-        ("/* c */ a$_ = A; b$10 n:uint14 = B; c$1 = C;", "B", "b{n:8433}\n"),
+        (
+            "a$0 = A; // c\nb$101 n:uint8 m:uint5 = B;",
+            "B",
+            "b{n:7,m:17}\n",
+        ),
+        (
+            "/* c */ a$_ = A; b$10 n:uint14 = B; c$1 = C;",
+            "B",
+            "b{n:8433}\n",
+        ),
         ("a$_ = A; b$_ = B; c$10 n:uint14 = C;//", "C", "c{n:8433}\n"),
     ] {
         let line = padded(alloc, "read s ", type_word, 1, " b")?;

@@ -15,5 +15,6 @@ mod state;
 pub use error::GrammarError;
 pub use read::{read_schema, read_type};
 pub use tlb_syntax::{
-    BitString, Constructor, Expr, FieldType, Item, Name, Op, ParamKind, Schema, Tag, canonical, show,
+    BitString, Constructor, Expr, FieldType, Item, Name, Op, ParamKind, Schema, Tag, canonical,
+    show,
 };

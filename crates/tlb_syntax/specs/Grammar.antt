@@ -110,8 +110,8 @@ pub data Params (m : Bounds) : Count → List Lexeme → ExprList → List Lexem
 -- declaration = (name | "_") [tag] { item } "=" name { term } ";"
 pub data Declaration (m : Bounds) : List Lexeme → ConstructorView → List Lexeme → Type 0 where
   a_declaration : {h : Lexeme} {s after_tag after_items r : List Lexeme} {x : Option (List ℕ)} {t : TagView} {is : ItemList} {y : List ℕ} {es : ExprList} →
-    Heads h x → Tagged s t after_tag → Items m m.levels m.items after_tag is (sign Equal ∷ word y ∷ after_items) → Params m m.params after_items es (sign Semicolon ∷ r) →
-    Declaration m (h ∷ s) (record { name = x; tag = t; items = is; result = y; params = es }) r
+      Heads h x → Tagged s t after_tag → Items m m.levels m.items after_tag is (sign Equal ∷ word y ∷ after_items) → Params m m.params after_items es (sign Semicolon ∷ r) →
+      Declaration m (h ∷ s) (record { name = x; tag = t; items = is; result = y; params = es }) r
 
 -- schema = { declaration }
 pub data Declarations (m : Bounds) : List Lexeme → SchemaView → Type 0 where

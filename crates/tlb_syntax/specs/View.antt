@@ -58,4 +58,3 @@ constructor c = record { name = c.name; tag = tag c.tag; items = items c.items; 
 
 abbrev pub schema : Schema → SchemaView
 schema s = map constructor s.constructors
-
