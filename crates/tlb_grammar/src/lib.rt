@@ -9,3 +9,6 @@ mod parts;
 mod state;
 
 pub use build::{build_schema, build_word};
+
+#[cfg(test)]
+mod tests;
