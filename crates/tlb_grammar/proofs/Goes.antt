@@ -1,24 +1,21 @@
 -- Single steps of the machine, from modes that stand behind the same.
-use Rattle.std.proofs.Common.{◌≡◌, ℕ, List, [], ◌∷◌, ◌++◌, map, Option, Some, None, refl, sym, ap, ◌∙◌, subst, append_assoc}
+use Rattle.std.proofs.Common.{◌≡◌, ℕ, List, [], ◌∷◌, ◌++◌, Option, Some, None, refl, ap}
 use Rattle.std.specs.Prelude.{codes}
-use Rattle.std.proofs.lemmas.List.{append-nil}
 use Rattle.nat_solver.specs.declared.compare.Op.{Op}
 use Rattle.tlb_syntax.specs.declared.sign.Sign.{Sign}
 use Rattle.tlb_syntax.specs.declared.sign.Sign.TheVariants.{Hash, HashHash, HashLess, HashLessEqual, Colon, Semicolon, Equal, OpenParen, CloseParen, OpenBrace, CloseBrace, OpenBracket, CloseBracket, Caret, Tilde, Question, Dot, Asterisk, Plus}
 use Rattle.tlb_syntax.specs.declared.tree.ParamKind.TheVariants.{Nat, Ty}
 use Rattle.tlb_syntax.specs.declared.tree.Expr.{Expr}
 use Rattle.tlb_syntax.specs.declared.tree.Expr.TheVariants as exprs
-use Rattle.tlb_syntax.specs.declared.tree.FieldType.{FieldType}
 use Rattle.tlb_syntax.specs.declared.tree.FieldType.TheVariants as types
 use Rattle.tlb_syntax.specs.declared.tree.Item.{Item}
-use Rattle.tlb_syntax.specs.declared.tree.Item.TheVariants.{Implicit, Check, Explicit}
+use Rattle.tlb_syntax.specs.declared.tree.Item.TheVariants.{Implicit, Check}
 use Rattle.tlb_syntax.specs.declared.tree.Tag.{Tag}
 use Rattle.tlb_syntax.specs.declared.tree.Tag.TheVariants.{Computed, Given}
 use Rattle.tlb_syntax.specs.declared.tree.Constructor.{Constructor}
-use Rattle.tlb_syntax.specs.Lexeme.{Lexeme, word, blank, number, tag, sign}
+use Rattle.tlb_syntax.specs.Lexeme.{Lexeme, word, number, tag, sign}
 use Rattle.tlb_syntax.specs.Tree.{ExprView, TypeView}
-use Rattle.tlb_syntax.specs.View as view
-use Rattle.tlb_syntax.specs.Grammar.{Count, Bounds, Spends, Compares, equal, less, less_equal, greater, greater_equal, Heads, by_name, by_blank, Term, Terms, Apply, Product, Sum, Addends, Typed, AnItem, Items, Params, Declaration, Declarations, TypeWord, a_number, a_name, a_hash, an_output, a_reference, a_paren, a_record, no_terms, a_term, of_name, of_bits, of_below, of_up_to, of_term, one_factor, two_factors, a_sum, no_addend, an_addend, always, on_number, on_bit, of_numbers, of_types, a_check, a_field, a_bare_field, no_item, one_item, no_param, a_param, a_declaration, no_declaration, one_more}
+use Rattle.tlb_syntax.specs.Grammar.{Count, Bounds, Compares, equal, less, less_equal, greater, greater_equal, Heads, by_name, by_blank, Term, Typed, a_number, a_name, a_hash, an_output, a_reference, a_paren, a_record, always, on_number, on_bit}
 use Rattle.tlb_grammar.specs.declared.state.OpenSum.{OpenSum}
 use Rattle.tlb_grammar.specs.declared.state.Width.{Width}
 use Rattle.tlb_grammar.specs.declared.state.Width.TheVariants as widths

@@ -2,9 +2,8 @@
 use Rattle.std.proofs.Common.{◌≡◌, ℕ, List, [], ◌∷◌, ◌++◌, map, Option, Some, None, refl, sym, ap, ◌∙◌, subst, append_assoc}
 use Rattle.std.specs.Prelude.{codes}
 use Rattle.std.proofs.lemmas.List.{append-nil}
-use Rattle.nat_solver.specs.declared.compare.Op.{Op}
 use Rattle.tlb_syntax.specs.declared.sign.Sign.{Sign}
-use Rattle.tlb_syntax.specs.declared.sign.Sign.TheVariants.{Hash, Colon, Semicolon, Equal, OpenParen, CloseParen, OpenBrace, CloseBrace, OpenBracket, CloseBracket, Caret, Tilde, Question, Dot, Asterisk, Plus}
+use Rattle.tlb_syntax.specs.declared.sign.Sign.TheVariants.{Hash, Colon, CloseBrace}
 use Rattle.tlb_syntax.specs.declared.tree.ParamKind.TheVariants.{Nat, Ty}
 use Rattle.tlb_syntax.specs.declared.tree.Expr.{Expr}
 use Rattle.tlb_syntax.specs.declared.tree.Expr.TheVariants as exprs
@@ -15,20 +14,19 @@ use Rattle.tlb_syntax.specs.declared.tree.Item.TheVariants.{Implicit, Check, Exp
 use Rattle.tlb_syntax.specs.declared.tree.Tag.{Tag}
 use Rattle.tlb_syntax.specs.declared.tree.Tag.TheVariants.{Computed, Given}
 use Rattle.tlb_syntax.specs.declared.tree.Constructor.{Constructor}
-use Rattle.tlb_syntax.specs.Lexeme.{Lexeme, word, blank, number, tag, sign}
-use Rattle.tlb_syntax.specs.Tree.{ExprView, ExprList, ItemView, ItemList, TypeView, TagView, ConstructorView, SchemaView, lit, named, nat32, bits, below, up_to, plus, star, out, ref, group, no_exprs, an_expr, plain, when, when_bit, implicit, check, explicit, no_items, an_item, computed, given, nested}
+use Rattle.tlb_syntax.specs.Lexeme.{Lexeme, word, sign}
+use Rattle.tlb_syntax.specs.Tree.{ExprView, ExprList, ItemView, ItemList, TypeView, TagView, ConstructorView, SchemaView, named, bits, below, up_to, plus, star, out, ref, group, no_exprs, an_expr, plain, when, when_bit, check, explicit, an_item, nested}
 use Rattle.tlb_syntax.specs.View as view
 use Rattle.tlb_grammar.proofs.Views.{lit_seen, named_seen, nat32_seen, bits_seen, below_seen, up_to_seen, sum_seen, star_seen, out_seen, ref_seen, group_seen, plain_seen, when_seen, when_bit_seen, implicit_seen, check_seen, explicit_seen}
-use Rattle.tlb_syntax.specs.Grammar.{Count, Bounds, Spends, Compares, equal, less, less_equal, greater, greater_equal, Heads, by_name, by_blank, Tagged, tagged, untagged, Term, Terms, Apply, Product, Sum, Addends, Typed, AnItem, Items, Params, Declaration, Declarations, TypeWord, a_number, a_name, a_hash, an_output, a_reference, a_paren, a_record, no_terms, a_term, of_name, of_bits, of_below, of_up_to, of_term, one_factor, two_factors, a_sum, no_addend, an_addend, always, on_number, on_bit, of_numbers, of_types, a_check, a_field, a_bare_field, no_item, one_item, no_param, a_param, a_declaration, no_declaration, one_more}
+use Rattle.tlb_syntax.specs.Grammar.{Count, Bounds, Tagged, tagged, untagged, Term, Terms, Apply, Product, Sum, Addends, Typed, AnItem, Items, Params, Declaration, Declarations, TypeWord, a_number, a_name, a_hash, an_output, a_reference, a_paren, a_record, no_terms, a_term, of_name, of_bits, of_below, of_up_to, of_term, one_factor, two_factors, a_sum, no_addend, an_addend, always, on_number, on_bit, of_numbers, of_types, a_check, a_field, a_bare_field, no_item, one_item, no_param, a_param, a_declaration, no_declaration, one_more}
 use Rattle.tlb_grammar.specs.declared.state.OpenSum.{OpenSum}
 use Rattle.tlb_grammar.specs.declared.state.Width.{Width}
-use Rattle.tlb_grammar.specs.declared.state.Width.TheVariants as widths
 use Rattle.tlb_grammar.specs.declared.state.Guard.TheVariants as guards
 use Rattle.tlb_grammar.specs.declared.state.Mode.{Mode}
 use Rattle.tlb_grammar.specs.declared.state.Mode.TheVariants as modes
 use Rattle.tlb_grammar.specs.declared.state.Frame.{Frame}
 use Rattle.tlb_grammar.specs.declared.state.Frame.TheVariants as frames
-use Rattle.tlb_grammar.proofs.Goes.{Reaches, both, StandsBehind, StandsTyped, StandsAfter, star_goes, plus_goes, paren_goes, left_goes, right_goes, question_goes, dot_goes, typed_after, brace_goes, head_goes, bracket_goes, equal_goes, Begins, begins, type_begins, argument_goes, param_goes, field_goes, number_goes, word_goes, hash_goes, tilde_goes, caret_goes, open_paren_goes, open_bracket_goes, out_given, ref_given, operand_given, argument_given, width_given, field_given, guarded_given, param_given, Opens, operand_goes, bare_goes, name_operand_goes, name_item_goes, Widens, width_goes, numbers_goes, types_goes, start_goes, tag_goes, semicolon_goes, goes, mode_of, behind_name, behind_operand, first_term, first_name, after_items, after_field, after_name, by_bits, by_below, by_up_to, number_opens, hash_opens, tilde_opens, caret_opens, paren_opens, bracket_opens, gives}
+use Rattle.tlb_grammar.proofs.Goes.{Reaches, both, StandsBehind, StandsTyped, StandsAfter, star_goes, plus_goes, paren_goes, left_goes, right_goes, question_goes, dot_goes, typed_after, brace_goes, head_goes, bracket_goes, equal_goes, begins, type_begins, argument_goes, param_goes, field_goes, number_goes, word_goes, hash_goes, tilde_goes, caret_goes, open_paren_goes, open_bracket_goes, out_given, ref_given, operand_given, argument_given, width_given, field_given, guarded_given, param_given, Opens, operand_goes, bare_goes, name_operand_goes, name_item_goes, Widens, width_goes, numbers_goes, types_goes, start_goes, tag_goes, semicolon_goes, goes, mode_of, behind_name, behind_operand, first_term, first_name, after_items, by_bits, by_below, by_up_to, number_opens, hash_opens, tilde_opens, caret_opens, paren_opens, bracket_opens, gives}
 use Rattle.tlb_grammar.specs.Builder as builder
 use Rattle.tlb_grammar.specs.Builder.{State, at, run, no_sum, factored, times, added, whole, closed, limited, with_item, with_field, with_result}
 

@@ -1,9 +1,8 @@
 -- The tokens of a text gone through to their end.
-use Rattle.std.proofs.Common.{◌≡◌, ◌<◌, ◌≤◌, ◌+◌, ℕ, zero, suc, List, [], ◌∷◌, map, drop, length, get_or, Option, Some, None, option_map, refl, sym, ap, ◌∙◌, arith, add-one, IsTrue}
+use Rattle.std.proofs.Common.{◌≡◌, ◌<◌, ◌+◌, ℕ, zero, suc, List, [], ◌∷◌, map, drop, length, get_or, Option, Some, None, refl, sym, ap, ◌∙◌, arith, add-one}
 use Rattle.std.proofs.Math.Seq.{drop-cons}
 use Rattle.tlb_lexer.specs.declared.Token.{Token}
 use Rattle.tlb_lexer.specs.Cut.{PlacedFrom}
-use Rattle.tlb_syntax.specs.declared.tree.Constructor.{Constructor}
 use Rattle.tlb_syntax.specs.declared.tree.Expr.{Expr}
 use Rattle.tlb_syntax.specs.declared.tree.Schema.{Schema}
 use Rattle.tlb_syntax.specs.Lexeme.{Lexeme, lexeme_of, lexemes}
@@ -12,7 +11,7 @@ use Rattle.tlb_syntax.specs.View as view
 use Rattle.tlb_syntax.specs.Grammar.{Bounds, Declarations, TypeWord}
 use Rattle.tlb_grammar.specs.Builder.{State, step, run, onward, built_schema, built_word}
 use Rattle.tlb_grammar.specs.Follows.{IsRead, ArePlaced}
-use Rattle.tlb_grammar.proofs.Runs.{Built, schema_built, word_built}
+use Rattle.tlb_grammar.proofs.Runs.{schema_built, word_built}
 
 -- tokens in order within a text can be read
 pub placed-read : (text : List ℕ) (start : ℕ) (ts : List Token) → PlacedFrom text start ts → ArePlaced text ts

@@ -32,13 +32,14 @@ pub record IsBare (old new : Builder) : Type 0 where
   pub same_below : under new ≡ []
   pub done : new.done ≡ old.done
 
--- the innermost part is let go, and is such a part
-pub record IsLeft {X : Type 0} (part : Frame → Option X) (old new : Builder) (found : Option X) : Type 0 where
+-- the innermost part is removed; found is what it holds, where it is such a part
+pub record Removes {X : Type 0} (part : Frame → Option X) (old new : Builder) (found : Option X) : Type 0 where
   pub found_is : found ≡ innermost part (under old)
   pub below : under new ≡ outer (under old)
   pub done : new.done ≡ old.done
 
-pub record HasLeft (is_part : Frame → Bool) (old new : Builder) (found : Bool) : Type 0 where
+-- the innermost part is removed; found is whether it is such a part
+pub record RemovesAny (is_part : Frame → Bool) (old new : Builder) (found : Bool) : Type 0 where
   pub found_is : found ≡ is_innermost is_part (under old)
   pub below : under new ≡ outer (under old)
   pub done : new.done ≡ old.done

@@ -4,7 +4,7 @@ ghost use Rattle.tlb_syntax.specs.Lexeme.{lexeme};
 ghost use Rattle.tlb_syntax.specs.Placed.{IsSpelled};
 ghost use Rattle.tlb_grammar.specs.Builder as plain;
 ghost use Rattle.tlb_grammar.specs.Builder.{at};
-ghost use Rattle.tlb_grammar.specs.Follows.{under, state, Follows, Covered, IsBare, IsLeft, HasLeft};
+ghost use Rattle.tlb_grammar.specs.Follows.{under, state, Follows, Covered, IsBare, Removes, RemovesAny};
 
 use crate::parts::{comparison, held, kind, kind_end, result_of, tested_bit, width};
 use crate::state::{Frame, Guard, Mode, OpenSum};
@@ -40,7 +40,7 @@ impl Builder {
     }
 
     fn pop_paren(&mut self) -> bool
-        ensures { HasLeft plain.is_paren self.old self.new result }
+        ensures { RemovesAny plain.is_paren self.old self.new result }
     {
         let Some(frame) = self.pop() else {
             return false;
@@ -51,7 +51,7 @@ impl Builder {
     }
 
     fn pop_record(&mut self) -> bool
-        ensures { HasLeft plain.is_record self.old self.new result }
+        ensures { RemovesAny plain.is_record self.old self.new result }
     {
         let Some(frame) = self.pop() else {
             return false;
@@ -63,7 +63,7 @@ impl Builder {
 
     // The items before a comparison.
     fn pop_left(&mut self) -> Option<Items<Item>>
-        ensures { IsLeft plain.left_of self.old self.new result }
+        ensures { Removes plain.left_of self.old self.new result }
     {
         let Some(frame) = self.pop() else {
             return None;
@@ -73,7 +73,7 @@ impl Builder {
 
     // The items before a comparison, and its left.
     fn pop_right(&mut self) -> Option<(Items<Item>, Expr, Op)>
-        ensures { IsLeft plain.right_of self.old self.new result }
+        ensures { Removes plain.right_of self.old self.new result }
     {
         let Some(frame) = self.pop() else {
             return None;
@@ -83,7 +83,7 @@ impl Builder {
 
     // The name of a declaration, and its tag.
     fn pop_heading(&mut self) -> Option<(Option<Name>, Tag)>
-        ensures { IsLeft plain.heading_of self.old self.new result }
+        ensures { Removes plain.heading_of self.old self.new result }
     {
         let Some(frame) = self.pop() else {
             return None;

@@ -1,4 +1,3 @@
-use Rattle.std.proofs.Common.{◌≡◌}
 use Rattle.tlb_grammar.proofs.Whole.{read_at}
 use Rattle.tlb_grammar.proofs.build.behind.Goals as goal
 
