@@ -1,5 +1,5 @@
 -- What the judge's verdict says of the lexemes.
-use Rattle.std.proofs.Common.{◌≡◌, ℕ, List, Option, Some, None, MatchOption, Result, Ok, Err, IfOk, sym}
+use Rattle.std.proofs.Common.{◌≡◌, List, Option, Some, None, MatchOption, Result, Ok, Err, IfOk, sym}
 use Rattle.tlb_syntax.specs.Lexeme.{Lexeme}
 use Rattle.tlb_syntax.specs.Grammar.{Declarations, TypeWord}
 use Rattle.tlb_syntax.specs.Tree.{ExprView, SchemaView}

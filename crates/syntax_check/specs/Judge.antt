@@ -1,8 +1,8 @@
 -- What the machine answers for a whole list of lexemes: that it is written, or the first refusal with the number of
 -- lexemes before it.
-use Rattle.std.specs.Prelude.{ℕ, suc, ◌+◌, ◌==◌, Bool, true, false, List, [], ◌∷◌, ◌++◌, map, length, count_by, bytes_eq, if◌then◌else◌, Option, Some, None, Result, Ok, Err}
+use Rattle.std.specs.Prelude.{ℕ, ◌+◌, ◌==◌, Bool, true, false, List, [], ◌∷◌, ◌++◌, map, length, count_by, bytes_eq, if◌then◌else◌, Option, Some, None, Result, Ok, Err}
 use Rattle.tlb_syntax.specs.Lexeme.{Lexeme, word, blank}
-use Rattle.tlb_syntax.specs.Grammar.{Count, Bounds}
+use Rattle.tlb_syntax.specs.Grammar.{Bounds}
 use Rattle.tlb_syntax.specs.Written.{unbounded, standard}
 use Rattle.syntax_check.specs.declared.machine.Side.{Side}
 use Rattle.syntax_check.specs.declared.machine.Side.TheVariants.{Paren, Left, Right, Word}
@@ -13,7 +13,7 @@ use Rattle.syntax_check.specs.declared.machine.Mode.TheVariants.{Start, Headed, 
 use Rattle.syntax_check.specs.declared.machine.Frame.{Frame}
 use Rattle.syntax_check.specs.declared.machine.Frame.TheVariants as frames
 use Rattle.syntax_check.specs.declared.machine.Cause.{Cause}
-use Rattle.syntax_check.specs.declared.machine.Cause.TheVariants.{Syntax, DeepType, TooManyConstructors, TooManyFields, TooManyParams}
+use Rattle.syntax_check.specs.declared.machine.Cause.TheVariants.{Syntax, TooManyConstructors}
 use Rattle.syntax_check.specs.Machine.{State, at, Outcome, step, schema_start, word_start, is_schema_end, is_word_end}
 
 -- ---- a state without its counts

@@ -1,6 +1,6 @@
 -- The machine that goes through the lexemes of a text: its states, and one step for each lexeme. The contracts of the
 -- public calls speak of the productions alone; proofs/ ties the machine to them.
-use Rattle.std.specs.Prelude.{ℕ, zero, suc, ◌≡◌, Bool, true, false, nat_le, List, [], ◌∷◌, bytes_eq, codes, if◌then◌else◌, Option, Some, None, Result, Ok, Err}
+use Rattle.std.specs.Prelude.{ℕ, zero, suc, Bool, true, false, nat_le, List, [], ◌∷◌, bytes_eq, codes, if◌then◌else◌, Option, Some, None, Result, Ok, Err}
 use Rattle.tlb_syntax.specs.declared.sign.Sign.{Sign}
 use Rattle.tlb_syntax.specs.declared.sign.Sign.TheVariants.{Hash, HashHash, HashLess, HashLessEqual, Colon, Semicolon, Equal, OpenParen, CloseParen, OpenBrace, CloseBrace, OpenBracket, CloseBracket, Caret, Tilde, Question, Dot, Asterisk, Plus, Less, LessEqual, Greater, GreaterEqual}
 use Rattle.tlb_syntax.specs.Lexeme.{Lexeme, word, blank, number, tag, sign}
@@ -14,7 +14,7 @@ use Rattle.syntax_check.specs.declared.machine.Mode.TheVariants.{Start, Headed, 
 use Rattle.syntax_check.specs.declared.machine.Frame.{Frame}
 use Rattle.syntax_check.specs.declared.machine.Frame.TheVariants as frames
 use Rattle.syntax_check.specs.declared.machine.Cause.{Cause}
-use Rattle.syntax_check.specs.declared.machine.Cause.TheVariants.{Syntax, DeepType, TooManyConstructors, TooManyFields, TooManyParams}
+use Rattle.syntax_check.specs.declared.machine.Cause.TheVariants.{Syntax, DeepType, TooManyFields, TooManyParams}
 
 -- the mode, the levels that may be opened here, and the open brackets, the innermost first
 pub data State : Type 0 where

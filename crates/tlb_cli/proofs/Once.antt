@@ -15,10 +15,6 @@ use Rattle.flat_records.specs.declared.read.Spot.{Spot}
 use Rattle.tlb_grammar.proofs.Reading.{refused_at_most_once, not_both_read}
 use Rattle.tlb_lexer.proofs.Whole.{cut_once}
 use Rattle.tlb_lexer.specs.declared.Token.{Token}
-use Rattle.tlb_syntax.specs.Tree.{SchemaView}
-use Rattle.tlb_syntax.specs.Written.{Writes}
-use Rattle.tlb_grammar.specs.Answer.{Refuses}
-use Rattle.tlb_grammar.specs.declared.error.GrammarError.{GrammarError}
 use Rattle.tlb_cli.specs.Lines.{bag_cause, cause_text, grammar_cause}
 use Rattle.tlb_cli.specs.Outcome.{Verdict, says, cell_refusal, OfCell, exotic, stops, holds as cell_holds, OfLevels, OfBag, refused, holds, OfType, unknown, named, OfForm, outside, formed, OfSchema, refused_text, written, OfFile, too_long, within, with_file, of_form}
 use Rattle.tlb_cli.specs.Schema.{FormOf}

@@ -1,6 +1,6 @@
 -- The tokens of a schema with what they stand for.
 -- Source: the TON documentation on the TL-B language (names, numbers, tags, symbols).
-use Rattle.std.specs.Prelude.{ℕ, ◌+◌, ◌-◌, ◌*◌, ◌/◌, ◌%◌, ◌^◌, ◌==◌, Bool, true, false, List, [], ◌∷◌, ◌++◌, map, drop, length, option_map, Option, Some, None, if◌then◌else◌, nat_lt, nat_le, bytes_eq, codes}
+use Rattle.std.specs.Prelude.{ℕ, ◌+◌, ◌-◌, ◌*◌, ◌/◌, ◌%◌, ◌^◌, ◌==◌, Bool, true, false, List, [], ◌∷◌, map, drop, length, Option, Some, None, if◌then◌else◌, nat_lt, nat_le, bytes_eq, codes}
 use Rattle.std.specs.List.{flat_map}
 use Rattle.tlb_lexer.specs.declared.Token.{Token}
 use Rattle.tlb_lexer.specs.declared.TokenKind.{TokenKind}

@@ -1,5 +1,5 @@
 -- The trees that the program's values stand for.
-use Rattle.std.specs.Prelude.{ℕ, List, map}
+use Rattle.std.specs.Prelude.{List, map}
 use Rattle.tlb_syntax.specs.declared.tree.Expr.{Expr, fold-Expr}
 use Rattle.tlb_syntax.specs.declared.tree.Expr.TheOpen.{Expr-F, Item-F, FieldType-F, Lit, Named, Nat32, Bits, Below, UpTo, Sum, Star, Out, Ref, Group, Implicit, Check, Explicit, Plain, If, IfBit}
 use Rattle.tlb_syntax.specs.declared.tree.Expr.TheFolds.{fold-Item, fold-FieldType}
