@@ -1,6 +1,8 @@
 //! Refusals.
 use crate::spot::Spot;
+use std::alloc::{AllocError, AllocFailed};
 use thiserror::Error;
+use tlb_memory::NoMemory;
 
 /// Why a schema is refused, and at which item.
 #[derive(Debug, Drop, Error)]
@@ -30,4 +32,88 @@ pub enum KindError {
     Unguarded(Spot),
     #[error("no memory")]
     NoMemory,
+}
+
+/// Why an item is refused.
+#[derive(Clone, Copy, Debug, PartialEq, Eq)]
+pub enum Cause {
+    Reserved,
+    UnknownType,
+    UnknownName,
+    Arity,
+    KindMismatch,
+    OutputUnderRef,
+    NotLinear,
+    TwiceNamed,
+    Undetermined,
+    TooWide,
+}
+
+/// What ends the judging of a constructor.
+#[derive(Clone, Copy, Debug, PartialEq, Eq)]
+pub enum Fault {
+    Refused(Cause),
+    NoMemory,
+}
+
+impl From<AllocError> for Fault {
+    ghost use Rattle.std.specs.Prelude.{◌≡◌};
+    ghost use Rattle.tlb_kinds.specs.declared.error.Fault.TheVariants as faults;
+
+    ghost from_gives = { λ _ e. e ≡ faults.NoMemory };
+
+    fn from(_: AllocError) -> Fault {
+        Fault::NoMemory
+    }
+}
+
+impl<T: Drop> From<AllocFailed<T>> for Fault {
+    ghost use Rattle.std.specs.Prelude.{◌≡◌};
+    ghost use Rattle.tlb_kinds.specs.declared.error.Fault.TheVariants as faults;
+
+    ghost from_gives = { λ _ e. e ≡ faults.NoMemory };
+
+    fn from(_: AllocFailed<T>) -> Fault {
+        Fault::NoMemory
+    }
+}
+
+impl From<NoMemory> for KindError {
+    ghost use Rattle.std.specs.Prelude.{◌≡◌};
+    ghost use Rattle.tlb_kinds.specs.declared.error.KindError.TheVariants as errors;
+
+    ghost from_gives = { λ _ e. e ≡ errors.NoMemory };
+
+    fn from(_: NoMemory) -> KindError {
+        KindError::NoMemory
+    }
+}
+
+impl From<AllocError> for KindError {
+    ghost use Rattle.std.specs.Prelude.{◌≡◌};
+    ghost use Rattle.tlb_kinds.specs.declared.error.KindError.TheVariants as errors;
+
+    ghost from_gives = { λ _ e. e ≡ errors.NoMemory };
+
+    fn from(_: AllocError) -> KindError {
+        KindError::NoMemory
+    }
+}
+
+impl Cause {
+    /// The refusal for this cause at a place.
+    pub fn at(self, spot: Spot) -> KindError {
+        match self {
+            Cause::Reserved => KindError::Reserved(spot),
+            Cause::UnknownType => KindError::UnknownType(spot),
+            Cause::UnknownName => KindError::UnknownName(spot),
+            Cause::Arity => KindError::Arity(spot),
+            Cause::KindMismatch => KindError::KindMismatch(spot),
+            Cause::OutputUnderRef => KindError::OutputUnderRef(spot),
+            Cause::NotLinear => KindError::NotLinear(spot),
+            Cause::TwiceNamed => KindError::TwiceNamed(spot),
+            Cause::Undetermined => KindError::Undetermined(spot),
+            Cause::TooWide => KindError::TooWide(spot),
+        }
+    }
 }

@@ -3,8 +3,25 @@
 //! the definitions of this crate fix it.
 #![tactic(auto)]
 
+mod check;
+mod endings;
 mod error;
+#[cfg(test)]
+mod forge;
+mod judge;
+mod kind;
+mod numbers;
+mod outs;
+mod results;
+mod rules;
+mod scope;
+mod shape;
 mod spot;
+#[cfg(test)]
+mod tests;
+mod types;
+mod words;
 
+pub use check::{Kinded, kind_check};
 pub use error::KindError;
 pub use spot::{FieldPath, Part, Spot};

@@ -1,0 +1,90 @@
+//! Questions on the outermost form of an expression. A sum of one term stands for that term.
+use bit_slice::Name;
+use tlb_syntax::{Expr, FieldType};
+
+/// The name, where it is one without arguments.
+pub fn bare_name(e: &Expr) -> Option<&Name> {
+    match e {
+        Expr::Named(name, args) => { if args.is_empty() { Some(name) } else { None } }
+        Expr::Sum(terms) => match terms.as_slice() {
+            [only] => bare_name(only),
+            _ => None,
+        },
+        _ => None,
+    }
+}
+
+/// Whether it is a number that is written out.
+pub fn is_literal(e: &Expr) -> bool {
+    match e {
+        Expr::Lit(_) => true,
+        Expr::Sum(terms) => match terms.as_slice() {
+            [] => true,
+            [only] => is_literal(only),
+            _ => false,
+        },
+        _ => false,
+    }
+}
+
+/// The x of `~x`.
+pub fn out_name(e: &Expr) -> Option<&Name> {
+    match e {
+        Expr::Out(inner) => bare_name(inner.get()),
+        Expr::Sum(terms) => match terms.as_slice() {
+            [only] => out_name(only),
+            _ => None,
+        },
+        _ => None,
+    }
+}
+
+/// Whether it is `~` and an operand.
+pub fn is_out(e: &Expr) -> bool {
+    match e {
+        Expr::Out(_) => true,
+        Expr::Sum(terms) => match terms.as_slice() {
+            [only] => is_out(only),
+            _ => false,
+        },
+        _ => false,
+    }
+}
+
+/// The variable of `v`, and of `v + k` with a literal k.
+pub fn variable_of(e: &Expr) -> Option<&Name> {
+    match e {
+        Expr::Sum(terms) => match terms.as_slice() {
+            [only] => variable_of(only),
+            [variable, literal] => {
+                if is_literal(literal) {
+                    bare_name(variable)
+                } else {
+                    None
+                }
+            }
+            _ => None,
+        },
+        _ => bare_name(e),
+    }
+}
+
+/// Whether it is `#`, or `##`, `#<` or `#<=` with a number.
+pub fn is_of_numbers(e: &Expr) -> bool {
+    match e {
+        Expr::Nat32 | Expr::Bits(_) | Expr::Below(_) | Expr::UpTo(_) => true,
+        Expr::Sum(terms) => match terms.as_slice() {
+            [only] => is_of_numbers(only),
+            _ => false,
+        },
+        _ => false,
+    }
+}
+
+/// Whether a field of the type is a variable.
+pub fn is_field_of_numbers(t: &FieldType) -> bool {
+    match t {
+        FieldType::Plain(e) => is_of_numbers(e),
+        FieldType::If(_, _) | FieldType::IfBit(_, _, _) => false,
+    }
+}
