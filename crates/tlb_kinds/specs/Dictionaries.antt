@@ -3,7 +3,7 @@
 use Rattle.std.specs.Prelude.{ℕ, List, [], ◌∷◌, ◌++◌, Bool, false, not, Option, Some, None, codes, bytes_eq, slice_get, length, filter, if◌then◌else◌}
 use Rattle.tlb_syntax.specs.Tree.{ConstructorView, SchemaView}
 use Rattle.tlb_kinds.specs.Words.{Word, is_among}
-use Rattle.tlb_kinds.specs.Canonical.{canonical}
+use Rattle.tlb_syntax.specs.Text.{constructor_text}
 
 abbrev pub hashmap : Word
 hashmap = codes "Hashmap"
@@ -46,7 +46,7 @@ of_type s x = filter (λ (c : ConstructorView). bytes_eq c.result x) s
 
 abbrev pub is_line : Option (List ℕ) → ConstructorView → Bool
 is_line None c = false
-is_line (Some text) c = bytes_eq (canonical c) text
+is_line (Some text) c = bytes_eq (constructor_text c) text
 
 -- whether the i-th declaration of the type of a dictionary, where i - 1 come before it, is the i-th line
 unfoldable pub is_allowed : SchemaView → ConstructorView → Bool

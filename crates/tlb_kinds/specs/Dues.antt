@@ -1,23 +1,12 @@
 -- What is due where an expression stands.
 use Rattle.std.specs.Prelude.{ℕ, List, Bool, true, false, Option, Some, None, is_some, if◌then◌else◌}
 use Rattle.tlb_syntax.specs.Tree.{ExprView, ExprList, lit, named, nat32, bits, below, up_to, plus, star, out, ref, group, no_exprs, an_expr}
+use Rattle.tlb_kinds.specs.declared.rules.Stand.{Stand}
+use Rattle.tlb_kinds.specs.declared.rules.Stand.TheVariants.{Whole, Conditional, FieldRef, UnderRef, Inner}
 use Rattle.tlb_kinds.specs.Words.{Word}
 use Rattle.tlb_kinds.specs.Params.{bare_name}
 use Rattle.tlb_kinds.specs.Types.{TypeNamed, type_named}
 use Rattle.tlb_kinds.specs.Scopes.{Scope, Sides, in_scope}
-
--- where a type stands
-pub data Stand : Type 0 where
-  -- the whole type of a field without condition
-  whole : Stand
-  -- behind a condition
-  conditional : Stand
-  -- under the one ^ of these
-  field_ref : Stand
-  -- under another ^
-  under_ref : Stand
-  -- an argument, or a repeated type
-  part : Stand
 
 pub data Due : Type 0 where
   -- a number, which without variables is at most so much; of an equation, or of none

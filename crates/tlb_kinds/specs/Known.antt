@@ -25,7 +25,7 @@ is_unknown_variable u (Some x) = is_variable_due u.due u.scope x && not (is_know
 abbrev pub is_used_unknown : Use → Bool
 is_used_unknown u = is_unknown_variable u (bare_name u.at)
 
--- An implicit field, and the variables that are known at the end of its record.
+-- An implicit field, and the variables that the items of its record make known, with the inputs in the constructor's own.
 pub record Ending : Type 0 where
   pub name : Word
   pub known : List Word

@@ -1,5 +1,4 @@
 pub mod Words
-pub mod Canonical
 pub mod Dictionaries
 pub mod Params
 pub mod Types

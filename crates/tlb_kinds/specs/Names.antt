@@ -3,7 +3,9 @@ use Rattle.std.specs.Prelude.{ℕ, ◌&&◌, ◌||◌, not, ◌==◌, List, leng
 use Rattle.tlb_kinds.specs.Words.{Word, is_among}
 use Rattle.tlb_kinds.specs.Params.{bare_name}
 use Rattle.tlb_kinds.specs.Types.{TypeNamed, no_type, basic, declared, is_no_type, has_exprs, count}
-use Rattle.tlb_kinds.specs.Scopes.{Meaning, implicit_number, field_number, type_variable, other_field, meaning_of}
+use Rattle.tlb_kinds.specs.declared.scope.Meaning.{Meaning}
+use Rattle.tlb_kinds.specs.declared.scope.Meaning.TheVariants.{ImplicitNumber, FieldNumber, TypeVariable, OtherField}
+use Rattle.tlb_kinds.specs.Scopes.{meaning_of}
 use Rattle.tlb_kinds.specs.Dues.{Use, used_at, type_at, arguments, is_type_due}
 
 -- A field, and the fields before it in the text from which its name is to differ: those of its record, of the records
@@ -40,10 +42,10 @@ is_other_arity u = takes_others (type_at u) (count (arguments (used_at u)))
 
 abbrev pub is_no_variable : Option Meaning → Bool
 is_no_variable None = false
-is_no_variable (Some implicit_number) = false
-is_no_variable (Some field_number) = false
-is_no_variable (Some type_variable) = false
-is_no_variable (Some other_field) = true
+is_no_variable (Some ImplicitNumber) = false
+is_no_variable (Some FieldNumber) = false
+is_no_variable (Some TypeVariable) = false
+is_no_variable (Some OtherField) = true
 
 abbrev pub names_no_variable : Use → Option Word → Bool
 names_no_variable u None = false

@@ -4,10 +4,14 @@ use Rattle.tlb_syntax.specs.Tree.{ExprView, ExprList, ItemView, ItemList, TypeVi
 use Rattle.tlb_kinds.specs.declared.spot.Part.{Part}
 use Rattle.tlb_kinds.specs.declared.spot.Part.TheVariants as places
 use Rattle.tlb_kinds.specs.Words.{Word}
-use Rattle.tlb_kinds.specs.Params.{Kind, number_in, type_in, number_out, no_kind, greatest, inputs, option_list}
+use Rattle.tlb_kinds.specs.declared.kind.Kind.{Kind}
+use Rattle.tlb_kinds.specs.declared.kind.Kind.TheVariants.{NumberIn, TypeIn, NumberOut, NoKind}
+use Rattle.tlb_kinds.specs.Params.{greatest, inputs, option_list}
 use Rattle.tlb_kinds.specs.Types.{type_named, parameters, has_exprs}
-use Rattle.tlb_kinds.specs.Scopes.{Scope, equation, given_out, behind, at_end, inside}
-use Rattle.tlb_kinds.specs.Dues.{Stand, Due, Use, whole, conditional, field_ref, under_ref, part, a_number, an_output, a_type}
+use Rattle.tlb_kinds.specs.Scopes.{Scope, equation, given_out, behind, at_end, inside, made_known}
+use Rattle.tlb_kinds.specs.declared.rules.Stand.{Stand}
+use Rattle.tlb_kinds.specs.declared.rules.Stand.TheVariants.{Whole, Conditional, FieldRef, UnderRef, Inner}
+use Rattle.tlb_kinds.specs.Dues.{Due, Use, a_number, an_output, a_type}
 use Rattle.tlb_kinds.specs.Results.{Result, Param}
 use Rattle.tlb_kinds.specs.Names.{Field}
 use Rattle.tlb_kinds.specs.Known.{Ending}
@@ -38,39 +42,54 @@ judged p n = record { path = p; node = n }
 abbrev pub blank_name : ℕ → Word
 blank_name k = if k == 1 then codes "_" else codes "_" ++ decimal k
 
--- An item of a record stands here.
-pub record Here : Type 0 where
+-- a place among the items of a record
+pub record Place : Type 0 where
   -- the path to the record
   pub path : List Part
   -- the item's place in it, from 1
-  pub place : ℕ
+  pub number : ℕ
   -- the number of blank fields before it
   pub blanks : ℕ
-  pub scope : Scope
-  -- the fields before it of the record and of those around it
-  pub fields : List Word
-  -- the fields of records in items before it
-  pub inner : List Word
 
 abbrev pub shown : Option Word → ℕ → Word
 shown (Some x) blanks = x
 shown None blanks = blank_name (blanks + 1)
 
-abbrev pub part_at : Here → ItemView → Part
-part_at h (implicit x k) = places.Named x
-part_at h (check a op b) = places.Check h.place
-part_at h (explicit x t) = places.Named (shown x h.blanks)
+abbrev pub part_at : Place → ItemView → Part
+part_at p (implicit x k) = places.Named x
+part_at p (check a op b) = places.Check p.number
+part_at p (explicit x t) = places.Named (shown x p.blanks)
 
-abbrev pub field_names : ItemView → List Word
-field_names (implicit x k) = x ∷ []
-field_names (check a op b) = []
-field_names (explicit x t) = option_list x
+-- the path to the item that stands there
+abbrev pub path_at : Place → ItemView → List Part
+path_at p i = p.path ++ part_at p i ∷ []
 
 abbrev pub is_blank : ItemView → Bool
 is_blank (implicit x k) = false
 is_blank (check a op b) = false
 is_blank (explicit None t) = true
 is_blank (explicit (Some x) t) = false
+
+abbrev pub first_place : List Part → Place
+first_place path = record { path = path; number = 1; blanks = 0 }
+
+-- behind an item
+abbrev pub next_place : Place → ItemView → Place
+next_place p i = record p { number = p.number + 1; blanks = (if is_blank i then p.blanks + 1 else p.blanks) }
+
+-- An item of a record stands here.
+pub record Here : Type 0 where
+  pub place : Place
+  pub scope : Scope
+  -- the fields before it of the record and of those around it
+  pub fields : List Word
+  -- the fields of records in items before it
+  pub inner : List Word
+
+abbrev pub field_names : ItemView → List Word
+field_names (implicit x k) = x ∷ []
+field_names (check a op b) = []
+field_names (explicit x t) = option_list x
 
 -- the names of all fields of the records in an expression, and of the records in those
 abbrev mutual
@@ -113,18 +132,16 @@ pub record At : Type 0 where
   pub fields : List Word
 
 abbrev pub at : Here → ItemView → At
-at h i = record { path = h.path ++ part_at h i ∷ []; scope = h.scope; fields = h.fields ++ field_names i }
+at h i = record { path = path_at h.place i; scope = h.scope; fields = h.fields ++ field_names i }
 
 -- the first item of a record in the item
 abbrev pub first_inside : At → Here
-first_inside a = record { path = a.path; place = 1; blanks = 0; scope = inside a.scope; fields = a.fields; inner = [] }
+first_inside a = record { place = first_place a.path; scope = inside a.scope; fields = a.fields; inner = [] }
 
 -- the next item
 abbrev pub next : Here → ItemView → Here
 next h i = record {
-  path = h.path;
-  place = h.place + 1;
-  blanks = (if is_blank i then h.blanks + 1 else h.blanks);
+  place = next_place h.place i;
   scope = behind h.scope i;
   fields = h.fields ++ field_names i;
   inner = h.inner ++ names_inside i;
@@ -133,9 +150,7 @@ next h i = record {
 -- the items of a constructor, whose inputs are known from the start
 abbrev pub first : SchemaView → ConstructorView → Here
 first types c = record {
-  path = [];
-  place = 1;
-  blanks = 0;
+  place = first_place [];
   scope = record { types = types; around = []; own = []; known = inputs c.params };
   fields = [];
   inner = [];
@@ -163,14 +178,14 @@ abbrev pub right_due : Option Due → Option Due
 right_due None = None
 right_due (Some (a_number n q)) = Some (a_number greatest q)
 right_due (Some (an_output before)) = None
-right_due (Some (a_type w)) = Some (a_type part)
+right_due (Some (a_type w)) = Some (a_type Inner)
 
 abbrev pub under : Stand → Stand
-under whole = field_ref
-under conditional = field_ref
-under field_ref = under_ref
-under under_ref = under_ref
-under part = under_ref
+under Whole = FieldRef
+under Conditional = FieldRef
+under FieldRef = UnderRef
+under UnderRef = UnderRef
+under Inner = UnderRef
 
 abbrev pub ref_due : Option Due → Option Due
 ref_due None = None
@@ -185,10 +200,10 @@ only_types (Some (an_output before)) xs = []
 only_types (Some (a_type w)) xs = xs
 
 abbrev pub kind_due : Kind → List Word → Option Due
-kind_due (number_in n) before = Some (a_number n None)
-kind_due type_in before = Some (a_type part)
-kind_due number_out before = Some (an_output before)
-kind_due no_kind before = None
+kind_due (NumberIn n) before = Some (a_number n None)
+kind_due TypeIn before = Some (a_type Inner)
+kind_due NumberOut before = Some (an_output before)
+kind_due NoKind before = None
 
 -- ---- expressions, items and records
 
@@ -207,9 +222,9 @@ abbrev mutual
       use_at a d (named x es)
       ++ arg_nodes es a (only_types d (parameters (type_named a.scope.types x (has_exprs es)))) []
   expr_nodes nat32 a d = use_at a d nat32
-  expr_nodes (bits es) a d = use_at a d (bits es) ++ arg_nodes es a (only_types d (number_in 32 ∷ [])) []
-  expr_nodes (below es) a d = use_at a d (below es) ++ arg_nodes es a (only_types d (number_in greatest ∷ [])) []
-  expr_nodes (up_to es) a d = use_at a d (up_to es) ++ arg_nodes es a (only_types d (number_in greatest ∷ [])) []
+  expr_nodes (bits es) a d = use_at a d (bits es) ++ arg_nodes es a (only_types d (NumberIn 32 ∷ [])) []
+  expr_nodes (below es) a d = use_at a d (below es) ++ arg_nodes es a (only_types d (NumberIn greatest ∷ [])) []
+  expr_nodes (up_to es) a d = use_at a d (up_to es) ++ arg_nodes es a (only_types d (NumberIn greatest ∷ [])) []
   expr_nodes (plus x y) a d = use_at a d (plus x y) ++ (expr_nodes x a (sum_due d) ++ expr_nodes y a (sum_due d))
   expr_nodes (star x y) a d = use_at a d (star x y) ++ (expr_nodes x a (left_due d) ++ expr_nodes y a (right_due d))
   expr_nodes (out e) a d = use_at a d (out e)
@@ -224,9 +239,9 @@ abbrev mutual
       expr_nodes e a (kind_due k before) ++ arg_nodes es a ks (before ++ given_out k e)
 
   pub type_nodes : TypeView → At → List Judged
-  type_nodes (plain e) a = expr_nodes e a (Some (a_type whole))
-  type_nodes (when c e) a = expr_nodes c a number_due ++ expr_nodes e a (Some (a_type conditional))
-  type_nodes (when_bit c k e) a = expr_nodes c a number_due ++ expr_nodes e a (Some (a_type conditional))
+  type_nodes (plain e) a = expr_nodes e a (Some (a_type Whole))
+  type_nodes (when c e) a = expr_nodes c a number_due ++ expr_nodes e a (Some (a_type Conditional))
+  type_nodes (when_bit c k e) a = expr_nodes c a number_due ++ expr_nodes e a (Some (a_type Conditional))
 
   pub item_nodes : ItemView → Here → List Judged
   item_nodes (implicit x k) h = name_at h (at h (implicit x k)) (Some x)
@@ -241,45 +256,47 @@ abbrev mutual
 
 -- ---- implicit fields at the ends of their records
 
-abbrev pub ending_at : At → List Word → ItemView → List Judged
-ending_at a known (implicit x k) = judged a.path (an_ending (record { name = x; known = known })) ∷ []
-ending_at a known (check x op y) = []
-ending_at a known (explicit x t) = []
+abbrev pub ending_at : List Part → List Word → ItemView → List Judged
+ending_at path known (implicit x k) = judged path (an_ending (record { name = x; known = known })) ∷ []
+ending_at path known (check x op y) = []
+ending_at path known (explicit x t) = []
 
 abbrev mutual
-  pub expr_endings : ExprView → At → List Judged
-  expr_endings (lit n) a = []
-  expr_endings (named x es) a = arg_endings es a
-  expr_endings nat32 a = []
-  expr_endings (bits es) a = arg_endings es a
-  expr_endings (below es) a = arg_endings es a
-  expr_endings (up_to es) a = arg_endings es a
-  expr_endings (plus x y) a = expr_endings x a ++ expr_endings y a
-  expr_endings (star x y) a = expr_endings x a ++ expr_endings y a
-  expr_endings (out e) a = expr_endings e a
-  expr_endings (ref e) a = expr_endings e a
-  expr_endings (group is) a = record_endings is (first_inside a) (at_end (inside a.scope) is).known
+  -- in an expression on the path
+  pub expr_endings : ExprView → SchemaView → List Part → List Judged
+  expr_endings (lit n) types path = []
+  expr_endings (named x es) types path = arg_endings es types path
+  expr_endings nat32 types path = []
+  expr_endings (bits es) types path = arg_endings es types path
+  expr_endings (below es) types path = arg_endings es types path
+  expr_endings (up_to es) types path = arg_endings es types path
+  expr_endings (plus x y) types path = expr_endings x types path ++ expr_endings y types path
+  expr_endings (star x y) types path = expr_endings x types path ++ expr_endings y types path
+  expr_endings (out e) types path = expr_endings e types path
+  expr_endings (ref e) types path = expr_endings e types path
+  expr_endings (group is) types path = record_endings is types (first_place path) (made_known types is)
 
-  pub arg_endings : ExprList → At → List Judged
-  arg_endings no_exprs a = []
-  arg_endings (an_expr e es) a = expr_endings e a ++ arg_endings es a
+  pub arg_endings : ExprList → SchemaView → List Part → List Judged
+  arg_endings no_exprs types path = []
+  arg_endings (an_expr e es) types path = expr_endings e types path ++ arg_endings es types path
 
-  pub type_endings : TypeView → At → List Judged
-  type_endings (plain e) a = expr_endings e a
-  type_endings (when c e) a = expr_endings c a ++ expr_endings e a
-  type_endings (when_bit c k e) a = expr_endings c a ++ expr_endings e a
+  pub type_endings : TypeView → SchemaView → List Part → List Judged
+  type_endings (plain e) types path = expr_endings e types path
+  type_endings (when c e) types path = expr_endings c types path ++ expr_endings e types path
+  type_endings (when_bit c k e) types path = expr_endings c types path ++ expr_endings e types path
 
-  -- in an item
-  pub item_endings : ItemView → At → List Judged
-  item_endings (implicit x k) a = []
-  item_endings (check x op y) a = []
-  item_endings (explicit x t) a = type_endings t a
+  -- of the records in an item
+  pub item_endings : ItemView → SchemaView → List Part → List Judged
+  item_endings (implicit x k) types path = []
+  item_endings (check x op y) types path = []
+  item_endings (explicit x t) types path = type_endings t types path
 
-  -- of a record at whose end these variables are known
-  pub record_endings : ItemList → Here → List Word → List Judged
-  record_endings no_items h known = []
-  record_endings (an_item i is) h known =
-      ending_at (at h i) known i ++ (item_endings i (at h i) ++ record_endings is (next h i) known)
+  -- of a record at whose end these of its variables are known
+  pub record_endings : ItemList → SchemaView → Place → List Word → List Judged
+  record_endings no_items types p known = []
+  record_endings (an_item i is) types p known =
+      ending_at (path_at p i) known i
+      ++ (item_endings i types (path_at p i) ++ record_endings is types (next_place p i) known)
 
 -- ---- declarations
 
@@ -325,4 +342,4 @@ abbrev pub constructor_nodes : SchemaView → ConstructorView → List Judged
 constructor_nodes types c =
     record_nodes c.items (first types c)
     ++ (output_nodes c.params (at_result types c)
-    ++ record_endings c.items (first types c) (at_result types c).scope.known)
+    ++ record_endings c.items types (first_place []) (inputs c.params ++ made_known types c.items))

@@ -4,25 +4,27 @@ use Rattle.tlb_syntax.specs.Tree.{ExprView}
 use Rattle.tlb_kinds.specs.Params.{has_outputs}
 use Rattle.tlb_kinds.specs.Types.{TypeNamed, parameters}
 use Rattle.tlb_kinds.specs.Scopes.{out_name}
-use Rattle.tlb_kinds.specs.Dues.{Stand, Due, Use, whole, conditional, field_ref, under_ref, part, a_number, an_output, a_type, type_at}
+use Rattle.tlb_kinds.specs.declared.rules.Stand.{Stand}
+use Rattle.tlb_kinds.specs.declared.rules.Stand.TheVariants.{Whole, Conditional, FieldRef, UnderRef, Inner}
+use Rattle.tlb_kinds.specs.Dues.{Due, Use, a_number, an_output, a_type, type_at}
 
 abbrev pub gives_outputs : Option TypeNamed → Bool
 gives_outputs None = false
 gives_outputs (Some t) = has_outputs (parameters t)
 
 abbrev pub is_under_ref : Stand → Bool
-is_under_ref field_ref = true
-is_under_ref under_ref = true
-is_under_ref whole = false
-is_under_ref conditional = false
-is_under_ref part = false
+is_under_ref FieldRef = true
+is_under_ref UnderRef = true
+is_under_ref Whole = false
+is_under_ref Conditional = false
+is_under_ref Inner = false
 
 abbrev pub is_conditional_or_part : Stand → Bool
-is_conditional_or_part conditional = true
-is_conditional_or_part part = true
-is_conditional_or_part whole = false
-is_conditional_or_part field_ref = false
-is_conditional_or_part under_ref = false
+is_conditional_or_part Conditional = true
+is_conditional_or_part Inner = true
+is_conditional_or_part Whole = false
+is_conditional_or_part FieldRef = false
+is_conditional_or_part UnderRef = false
 
 abbrev pub stands : (Stand → Bool) → Due → Bool
 stands test (a_type w) = test w

@@ -5,21 +5,13 @@ use Rattle.std.specs.List.{list_any}
 use Rattle.tlb_syntax.specs.declared.tree.ParamKind.{ParamKind}
 use Rattle.tlb_syntax.specs.declared.tree.ParamKind.TheVariants.{Nat, Ty}
 use Rattle.tlb_syntax.specs.Tree.{ExprView, ExprList, ItemList, ConstructorView, lit, named, nat32, bits, below, up_to, plus, star, out, ref, group, no_exprs, an_expr, implicit, check, explicit, no_items, an_item}
+use Rattle.tlb_kinds.specs.declared.kind.Kind.{Kind}
+use Rattle.tlb_kinds.specs.declared.kind.Kind.TheVariants.{NumberIn, TypeIn, NumberOut, NoKind}
 use Rattle.tlb_kinds.specs.Words.{Word}
 
 -- the greatest number of a schema
 abbrev pub greatest : ℕ
 greatest = 2 ^ 32 - 1
-
-pub data Kind : Type 0 where
-  -- an input number; without variables it is at most so much
-  number_in : ℕ → Kind
-  -- an input type
-  type_in : Kind
-  -- an output number
-  number_out : Kind
-  -- none of these
-  no_kind : Kind
 
 -- a name without arguments
 abbrev pub bare_name : ExprView → Option Word
@@ -72,37 +64,37 @@ variable_of (group is) = None
 
 -- what an implicit variable is as an input, alone or in a sum with a literal
 abbrev pub kind_alone : Option ParamKind → Kind
-kind_alone (Some Nat) = number_in greatest
-kind_alone (Some Ty) = type_in
-kind_alone None = no_kind
+kind_alone (Some Nat) = NumberIn greatest
+kind_alone (Some Ty) = TypeIn
+kind_alone None = NoKind
 
 abbrev pub kind_in_sum : Option ParamKind → Kind
-kind_in_sum (Some Nat) = number_in greatest
-kind_in_sum (Some Ty) = no_kind
-kind_in_sum None = no_kind
+kind_in_sum (Some Nat) = NumberIn greatest
+kind_in_sum (Some Ty) = NoKind
+kind_in_sum None = NoKind
 
 abbrev pub kind_of_variable : ItemList → Option Word → Kind
-kind_of_variable is None = no_kind
+kind_of_variable is None = NoKind
 kind_of_variable is (Some x) = kind_alone (implicit_kind is x)
 
 abbrev pub kind_of_sum : ItemList → Option Word → Kind
-kind_of_sum is None = no_kind
+kind_of_sum is None = NoKind
 kind_of_sum is (Some x) = kind_in_sum (implicit_kind is x)
 
 -- The kind of a parameter, by the items of its constructor: `~e` is an output number; a literal, and `v` or `v + k`
 -- with an implicit number v, is an input number; an implicit type variable is an input type.
 abbrev pub kind_of : ItemList → ExprView → Kind
-kind_of is (out e) = number_out
-kind_of is (lit n) = number_in greatest
+kind_of is (out e) = NumberOut
+kind_of is (lit n) = NumberIn greatest
 kind_of is (named x es) = kind_of_variable is (bare_name (named x es))
 kind_of is (plus a b) = kind_of_sum is (variable_of (plus a b))
-kind_of is nat32 = no_kind
-kind_of is (bits es) = no_kind
-kind_of is (below es) = no_kind
-kind_of is (up_to es) = no_kind
-kind_of is (star a b) = no_kind
-kind_of is (ref e) = no_kind
-kind_of is (group js) = no_kind
+kind_of is nat32 = NoKind
+kind_of is (bits es) = NoKind
+kind_of is (below es) = NoKind
+kind_of is (up_to es) = NoKind
+kind_of is (star a b) = NoKind
+kind_of is (ref e) = NoKind
+kind_of is (group js) = NoKind
 
 abbrev pub kinds_of_exprs : ItemList → ExprList → List Kind
 kinds_of_exprs is no_exprs = []
@@ -112,38 +104,38 @@ abbrev pub kinds : ConstructorView → List Kind
 kinds c = kinds_of_exprs c.items c.params
 
 abbrev pub is_output : Kind → Bool
-is_output (number_in n) = false
-is_output type_in = false
-is_output number_out = true
-is_output no_kind = false
+is_output (NumberIn n) = false
+is_output TypeIn = false
+is_output NumberOut = true
+is_output NoKind = false
 
 abbrev pub has_outputs : List Kind → Bool
 has_outputs ks = list_any is_output ks
 
 abbrev pub has_kind : Kind → Bool
-has_kind (number_in n) = true
-has_kind type_in = true
-has_kind number_out = true
-has_kind no_kind = false
+has_kind (NumberIn n) = true
+has_kind TypeIn = true
+has_kind NumberOut = true
+has_kind NoKind = false
 
 abbrev pub is_number_in : Kind → Bool
-is_number_in (number_in n) = true
-is_number_in type_in = false
-is_number_in number_out = false
-is_number_in no_kind = false
+is_number_in (NumberIn n) = true
+is_number_in TypeIn = false
+is_number_in NumberOut = false
+is_number_in NoKind = false
 
 abbrev pub is_type_in : Kind → Bool
-is_type_in (number_in n) = false
-is_type_in type_in = true
-is_type_in number_out = false
-is_type_in no_kind = false
+is_type_in (NumberIn n) = false
+is_type_in TypeIn = true
+is_type_in NumberOut = false
+is_type_in NoKind = false
 
 -- whether two kinds are one
 abbrev pub is_same_kind : Kind → Kind → Bool
-is_same_kind (number_in n) k = is_number_in k
-is_same_kind type_in k = is_type_in k
-is_same_kind number_out k = is_output k
-is_same_kind no_kind k = not (has_kind k)
+is_same_kind (NumberIn n) k = is_number_in k
+is_same_kind TypeIn k = is_type_in k
+is_same_kind NumberOut k = is_output k
+is_same_kind NoKind k = not (has_kind k)
 
 abbrev pub option_list : Option Word → List Word
 option_list None = []

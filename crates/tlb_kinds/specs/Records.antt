@@ -1,7 +1,9 @@
 -- The rule on records in brackets.
 use Rattle.std.specs.Prelude.{◌&&◌, Bool, true, false}
 use Rattle.tlb_syntax.specs.Tree.{ExprView, lit, named, nat32, bits, below, up_to, plus, star, out, ref, group}
-use Rattle.tlb_kinds.specs.Dues.{Stand, Use, whole, conditional, field_ref, under_ref, part}
+use Rattle.tlb_kinds.specs.declared.rules.Stand.{Stand}
+use Rattle.tlb_kinds.specs.declared.rules.Stand.TheVariants.{Whole, Conditional, FieldRef, UnderRef, Inner}
+use Rattle.tlb_kinds.specs.Dues.{Use}
 use Rattle.tlb_kinds.specs.Outputs.{stands}
 
 abbrev pub is_group : ExprView → Bool
@@ -18,11 +20,11 @@ is_group (out e) = false
 is_group (ref e) = false
 
 abbrev pub takes_no_record : Stand → Bool
-takes_no_record under_ref = true
-takes_no_record part = true
-takes_no_record whole = false
-takes_no_record conditional = false
-takes_no_record field_ref = false
+takes_no_record UnderRef = true
+takes_no_record Inner = true
+takes_no_record Whole = false
+takes_no_record Conditional = false
+takes_no_record FieldRef = false
 
 -- A record is neither a field's type, nor behind a condition, nor under the one ^ of these.
 abbrev pub is_misplaced_record : Use → Bool

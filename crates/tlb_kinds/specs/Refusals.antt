@@ -1,11 +1,13 @@
 -- The refusals of a schema by its kinds, their order, and the first of them.
-use Rattle.std.specs.Prelude.{ℕ, ◌≡◌, ◌+◌, ◌||◌, List, [], ◌∷◌, ◌++◌, map, find, length, Bool, true, false, Option, Some, None, Any, codes, decimal}
+use Rattle.std.specs.Prelude.{ℕ, ◌≡◌, ◌+◌, ◌||◌, List, [], ◌∷◌, ◌++◌, map, filter, length, Bool, true, false, Option, Some, None, codes, decimal, if◌then◌else◌}
 use Rattle.tlb_syntax.specs.Tree.{ConstructorView, SchemaView}
+use Rattle.tlb_kinds.specs.declared.error.Cause.{Cause}
+use Rattle.tlb_kinds.specs.declared.error.Cause.TheVariants.{Reserved, UnknownType, UnknownName, Arity, KindMismatch, OutputUnderRef, NotLinear, TwiceNamed, Undetermined, TooWide}
 use Rattle.tlb_kinds.specs.declared.spot.Part.{Part}
 use Rattle.tlb_kinds.specs.declared.spot.Spot.{Spot}
 use Rattle.tlb_kinds.specs.declared.error.KindError.{KindError}
 use Rattle.tlb_kinds.specs.declared.error.KindError.TheVariants as errors
-use Rattle.tlb_kinds.specs.Dictionaries.{of_type, without_dictionaries}
+use Rattle.tlb_kinds.specs.Dictionaries.{is_dictionary, of_type, without_dictionaries}
 use Rattle.tlb_kinds.specs.Dues.{Use}
 use Rattle.tlb_kinds.specs.Results.{Result, Param, is_reserved, is_constructor_twice, is_other_param, is_no_param, is_input_twice, lacks_params}
 use Rattle.tlb_kinds.specs.Names.{is_field_twice, is_unknown_type, is_unknown_name, is_other_arity, is_other_field_used}
@@ -18,85 +20,73 @@ use Rattle.tlb_kinds.specs.Nodes.{Node, Judged, a_result, a_param, params_end, a
 
 -- ---- causes
 
-pub data Cause : Type 0 where
-  reserved : Cause
-  unknown_type : Cause
-  unknown_name : Cause
-  arity : Cause
-  kind_mismatch : Cause
-  output_under_ref : Cause
-  not_linear : Cause
-  twice_named : Cause
-  undetermined : Cause
-  too_wide : Cause
-
 -- the order at one node
 abbrev pub in_order : List Cause
 in_order =
-    reserved ∷ unknown_type ∷ unknown_name ∷ arity ∷ kind_mismatch ∷ output_under_ref ∷ not_linear ∷ twice_named
-    ∷ undetermined ∷ too_wide ∷ []
+    Reserved ∷ UnknownType ∷ UnknownName ∷ Arity ∷ KindMismatch ∷ OutputUnderRef ∷ NotLinear ∷ TwiceNamed
+    ∷ Undetermined ∷ TooWide ∷ []
 
 -- of the names of a declaration
 abbrev pub result_has : Cause → Result → Bool
-result_has reserved r = is_reserved r
-result_has twice_named r = is_constructor_twice r
-result_has unknown_type r = false
-result_has unknown_name r = false
-result_has arity r = false
-result_has kind_mismatch r = false
-result_has output_under_ref r = false
-result_has not_linear r = false
-result_has undetermined r = false
-result_has too_wide r = false
+result_has Reserved r = is_reserved r
+result_has TwiceNamed r = is_constructor_twice r
+result_has UnknownType r = false
+result_has UnknownName r = false
+result_has Arity r = false
+result_has KindMismatch r = false
+result_has OutputUnderRef r = false
+result_has NotLinear r = false
+result_has Undetermined r = false
+result_has TooWide r = false
 
 abbrev pub param_has : Cause → Param → Bool
-param_has arity p = is_other_param p
-param_has kind_mismatch p = is_no_param p
-param_has not_linear p = is_input_twice p
-param_has reserved p = false
-param_has unknown_type p = false
-param_has unknown_name p = false
-param_has output_under_ref p = false
-param_has twice_named p = false
-param_has undetermined p = false
-param_has too_wide p = false
+param_has Arity p = is_other_param p
+param_has KindMismatch p = is_no_param p
+param_has NotLinear p = is_input_twice p
+param_has Reserved p = false
+param_has UnknownType p = false
+param_has UnknownName p = false
+param_has OutputUnderRef p = false
+param_has TwiceNamed p = false
+param_has Undetermined p = false
+param_has TooWide p = false
 
 -- a cause that is this one, where the test holds
 abbrev pub arity_alone : Cause → Bool → Bool
-arity_alone arity test = test
-arity_alone reserved test = false
-arity_alone unknown_type test = false
-arity_alone unknown_name test = false
-arity_alone kind_mismatch test = false
-arity_alone output_under_ref test = false
-arity_alone not_linear test = false
-arity_alone twice_named test = false
-arity_alone undetermined test = false
-arity_alone too_wide test = false
+arity_alone Arity test = test
+arity_alone Reserved test = false
+arity_alone UnknownType test = false
+arity_alone UnknownName test = false
+arity_alone KindMismatch test = false
+arity_alone OutputUnderRef test = false
+arity_alone NotLinear test = false
+arity_alone TwiceNamed test = false
+arity_alone Undetermined test = false
+arity_alone TooWide test = false
 
 abbrev pub twice_named_alone : Cause → Bool → Bool
-twice_named_alone twice_named test = test
-twice_named_alone reserved test = false
-twice_named_alone unknown_type test = false
-twice_named_alone unknown_name test = false
-twice_named_alone arity test = false
-twice_named_alone kind_mismatch test = false
-twice_named_alone output_under_ref test = false
-twice_named_alone not_linear test = false
-twice_named_alone undetermined test = false
-twice_named_alone too_wide test = false
+twice_named_alone TwiceNamed test = test
+twice_named_alone Reserved test = false
+twice_named_alone UnknownType test = false
+twice_named_alone UnknownName test = false
+twice_named_alone Arity test = false
+twice_named_alone KindMismatch test = false
+twice_named_alone OutputUnderRef test = false
+twice_named_alone NotLinear test = false
+twice_named_alone Undetermined test = false
+twice_named_alone TooWide test = false
 
 abbrev pub undetermined_alone : Cause → Bool → Bool
-undetermined_alone undetermined test = test
-undetermined_alone reserved test = false
-undetermined_alone unknown_type test = false
-undetermined_alone unknown_name test = false
-undetermined_alone arity test = false
-undetermined_alone kind_mismatch test = false
-undetermined_alone output_under_ref test = false
-undetermined_alone not_linear test = false
-undetermined_alone twice_named test = false
-undetermined_alone too_wide test = false
+undetermined_alone Undetermined test = test
+undetermined_alone Reserved test = false
+undetermined_alone UnknownType test = false
+undetermined_alone UnknownName test = false
+undetermined_alone Arity test = false
+undetermined_alone KindMismatch test = false
+undetermined_alone OutputUnderRef test = false
+undetermined_alone NotLinear test = false
+undetermined_alone TwiceNamed test = false
+undetermined_alone TooWide test = false
 
 -- a type, a number or an output stands where another of them is due
 abbrev pub is_mismatch : Use → Bool
@@ -105,16 +95,16 @@ is_mismatch u =
     || is_output_inside u || is_no_output u || is_misplaced_record u
 
 abbrev pub use_has : Cause → Use → Bool
-use_has reserved u = false
-use_has unknown_type u = is_unknown_type u
-use_has unknown_name u = is_unknown_name u
-use_has arity u = is_other_arity u
-use_has kind_mismatch u = is_mismatch u
-use_has output_under_ref u = is_output_under_ref u
-use_has not_linear u = is_product_of_variables u || is_other_out u
-use_has twice_named u = is_known_twice u
-use_has undetermined u = is_used_unknown u
-use_has too_wide u = is_too_wide u
+use_has Reserved u = false
+use_has UnknownType u = is_unknown_type u
+use_has UnknownName u = is_unknown_name u
+use_has Arity u = is_other_arity u
+use_has KindMismatch u = is_mismatch u
+use_has OutputUnderRef u = is_output_under_ref u
+use_has NotLinear u = is_product_of_variables u || is_other_out u
+use_has TwiceNamed u = is_known_twice u
+use_has Undetermined u = is_used_unknown u
+use_has TooWide u = is_too_wide u
 
 abbrev pub has : Node → Cause → Bool
 has (a_result r) c = result_has c r
@@ -124,8 +114,21 @@ has (a_field f) c = twice_named_alone c (is_field_twice f)
 has (a_use u) c = use_has c u
 has (an_ending e) c = undetermined_alone c (is_never_known e)
 
-abbrev pub first_cause : Node → Option Cause
-first_cause n = find (has n) in_order
+abbrev pub causes : Node → List Cause
+causes n = filter (has n) in_order
+
+-- a cause, and the path to the item
+pub record Fault : Type 0 where
+  pub cause : Cause
+  pub path : List Part
+
+abbrev pub fault_of : List Part → Cause → Fault
+fault_of path c = record { cause = c; path = path }
+
+-- all causes of the nodes, in their order
+abbrev pub faults : List Judged → List Fault
+faults [] = []
+faults (j ∷ js) = map (fault_of j.path) (causes j.node) ++ faults js
 
 -- ---- places
 
@@ -146,61 +149,51 @@ spot earlier c p = record {
   item = record { parts = p };
 }
 
-pub record Placed : Type 0 where
-  pub spot : Spot
-  pub node : Node
-
-abbrev pub placed : SchemaView → ConstructorView → Judged → Placed
-placed earlier c j = record { spot = spot earlier c j.path; node = j.node }
-
 -- ---- the order of the text
 
--- all results, behind these declarations
-abbrev pub results : SchemaView → SchemaView → List Placed
-results earlier [] = []
-results earlier (c ∷ cs) =
-    map (placed earlier c) (result_nodes (record { earlier = earlier; this = c })) ++ results (earlier ++ c ∷ []) cs
-
--- all items, by these declarations of types, behind these declarations
-abbrev pub contents : SchemaView → SchemaView → SchemaView → List Placed
-contents types earlier [] = []
-contents types earlier (c ∷ cs) =
-    map (placed earlier c) (constructor_nodes types c) ++ contents types (earlier ++ c ∷ []) cs
-
--- all that is judged in a schema: first all results, then the items of the declarations that are not passed over
-abbrev pub all_placed : SchemaView → List Placed
-all_placed s = results [] s ++ contents (without_dictionaries s) [] (without_dictionaries s)
-
--- ---- refusals
-
 abbrev pub refusal : Cause → Spot → KindError
-refusal reserved s = errors.Reserved s
-refusal unknown_type s = errors.UnknownType s
-refusal unknown_name s = errors.UnknownName s
-refusal arity s = errors.Arity s
-refusal kind_mismatch s = errors.KindMismatch s
-refusal output_under_ref s = errors.OutputUnderRef s
-refusal not_linear s = errors.NotLinear s
-refusal twice_named s = errors.TwiceNamed s
-refusal undetermined s = errors.Undetermined s
-refusal too_wide s = errors.TooWide s
+refusal Reserved s = errors.Reserved s
+refusal UnknownType s = errors.UnknownType s
+refusal UnknownName s = errors.UnknownName s
+refusal Arity s = errors.Arity s
+refusal KindMismatch s = errors.KindMismatch s
+refusal OutputUnderRef s = errors.OutputUnderRef s
+refusal NotLinear s = errors.NotLinear s
+refusal TwiceNamed s = errors.TwiceNamed s
+refusal Undetermined s = errors.Undetermined s
+refusal TooWide s = errors.TooWide s
 
--- the schema is refused for this cause at this place
-abbrev pub Refused : SchemaView → Cause → Spot → Type 0
-Refused s c at = Any (λ (p : Placed). (p.spot ≡ at) × (has p.node c ≡ true)) (all_placed s)
+-- the refusals of a declaration behind these
+abbrev pub refusals_of : SchemaView → ConstructorView → List Judged → List KindError
+refusals_of earlier c js = map (λ (f : Fault). refusal f.cause (spot earlier c f.path)) (faults js)
 
-abbrev pub or_else : Option KindError → Option KindError → Option KindError
-or_else None later = later
-or_else (Some e) later = Some e
+-- those of all results, behind these declarations
+abbrev pub of_results : SchemaView → SchemaView → List KindError
+of_results earlier [] = []
+of_results earlier (c ∷ cs) =
+    refusals_of earlier c (result_nodes (record { earlier = earlier; this = c })) ++ of_results (earlier ++ c ∷ []) cs
 
-abbrev pub refusal_for : Option Cause → Spot → Option KindError
-refusal_for None at = None
-refusal_for (Some c) at = Some (refusal c at)
+-- the items of a declaration are judged, unless it is passed over
+abbrev pub contents : SchemaView → ConstructorView → List Judged
+contents types c = if is_dictionary c.result then [] else constructor_nodes types c
 
--- the first cause of the first node that has one
-abbrev pub first_of : List Placed → Option KindError
-first_of [] = None
-first_of (p ∷ ps) = or_else (refusal_for (first_cause p.node) p.spot) (first_of ps)
+-- those of all items, by these declarations of types, behind these declarations
+abbrev pub of_contents : SchemaView → SchemaView → SchemaView → List KindError
+of_contents types earlier [] = []
+of_contents types earlier (c ∷ cs) =
+    refusals_of earlier c (contents types c) ++ of_contents types (earlier ++ c ∷ []) cs
 
-unfoldable pub first_refusal : SchemaView → Option KindError
-first_refusal s = first_of (all_placed s)
+-- The refusals of a schema in their order: those of all results, then those of the items.
+unfoldable pub refusals : SchemaView → List KindError
+refusals s = of_results [] s ++ of_contents (without_dictionaries s) [] s
+
+abbrev pub first : {X : Type 0} → List X → Option X
+first [] = None
+first (x ∷ xs) = Some x
+
+abbrev pub first_refusal : SchemaView → Option KindError
+first_refusal s = first (refusals s)
+
+-- no rule is broken
+abbrev pub AreKindsGood : SchemaView → Type 0
+AreKindsGood s = refusals s ≡ []

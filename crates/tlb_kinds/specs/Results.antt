@@ -4,7 +4,8 @@ use Rattle.std.specs.List.{list_any}
 use Rattle.tlb_syntax.specs.Tree.{ExprView, ExprList, ConstructorView, SchemaView}
 use Rattle.tlb_kinds.specs.Words.{Word, is_among, is_built_in, x_alone}
 use Rattle.tlb_kinds.specs.Dictionaries.{is_dictionary, is_allowed, of_type}
-use Rattle.tlb_kinds.specs.Params.{Kind, kind_of, kinds, has_kind, is_same_kind, variable_of, inputs}
+use Rattle.tlb_kinds.specs.declared.kind.Kind.{Kind}
+use Rattle.tlb_kinds.specs.Params.{kind_of, kinds, has_kind, is_same_kind, variable_of, inputs}
 use Rattle.tlb_kinds.specs.Types.{count}
 
 abbrev pub is_word : Option Word → Word → Bool

@@ -6,19 +6,15 @@ use Rattle.nat_solver.specs.declared.compare.Op.TheVariants.{Eq, Lt, Le, Gt, Ge}
 use Rattle.tlb_syntax.specs.declared.tree.ParamKind.{ParamKind}
 use Rattle.tlb_syntax.specs.declared.tree.ParamKind.TheVariants.{Nat, Ty}
 use Rattle.tlb_syntax.specs.Tree.{ExprView, ExprList, ItemView, ItemList, TypeView, SchemaView, lit, named, nat32, bits, below, up_to, plus, star, out, ref, group, no_exprs, an_expr, plain, when, when_bit, implicit, check, explicit, no_items, an_item}
+use Rattle.tlb_kinds.specs.declared.scope.Meaning.{Meaning}
+use Rattle.tlb_kinds.specs.declared.scope.Meaning.TheVariants.{ImplicitNumber, FieldNumber, TypeVariable, OtherField}
 use Rattle.tlb_kinds.specs.Words.{Word, is_among}
-use Rattle.tlb_kinds.specs.Params.{Kind, number_in, type_in, number_out, no_kind, bare_name, option_list}
+use Rattle.tlb_kinds.specs.declared.kind.Kind.{Kind}
+use Rattle.tlb_kinds.specs.declared.kind.Kind.TheVariants.{NumberIn, TypeIn, NumberOut, NoKind}
+use Rattle.tlb_kinds.specs.Params.{bare_name, option_list}
 use Rattle.tlb_kinds.specs.Types.{type_named, parameters, has_exprs}
 
 -- ---- what names stand for
-
--- A number variable is an implicit number, or an explicit field of numbers without a condition.
-pub data Meaning : Type 0 where
-  implicit_number : Meaning
-  field_number : Meaning
-  type_variable : Meaning
-  -- any other field
-  other_field : Meaning
 
 pub record Entry : Type 0 where
   pub name : Word
@@ -41,18 +37,22 @@ is_of_numbers (out e) = false
 is_of_numbers (ref e) = false
 is_of_numbers (group is) = false
 
+-- a field of numbers is a variable where it has no condition
+abbrev pub is_field_of_numbers : TypeView → Bool
+is_field_of_numbers (plain e) = is_of_numbers e
+is_field_of_numbers (when c e) = false
+is_field_of_numbers (when_bit c k e) = false
+
 abbrev pub number_or_other : Bool → Meaning
-number_or_other true = field_number
-number_or_other false = other_field
+number_or_other true = FieldNumber
+number_or_other false = OtherField
 
 abbrev pub field_meaning : TypeView → Meaning
-field_meaning (plain e) = number_or_other (is_of_numbers e)
-field_meaning (when c e) = other_field
-field_meaning (when_bit c k e) = other_field
+field_meaning t = number_or_other (is_field_of_numbers t)
 
 abbrev pub implicit_meaning : ParamKind → Meaning
-implicit_meaning Nat = implicit_number
-implicit_meaning Ty = type_variable
+implicit_meaning Nat = ImplicitNumber
+implicit_meaning Ty = TypeVariable
 
 -- what an item brings into scope
 abbrev pub declares : ItemView → List Entry
@@ -140,10 +140,10 @@ solved (Some q) = option_list (unknown_of q)
 
 -- the x of an argument `~x` at an output place
 abbrev pub given_out : Kind → ExprView → List Word
-given_out number_out e = option_list (out_name e)
-given_out (number_in n) e = []
-given_out type_in e = []
-given_out no_kind e = []
+given_out NumberOut e = option_list (out_name e)
+given_out (NumberIn n) e = []
+given_out TypeIn e = []
+given_out NoKind e = []
 
 abbrev pub all_given_out : List Kind → ExprList → List Word
 all_given_out ks no_exprs = []
@@ -168,16 +168,21 @@ abbrev pub own_number : Bool → Option Word → List Word
 own_number true x = option_list x
 own_number false x = []
 
-abbrev pub type_makes_known : SchemaView → Option Word → TypeView → List Word
-type_makes_known types x (plain e) = own_number (is_of_numbers e) x ++ outputs_of types e
-type_makes_known types x (when c e) = []
-type_makes_known types x (when_bit c k e) = []
+abbrev pub type_outputs : SchemaView → TypeView → List Word
+type_outputs types (plain e) = outputs_of types e
+type_outputs types (when c e) = []
+type_outputs types (when_bit c k e) = []
 
 -- An explicit number field is known after itself, an output after its field, the unknown of an equation after it.
 abbrev pub makes_known : SchemaView → ItemView → List Word
 makes_known types (implicit x k) = []
 makes_known types (check a op b) = solved (equation a op b)
-makes_known types (explicit x t) = type_makes_known types x t
+makes_known types (explicit x t) = own_number (is_field_of_numbers t) x ++ type_outputs types t
+
+-- what the items of a record make known
+abbrev pub made_known : SchemaView → ItemList → List Word
+made_known types no_items = []
+made_known types (an_item i is) = makes_known types i ++ made_known types is
 
 -- ---- scopes
 
@@ -217,24 +222,24 @@ is_known s x = is_among s.known x
 
 abbrev pub is_number_meaning : Option Meaning → Bool
 is_number_meaning None = false
-is_number_meaning (Some implicit_number) = true
-is_number_meaning (Some field_number) = true
-is_number_meaning (Some type_variable) = false
-is_number_meaning (Some other_field) = false
+is_number_meaning (Some ImplicitNumber) = true
+is_number_meaning (Some FieldNumber) = true
+is_number_meaning (Some TypeVariable) = false
+is_number_meaning (Some OtherField) = false
 
 abbrev pub is_type_meaning : Option Meaning → Bool
 is_type_meaning None = false
-is_type_meaning (Some implicit_number) = false
-is_type_meaning (Some field_number) = false
-is_type_meaning (Some type_variable) = true
-is_type_meaning (Some other_field) = false
+is_type_meaning (Some ImplicitNumber) = false
+is_type_meaning (Some FieldNumber) = false
+is_type_meaning (Some TypeVariable) = true
+is_type_meaning (Some OtherField) = false
 
 abbrev pub is_implicit_number : Option Meaning → Bool
 is_implicit_number None = false
-is_implicit_number (Some implicit_number) = true
-is_implicit_number (Some field_number) = false
-is_implicit_number (Some type_variable) = false
-is_implicit_number (Some other_field) = false
+is_implicit_number (Some ImplicitNumber) = true
+is_implicit_number (Some FieldNumber) = false
+is_implicit_number (Some TypeVariable) = false
+is_implicit_number (Some OtherField) = false
 
 abbrev pub in_scope : Scope → Word → Bool
 in_scope s x = is_some (meaning_of s x)

@@ -4,7 +4,9 @@ use Rattle.std.specs.Prelude.{ℕ, suc, List, [], ◌∷◌, Bool, true, false, 
 use Rattle.tlb_syntax.specs.Tree.{SchemaView, ExprList, no_exprs, an_expr}
 use Rattle.tlb_kinds.specs.Words.{Word, Family, families, is_among, has_width}
 use Rattle.tlb_kinds.specs.Dictionaries.{hashmap, hashmap_e, of_type}
-use Rattle.tlb_kinds.specs.Params.{Kind, number_in, type_in, kinds}
+use Rattle.tlb_kinds.specs.declared.kind.Kind.{Kind}
+use Rattle.tlb_kinds.specs.declared.kind.Kind.TheVariants.{NumberIn, TypeIn}
+use Rattle.tlb_kinds.specs.Params.{kinds}
 
 pub data TypeNamed : Type 0 where
   no_type : TypeNamed
@@ -15,7 +17,7 @@ pub data TypeNamed : Type 0 where
 
 abbrev pub family_kinds : Option Family → List Kind
 family_kinds None = []
-family_kinds (Some f) = number_in f.most ∷ []
+family_kinds (Some f) = NumberIn f.most ∷ []
 
 abbrev pub is_family : Word → Bool
 is_family x = is_among (codes "uint" ∷ codes "int" ∷ codes "bits" ∷ []) x
@@ -41,7 +43,7 @@ type_named types x has_arguments =
     else if is_among (codes "Any" ∷ codes "Cell" ∷ []) x then basic []
     else if is_family x then basic (family_kinds (family_named x))
     else if has_width x then basic []
-    else if is_among (hashmap ∷ hashmap_e ∷ []) x then declared (number_in 1023 ∷ type_in ∷ [])
+    else if is_among (hashmap ∷ hashmap_e ∷ []) x then declared (NumberIn 1023 ∷ TypeIn ∷ [])
     else declared_as (of_type types x)
 
 abbrev pub is_no_type : TypeNamed → Bool

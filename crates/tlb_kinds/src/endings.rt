@@ -10,6 +10,7 @@ use tlb_syntax::{Expr, FieldType, Item};
 
 /// The first implicit field of a record, and of the records in it, that is known neither from the start nor by an
 /// item of its own record, is refused; the path leads to it then.
+#[cycle(ending)]
 pub fn judge_endings<'a>(
     alloc: Global,
     types: &Types<'a>,
@@ -33,6 +34,7 @@ pub fn judge_endings<'a>(
     Ok(())
 }
 
+#[cycle(ending)]
 fn judge_ending<'a>(
     alloc: Global,
     types: &Types<'a>,
@@ -59,6 +61,7 @@ fn judge_ending<'a>(
 }
 
 // Those of the records in an expression.
+#[cycle(ending)]
 fn endings_in<'a>(
     alloc: Global,
     types: &Types<'a>,

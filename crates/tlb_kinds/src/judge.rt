@@ -2,11 +2,11 @@
 use crate::error::{Cause, Fault};
 use crate::kind::{GREATEST, Kind};
 use crate::numbers::is_sum_beyond;
-use crate::outs::{Sides, add_known, equation};
+use crate::outs::{add_known, sought};
 use crate::rules::{Due, Stand, Use};
 use crate::scope::{Entry, Meaning, declares, is_among, meaning_in};
 use crate::shape::{bare_name, out_name};
-use crate::types::Types;
+use crate::types::{Types, no_type};
 use bit_slice::Name;
 use std::alloc::{AllocError, Global};
 use tlb_syntax::{Constructor, Expr, FieldType, Item};
@@ -64,6 +64,7 @@ pub fn is_blank(item: &Item) -> bool {
 }
 
 // Adds the names of all fields of the records in an expression.
+#[cycle(names)]
 fn add_names_in<'a>(e: &'a Expr, names: &mut Vec<&'a Name>) -> Result<(), AllocError> {
     match e {
         Expr::Lit(_) | Expr::Nat32 => Ok(()),
@@ -95,6 +96,7 @@ fn add_names_in<'a>(e: &'a Expr, names: &mut Vec<&'a Name>) -> Result<(), AllocE
 }
 
 // Adds the names of all fields of the records in an item.
+#[cycle(names)]
 fn add_names_inside<'a>(item: &'a Item, names: &mut Vec<&'a Name>) -> Result<(), AllocError> {
     match item {
         Item::Implicit(_, _) | Item::Check(_, _, _) => Ok(()),
@@ -108,19 +110,42 @@ fn add_names_inside<'a>(item: &'a Item, names: &mut Vec<&'a Name>) -> Result<(),
 }
 
 // `~x` is judged together with its x, where no type is due.
-fn used<'e>(due: Due<'_>, e: &'e Expr) -> &'e Expr {
+fn used(due: Due, e: &Expr) -> &Expr {
     match due {
         Due::Type(_) => e,
-        Due::Number(_, _) | Due::Output(_) => match e {
-            Expr::Out(inner) => {
-                if bare_name(inner.get()).is_some() {
-                    inner.get()
-                } else {
-                    e
-                }
+        Due::Number(_) | Due::Output => operand_or_self(e),
+    }
+}
+
+fn operand_or_self(e: &Expr) -> &Expr {
+    match e {
+        Expr::Out(inner) => {
+            if bare_name(inner.get()).is_some() {
+                inner.get()
+            } else {
+                e
             }
-            _ => e,
+        }
+        _ => e,
+    }
+}
+
+// Whether the expression is `~x` with this x.
+fn is_out_of(e: &Expr, name: Option<&Name>) -> bool {
+    match name {
+        None => false,
+        Some(name) => match out_name(e) {
+            None => false,
+            Some(found) => found.same(name),
         },
+    }
+}
+
+// Whether the expression is `~x` with an x among the names.
+fn is_out_among(e: &Expr, names: &[&Name]) -> bool {
+    match out_name(e) {
+        None => false,
+        Some(found) => is_among(names, found),
     }
 }
 
@@ -148,6 +173,7 @@ impl<'a, 't> Scope<'a, 't> {
     }
 
     // Whether a number variable in scope stands in the expression.
+    #[cycle(holds)]
     fn holds_variable(&self, e: &Expr) -> bool {
         match e {
             Expr::Lit(_) | Expr::Nat32 | Expr::Group(_) => false,
@@ -167,6 +193,7 @@ impl<'a, 't> Scope<'a, 't> {
         }
     }
 
+    #[cycle(holds)]
     fn hold_variable(&self, es: &[Expr]) -> bool {
         for e in es {
             if self.holds_variable(e) {
@@ -184,17 +211,19 @@ impl<'a, 't> Scope<'a, 't> {
         }
     }
 
-    // The expression is refused for its first cause, if there is one.
-    fn judge_use(&self, due: Due<'_>, e: &Expr) -> Result<(), Fault> {
+    // What is known of an expression that stands here.
+    fn use_of(&self, due: Due, e: &Expr) -> Use<'_> {
         let mut at = Use {
             due,
-            at: e,
             meaning: None,
-            named: None,
+            is_named: false,
+            named: no_type(),
             args: 0,
             is_own_unknown: false,
             is_known: false,
-            is_product: matches!(due, Due::Number(_, _)) && self.is_product(e),
+            is_product: self.is_product(e),
+            is_sought: false,
+            is_given: false,
         };
         if let Expr::Named(name, args) = used(due, e) {
             at.args = args.len();
@@ -204,62 +233,74 @@ impl<'a, 't> Scope<'a, 't> {
                 at.is_known = is_among(self.known.as_slice(), name);
             }
             if at.meaning.is_none() {
-                at.named = Some(self.types.named(name.text(), !args.is_empty()));
+                at.is_named = true;
+                at.named = self.types.named(name.text(), !args.is_empty());
             }
         }
-        match at.first_cause() {
-            None => Ok(()),
-            Some(cause) => Err(Fault::Refused(cause)),
-        }
+        at
     }
 
-    /// An expression where a number is due.
-    pub fn judge_number(&self, e: &Expr, most: u32, sides: Option<Sides<'_>>) -> Result<(), Fault> {
+    /// An expression where a number is due, in an equation that seeks this variable or elsewhere.
+    #[cycle(number)]
+    pub fn judge_number(&self, e: &Expr, most: u32, sought: Option<&Name>) -> Result<(), Fault> {
         if let Expr::Sum(terms) = e {
-            return self.judge_sum(terms.as_slice(), most, sides);
+            return self.judge_sum(terms.as_slice(), most, sought);
         }
-        self.judge_use(Due::Number(most, sides), e)?;
+        let mut at = self.use_of(Due::Number(most), e);
+        at.is_sought = is_out_of(e, sought);
+        if let Some(cause) = at.first_cause(e) {
+            return Err(Fault::Refused(cause));
+        }
         if let Expr::Star(left, right) = e {
-            self.judge_number(left.get(), GREATEST, sides)?;
-            self.judge_number(right.get(), GREATEST, sides)?;
+            self.judge_number(left.get(), GREATEST, sought)?;
+            self.judge_number(right.get(), GREATEST, sought)?;
         }
         Ok(())
     }
 
-    fn judge_sum(&self, terms: &[Expr], most: u32, sides: Option<Sides<'_>>) -> Result<(), Fault> {
+    #[cycle(number)]
+    fn judge_sum(&self, terms: &[Expr], most: u32, sought: Option<&Name>) -> Result<(), Fault> {
         if let [only] = terms {
-            return self.judge_number(only, most, sides);
+            return self.judge_number(only, most, sought);
         }
         if is_sum_beyond(terms, most) {
             return Err(Fault::Refused(Cause::TooWide));
         }
         for term in terms {
-            self.judge_number(term, GREATEST, sides)?;
+            self.judge_number(term, GREATEST, sought)?;
         }
         Ok(())
     }
 
-    // An expression at an output place.
+    // An expression at an output place, behind outputs of the same type.
     fn judge_output(&self, e: &Expr, before: &[&Name]) -> Result<(), Fault> {
         if let Expr::Sum(terms) = e
             && let [only] = terms.as_slice()
         {
             return self.judge_output(only, before);
         }
-        self.judge_use(Due::Output(before), e)
+        let mut at = self.use_of(Due::Output, e);
+        at.is_given = is_out_among(e, before);
+        match at.first_cause(e) {
+            None => Ok(()),
+            Some(cause) => Err(Fault::Refused(cause)),
+        }
     }
 
     // An expression where a type is due.
+    #[cycle(item)]
     fn judge_type(&mut self, e: &'a Expr, stand: Stand) -> Result<(), Fault> {
         if let Expr::Sum(terms) = e
             && let [only] = terms.as_slice()
         {
             return self.judge_type(only, stand);
         }
-        self.judge_use(Due::Type(stand), e)?;
+        if let Some(cause) = self.use_of(Due::Type(stand), e).first_cause(e) {
+            return Err(Fault::Refused(cause));
+        }
         match e {
             Expr::Named(name, args) => {
-                let kinds = self.types.named(name.text(), !args.is_empty()).kinds();
+                let kinds = self.types.named(name.text(), !args.is_empty()).kinds;
                 self.judge_args(args.as_slice(), kinds)
             }
             Expr::Bits(args) => self.judge_args(args.as_slice(), OF_HASH_HASH),
@@ -275,6 +316,7 @@ impl<'a, 't> Scope<'a, 't> {
     }
 
     // The arguments of a type with these parameters.
+    #[cycle(item)]
     fn judge_args(&mut self, args: &'a [Expr], kinds: &[Kind]) -> Result<(), Fault> {
         let mut given = Vec::new(self.alloc);
         for (arg, kind) in args.iter().zip(kinds) {
@@ -293,6 +335,7 @@ impl<'a, 't> Scope<'a, 't> {
         Ok(())
     }
 
+    #[cycle(item)]
     fn judge_field_type(&mut self, t: &'a FieldType) -> Result<(), Fault> {
         match t {
             FieldType::Plain(e) => self.judge_type(e, Stand::Whole),
@@ -304,6 +347,7 @@ impl<'a, 't> Scope<'a, 't> {
     }
 
     // An item, behind records with these names of fields.
+    #[cycle(item)]
     fn judge_item(&mut self, item: &'a Item, inside: &[&Name]) -> Result<(), Fault> {
         if let Some(name) = field_name(item) {
             if is_among(self.fields.as_slice(), name) || is_among(inside, name) {
@@ -314,15 +358,16 @@ impl<'a, 't> Scope<'a, 't> {
         match item {
             Item::Implicit(_, _) => Ok(()),
             Item::Check(left, op, right) => {
-                let sides = equation(left, *op, right);
-                self.judge_number(left, GREATEST, sides)?;
-                self.judge_number(right, GREATEST, sides)
+                let unknown = sought(left, *op, right);
+                self.judge_number(left, GREATEST, unknown)?;
+                self.judge_number(right, GREATEST, unknown)
             }
             Item::Explicit(_, t) => self.judge_field_type(t),
         }
     }
 
     /// The items of a record, each of which is in scope behind itself.
+    #[cycle(item)]
     pub fn judge_items(&mut self, items: &'a [Item]) -> Result<(), Fault> {
         let mut inside = Vec::new(self.alloc);
         let mut blanks: u32 = 0;
@@ -343,6 +388,7 @@ impl<'a, 't> Scope<'a, 't> {
     }
 
     // A record inside, whose names end with it.
+    #[cycle(item)]
     fn judge_inner(&mut self, items: &'a [Item]) -> Result<(), Fault> {
         let around = self.around;
         let entries = self.entries.len();

@@ -3,6 +3,7 @@ use crate::kind::GREATEST;
 use tlb_syntax::Expr;
 
 /// The value of a number without variables, or the greatest of the type where it is beyond.
+#[cycle(closed)]
 pub fn closed(e: &Expr) -> Option<u64> {
     match e {
         Expr::Lit(n) => Some(u64::from(*n)),
@@ -12,6 +13,7 @@ pub fn closed(e: &Expr) -> Option<u64> {
     }
 }
 
+#[cycle(closed)]
 fn closed_sum(terms: &[Expr]) -> Option<u64> {
     let mut total: u64 = 0;
     for term in terms {

@@ -7,21 +7,6 @@ use bit_slice::Name;
 use std::alloc::AllocError;
 use tlb_syntax::{Expr, FieldType, Item, Op};
 
-/// The two sides of an equation.
-#[derive(Clone, Copy)]
-pub struct Sides<'a> {
-    pub left: &'a Expr,
-    pub right: &'a Expr,
-}
-
-/// The equation of a constraint, if it is one.
-pub fn equation<'a>(left: &'a Expr, op: Op, right: &'a Expr) -> Option<Sides<'a>> {
-    match op {
-        Op::Eq => Some(Sides { left, right }),
-        Op::Lt | Op::Le | Op::Gt | Op::Ge => None,
-    }
-}
-
 // What stands in an expression: its `~`, the name of the last one if it is `~x`, and the uses of a name.
 #[derive(Clone, Copy)]
 struct Outs<'a> {
@@ -29,6 +14,7 @@ struct Outs<'a> {
     last: Option<&'a Name>,
 }
 
+#[cycle(outs)]
 fn outs_in<'a>(e: &'a Expr, outs: &mut Outs<'a>) {
     match e {
         Expr::Lit(_) | Expr::Nat32 | Expr::Group(_) => {}
@@ -50,6 +36,7 @@ fn outs_in<'a>(e: &'a Expr, outs: &mut Outs<'a>) {
     }
 }
 
+#[cycle(outs)]
 fn outs_in_all<'a>(es: &'a [Expr], outs: &mut Outs<'a>) {
     for e in es {
         outs_in(e, outs);
@@ -66,6 +53,7 @@ fn holds_out(e: &Expr) -> bool {
 }
 
 /// How often the name stands in the expression, without arguments.
+#[cycle(occur)]
 fn occurrences(e: &Expr, name: &Name) -> usize {
     match e {
         Expr::Lit(_) | Expr::Nat32 | Expr::Group(_) => 0,
@@ -88,6 +76,7 @@ fn occurrences(e: &Expr, name: &Name) -> usize {
     }
 }
 
+#[cycle(occur)]
 fn occurrences_in(es: &[Expr], name: &Name) -> usize {
     let mut count: usize = 0;
     for e in es {
@@ -97,6 +86,7 @@ fn occurrences_in(es: &[Expr], name: &Name) -> usize {
 }
 
 // Whether some product has a factor 0, and a `~` in the other.
+#[cycle(cancel)]
 fn cancels(e: &Expr) -> bool {
     match e {
         Expr::Lit(_) | Expr::Nat32 | Expr::Group(_) => false,
@@ -119,6 +109,7 @@ fn is_cancelled(factor: &Expr, other: &Expr) -> bool {
     closed(factor) == Some(0) && holds_out(other)
 }
 
+#[cycle(cancel)]
 fn cancels_in(es: &[Expr]) -> bool {
     for e in es {
         if cancels(e) {
@@ -128,32 +119,29 @@ fn cancels_in(es: &[Expr]) -> bool {
     false
 }
 
-/// The unknown of an equation: the x of its one `~`, if that is `~x`.
-pub fn unknown_of<'a>(sides: Sides<'a>) -> Option<&'a Name> {
+/// The unknown of a constraint that is an equation: the x of its one `~`, if that is `~x`.
+fn unknown_of<'a>(left: &'a Expr, op: Op, right: &'a Expr) -> Option<&'a Name> {
+    if op != Op::Eq {
+        return None;
+    }
     let mut outs = Outs {
         count: 0,
         last: None,
     };
-    outs_in(sides.left, &mut outs);
-    outs_in(sides.right, &mut outs);
+    outs_in(left, &mut outs);
+    outs_in(right, &mut outs);
     if outs.count == 1 { outs.last } else { None }
 }
 
-/// Whether `~x` is the one `~` of the equation, and x occurs once and not under a factor 0.
-pub fn seeks(sides: Option<Sides<'_>>, name: Option<&Name>) -> bool {
-    let Some(sides) = sides else {
-        return false;
-    };
-    let Some(name) = name else {
-        return false;
-    };
-    let Some(unknown) = unknown_of(sides) else {
-        return false;
-    };
-    unknown.same(name)
-        && occurrences(sides.left, name).saturating_add(occurrences(sides.right, name)) == 1
-        && !cancels(sides.left)
-        && !cancels(sides.right)
+/// The unknown of an equation, if it occurs once and not under a factor 0.
+pub fn sought<'a>(left: &'a Expr, op: Op, right: &'a Expr) -> Option<&'a Name> {
+    let name = unknown_of(left, op, right)?;
+    let uses = occurrences(left, name).saturating_add(occurrences(right, name));
+    if uses == 1 && !cancels(left) && !cancels(right) {
+        Some(name)
+    } else {
+        None
+    }
 }
 
 /// Adds the x of each `~x` at an output place.
@@ -181,7 +169,7 @@ fn add_outputs_of<'a>(
     match e {
         Expr::Named(name, args) => {
             let named = types.named(name.text(), !args.is_empty());
-            add_outputs(named.kinds(), args.as_slice(), known)
+            add_outputs(named.kinds, args.as_slice(), known)
         }
         Expr::Sum(terms) => match terms.as_slice() {
             [only] => add_outputs_of(types, only, known),
@@ -200,9 +188,7 @@ pub fn add_known<'a>(
     match item {
         Item::Implicit(_, _) => {}
         Item::Check(left, op, right) => {
-            if let Some(sides) = equation(left, *op, right)
-                && let Some(name) = unknown_of(sides)
-            {
+            if let Some(name) = unknown_of(left, *op, right) {
                 known.push(name)?;
             }
         }

@@ -1,5 +1,5 @@
 //! The types of a schema by their names.
-use crate::kind::{GREATEST, Kind, kind_of};
+use crate::kind::{Kind, kind_of};
 use crate::words::{Family, family_named, has_width, is_dictionary};
 use std::alloc::{AllocError, Global};
 use std::collections::BTreeMap;
@@ -22,14 +22,43 @@ pub struct Declared<'a> {
     pub constructors: Vec<&'a Constructor>,
 }
 
-/// What a name is as a type.
-#[derive(Clone, Copy)]
-pub enum TypeNamed<'t> {
+/// What sort of type a name is.
+#[derive(Clone, Copy, Debug, PartialEq, Eq)]
+pub enum Sort {
     NoType,
-    /// A basic type with its parameters: other arguments are a mismatch of kinds.
-    Basic(&'t [Kind]),
-    /// A declared type or a dictionary with its parameters: other arguments are a fault of arity.
-    Declared(&'t [Kind]),
+    /// A basic type: other arguments than its parameters are a mismatch of kinds.
+    Basic,
+    /// A declared type or a dictionary: other arguments than its parameters are a fault of arity.
+    Declared,
+}
+
+/// What a name is as a type, with its parameters.
+#[derive(Clone, Copy)]
+pub struct TypeNamed<'t> {
+    pub sort: Sort,
+    pub kinds: &'t [Kind],
+}
+
+fn basic_type(kinds: &[Kind]) -> TypeNamed<'_> {
+    TypeNamed {
+        sort: Sort::Basic,
+        kinds,
+    }
+}
+
+fn declared_type(kinds: &[Kind]) -> TypeNamed<'_> {
+    TypeNamed {
+        sort: Sort::Declared,
+        kinds,
+    }
+}
+
+/// A name that is no type.
+pub fn no_type<'t>() -> TypeNamed<'t> {
+    TypeNamed {
+        sort: Sort::NoType,
+        kinds: OF_NOTHING,
+    }
 }
 
 /// The types that are declared so far.
@@ -82,43 +111,30 @@ impl<'a> Types<'a> {
     pub fn named(&self, name: &[u8], has_arguments: bool) -> TypeNamed<'_> {
         if name == b"Type".as_slice() {
             return if has_arguments {
-                TypeNamed::Basic(OF_NOTHING)
+                basic_type(OF_NOTHING)
             } else {
-                TypeNamed::NoType
+                no_type()
             };
         }
         if name == b"Any".as_slice() || name == b"Cell".as_slice() || has_width(name) {
-            return TypeNamed::Basic(OF_NOTHING);
+            return basic_type(OF_NOTHING);
         }
         match family_named(name) {
-            Some(Family::Uint) => return TypeNamed::Basic(OF_UINT),
-            Some(Family::Int) => return TypeNamed::Basic(OF_INT),
-            Some(Family::Bits) => return TypeNamed::Basic(OF_BITS),
+            Some(Family::Uint) => return basic_type(OF_UINT),
+            Some(Family::Int) => return basic_type(OF_INT),
+            Some(Family::Bits) => return basic_type(OF_BITS),
             None => {}
         }
         if is_dictionary(name) {
             return if name == b"HashmapNode".as_slice() {
-                TypeNamed::NoType
+                no_type()
             } else {
-                TypeNamed::Declared(OF_DICTIONARY)
+                declared_type(OF_DICTIONARY)
             };
         }
         match self.declared(name) {
-            None => TypeNamed::NoType,
-            Some(declared) => TypeNamed::Declared(declared.kinds.as_slice()),
-        }
-    }
-}
-
-impl<'t> TypeNamed<'t> {
-    pub fn is_type(&self) -> bool {
-        !matches!(self, TypeNamed::NoType)
-    }
-
-    pub fn kinds(&self) -> &'t [Kind] {
-        match *self {
-            TypeNamed::NoType => OF_NOTHING,
-            TypeNamed::Basic(kinds) | TypeNamed::Declared(kinds) => kinds,
+            None => no_type(),
+            Some(found) => declared_type(found.kinds.as_slice()),
         }
     }
 }

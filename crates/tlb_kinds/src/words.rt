@@ -1,5 +1,10 @@
 //! Names that the schema language has for itself.
 
+ghost use Rattle.std.specs.Prelude.{◌≡◌, ◌&&◌, ◌<◌, ◌≤◌, is_some, nat_lt, option_map};
+ghost use Rattle.std.specs.List.{list_all};
+ghost use Rattle.std.specs.Char.{is_ascii_digit};
+ghost use Rattle.tlb_syntax.specs.Lexeme.{decimal_onto};
+
 /// A type of every width.
 #[derive(Clone, Copy, Debug, PartialEq, Eq)]
 pub enum Family {
