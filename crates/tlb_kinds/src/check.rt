@@ -1,4 +1,7 @@
 //! The whole check.
+ghost use Rattle.std.specs.Prelude.{◌≡◌, ◌+◌, ◌++◌, ◌<◌, ◌≤◌, IfOk, codes, decimal, length};
+ghost use Rattle.tlb_kinds.specs.Nodes.{blank_name as name_of_blank};
+
 use crate::endings::judge_endings;
 use crate::error::{Fault, KindError};
 use crate::judge::{Scope, Shown};
@@ -25,19 +28,31 @@ impl Kinded {
     }
 }
 
-// `_` and, from `least` on, a number behind it.
-fn numbered(alloc: Global, number: u32, least: u32) -> Result<Name, NoMemory> {
-    if number < least {
-        return Name::new(alloc, b"_");
-    }
+// `_` and a number from 1 on.
+#[tactic(auto, using(crate::proofs::BlankNames::is_numbered_name))]
+fn numbered(alloc: Global, number: u32) -> Result<Name, NoMemory>
+    requires { 0 < number }
+    ensures { IfOk result (λ n. n ≡ codes "_" ++ decimal number) }
+{
     let text = format!(in alloc; "_{number}")?;
     Name::new(alloc, text.as_bytes())
+}
+
+// The name of a blank field that so many blank fields come before.
+fn blank_name(alloc: Global, before: u32) -> Result<Name, NoMemory>
+    ensures { before < 256 → IfOk result (λ n. n ≡ name_of_blank (before + 1)) }
+{
+    if before == 0 {
+        Name::new(alloc, b"_")
+    } else {
+        numbered(alloc, before.saturating_add(1))
+    }
 }
 
 fn part_of(alloc: Global, shown: &Shown<'_>) -> Result<Part, NoMemory> {
     match shown {
         Shown::Named(name) => Ok(Part::Named(name.copy(alloc)?)),
-        Shown::Blank(before) => Ok(Part::Named(numbered(alloc, before.saturating_add(1), 2)?)),
+        Shown::Blank(before) => Ok(Part::Named(blank_name(alloc, *before)?)),
         Shown::Check(place) => Ok(Part::Check(*place)),
         Shown::Result => Ok(Part::Result),
     }
@@ -52,7 +67,10 @@ fn field_path(alloc: Global, path: &[Shown<'_>]) -> Result<FieldPath, NoMemory> 
 }
 
 // The place of the constructor at the index among those of its type, from 1.
-fn number_of(constructors: &[Constructor], index: usize, type_name: &Name) -> u32 {
+fn number_of(constructors: &[Constructor], index: usize, type_name: &Name) -> u32
+    requires { index ≤ length constructors.now }
+    ensures { 0 < result }
+{
     let mut number: u32 = 1;
     for constructor in &constructors[..index] {
         if constructor.result.same(type_name) {
@@ -67,12 +85,14 @@ fn spot(
     constructors: &[Constructor],
     index: usize,
     path: &[Shown<'_>],
-) -> Result<Spot, NoMemory> {
+) -> Result<Spot, NoMemory>
+    requires { index < length constructors.now }
+{
     let constructor = &constructors[index];
     let number = number_of(constructors, index, &constructor.result);
     let name = match &constructor.name {
         Some(name) => name.copy(alloc)?,
-        None => numbered(alloc, number, 1)?,
+        None => numbered(alloc, number)?,
     };
     Ok(Spot {
         type_name: constructor.result.copy(alloc)?,
@@ -89,7 +109,9 @@ fn refusal(
     index: usize,
     path: &[Shown<'_>],
     fault: Fault,
-) -> KindError {
+) -> KindError
+    requires { index < length constructors.now }
+{
     match fault {
         Fault::NoMemory => KindError::NoMemory,
         Fault::Refused(cause) => match spot(alloc, constructors, index, path) {

@@ -22,11 +22,13 @@ pub fn judge_endings<'a>(
     for item in items {
         add_known(types, item, &mut known)?;
     }
+    let mut place: u32 = 1;
     let mut blanks: u32 = 0;
-    for (before, item) in items.iter().enumerate() {
-        path.push(show_item(item, before, blanks))?;
+    for item in items {
+        path.push(show_item(item, place, blanks))?;
         judge_ending(alloc, types, item, known.as_slice(), path)?;
         path.pop();
+        place = place.saturating_add(1);
         if is_blank(item) {
             blanks = blanks.saturating_add(1);
         }

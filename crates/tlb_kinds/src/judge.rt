@@ -40,11 +40,11 @@ pub struct Scope<'a, 't> {
     fields: Vec<&'a Name>,
 }
 
-/// How an item is shown that so many items, and so many blank fields, come before.
-pub fn show_item(item: &Item, before: usize, blanks: u32) -> Shown<'_> {
+/// How an item at this place of its record is shown, where so many blank fields come before.
+pub fn show_item(item: &Item, place: u32, blanks: u32) -> Shown<'_> {
     match item {
         Item::Implicit(name, _) => Shown::Named(name),
-        Item::Check(_, _, _) => Shown::Check((before as u32).saturating_add(1)),
+        Item::Check(_, _, _) => Shown::Check(place),
         Item::Explicit(None, _) => Shown::Blank(blanks),
         Item::Explicit(Some(name), _) => Shown::Named(name),
     }
@@ -168,8 +168,13 @@ impl<'a, 't> Scope<'a, 't> {
     }
 
     fn is_own_unknown(&self, name: &Name) -> bool {
-        meaning_in(&self.entries.as_slice()[self.around..], name) == Some(Meaning::ImplicitNumber)
-            && !is_among(self.known.as_slice(), name)
+        match self.entries.as_slice().get(self.around..) {
+            None => false,
+            Some(own) => {
+                meaning_in(own, name) == Some(Meaning::ImplicitNumber)
+                    && !is_among(self.known.as_slice(), name)
+            }
+        }
     }
 
     // Whether a number variable in scope stands in the expression.
@@ -370,11 +375,13 @@ impl<'a, 't> Scope<'a, 't> {
     #[cycle(item)]
     pub fn judge_items(&mut self, items: &'a [Item]) -> Result<(), Fault> {
         let mut inside = Vec::new(self.alloc);
+        let mut place: u32 = 1;
         let mut blanks: u32 = 0;
-        for (before, item) in items.iter().enumerate() {
-            self.path.push(show_item(item, before, blanks))?;
+        for item in items {
+            self.path.push(show_item(item, place, blanks))?;
             self.judge_item(item, inside.as_slice())?;
             self.path.pop();
+            place = place.saturating_add(1);
             if is_blank(item) {
                 blanks = blanks.saturating_add(1);
             }

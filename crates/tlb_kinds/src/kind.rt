@@ -1,4 +1,8 @@
 //! The kinds of parameters.
+ghost use Rattle.std.specs.Prelude.{◌≡◌};
+ghost use Rattle.tlb_syntax.specs.View.{expr, items};
+ghost use Rattle.tlb_kinds.specs.Params.{has_outputs as have_outputs, implicit_kind as implicit_kind_in, is_same_kind, kind_of as kind_of_param};
+
 use crate::shape::{bare_name, is_literal, is_out, variable_of};
 use bit_slice::Name;
 use tlb_syntax::{Expr, Item, ParamKind};
@@ -20,7 +24,9 @@ pub enum Kind {
 }
 
 impl Kind {
-    pub fn is_same(self, other: Kind) -> bool {
+    pub fn is_same(self, other: Kind) -> bool
+        ensures { result ≡ is_same_kind self other }
+    {
         match self {
             Kind::NumberIn(_) => matches!(other, Kind::NumberIn(_)),
             Kind::TypeIn => matches!(other, Kind::TypeIn),
@@ -31,13 +37,17 @@ impl Kind {
 }
 
 /// Whether one of the parameters is an output.
-pub fn has_outputs(kinds: &[Kind]) -> bool {
+pub fn has_outputs(kinds: &[Kind]) -> bool
+    ensures { result ≡ have_outputs kinds.now }
+{
     kinds.iter().any(|kind| matches!(kind, Kind::NumberOut))
 }
 
 // The kind of the first implicit field of that name.
-fn implicit_kind(items: &[Item], name: &Name) -> Option<ParamKind> {
-    for item in items {
+fn implicit_kind(list: &[Item], name: &Name) -> Option<ParamKind>
+    ensures { result ≡ implicit_kind_in (items list.now) name.now }
+{
+    for item in list {
         if let Item::Implicit(found, kind) = item
             && found.same(name)
         {
@@ -49,7 +59,10 @@ fn implicit_kind(items: &[Item], name: &Name) -> Option<ParamKind> {
 
 /// The kind of a parameter, by the items of its constructor: `~e` is an output number; a literal, and `v` or `v + k`
 /// with an implicit number v, is an input number; an implicit type variable is an input type.
-pub fn kind_of(items: &[Item], e: &Expr) -> Kind {
+#[tactic(auto, using(crate::proofs::ParamKinds::kind_of_form))]
+pub fn kind_of(list: &[Item], e: &Expr) -> Kind
+    ensures { result ≡ kind_of_param (items list.now) (expr e.now) }
+{
     if is_out(e) {
         return Kind::NumberOut;
     }
@@ -59,7 +72,7 @@ pub fn kind_of(items: &[Item], e: &Expr) -> Kind {
     let Some(name) = variable_of(e) else {
         return Kind::NoKind;
     };
-    match implicit_kind(items, name) {
+    match implicit_kind(list, name) {
         Some(ParamKind::Nat) => Kind::NumberIn(GREATEST),
         Some(ParamKind::Ty) => {
             if bare_name(e).is_some() {

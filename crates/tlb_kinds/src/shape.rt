@@ -14,8 +14,9 @@ pub fn bare_name(e: &Expr) -> Option<&Name>
     match e {
         Expr::Named(name, args) => { if args.is_empty() { Some(name) } else { None } }
         Expr::Sum(terms) => match terms.as_slice() {
+            [] => None,
             [only] => bare_name(only),
-            _ => None,
+            [_, _, ..] => None,
         },
         _ => None,
     }
@@ -30,7 +31,7 @@ pub fn is_literal(e: &Expr) -> bool
         Expr::Sum(terms) => match terms.as_slice() {
             [] => true,
             [only] => is_literal(only),
-            _ => false,
+            [_, _, ..] => false,
         },
         _ => false,
     }
@@ -43,8 +44,9 @@ pub fn out_name(e: &Expr) -> Option<&Name>
     match e {
         Expr::Out(inner) => bare_name(inner.get()),
         Expr::Sum(terms) => match terms.as_slice() {
+            [] => None,
             [only] => out_name(only),
-            _ => None,
+            [_, _, ..] => None,
         },
         _ => None,
     }
@@ -57,8 +59,9 @@ pub fn is_out(e: &Expr) -> bool
     match e {
         Expr::Out(_) => true,
         Expr::Sum(terms) => match terms.as_slice() {
+            [] => false,
             [only] => is_out(only),
-            _ => false,
+            [_, _, ..] => false,
         },
         _ => false,
     }
@@ -70,6 +73,7 @@ pub fn variable_of(e: &Expr) -> Option<&Name>
 {
     match e {
         Expr::Sum(terms) => match terms.as_slice() {
+            [] => None,
             [only] => variable_of(only),
             [variable, literal] => {
                 if is_literal(literal) {
@@ -78,7 +82,7 @@ pub fn variable_of(e: &Expr) -> Option<&Name>
                     None
                 }
             }
-            _ => None,
+            [_, _, _, ..] => None,
         },
         _ => bare_name(e),
     }
@@ -91,8 +95,9 @@ pub fn is_of_numbers(e: &Expr) -> bool
     match e {
         Expr::Nat32 | Expr::Bits(_) | Expr::Below(_) | Expr::UpTo(_) => true,
         Expr::Sum(terms) => match terms.as_slice() {
+            [] => false,
             [only] => is_of_numbers(only),
-            _ => false,
+            [_, _, ..] => false,
         },
         _ => false,
     }

@@ -1,0 +1,3 @@
+pub mod NestedSums
+pub mod BlankNames
+pub mod ParamKinds
