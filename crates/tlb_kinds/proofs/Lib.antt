@@ -1,3 +1,4 @@
 pub mod NestedSums
 pub mod BlankNames
 pub mod ParamKinds
+pub mod PlainNumbers

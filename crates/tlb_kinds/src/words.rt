@@ -1,9 +1,11 @@
 //! Names that the schema language has for itself.
-
-ghost use Rattle.std.specs.Prelude.{◌≡◌, ◌&&◌, ◌<◌, ◌≤◌, is_some, nat_lt, option_map};
-ghost use Rattle.std.specs.List.{list_all};
+ghost use Rattle.std.specs.Prelude.{◌≡◌, is_some, length, nat_lt};
+ghost use Rattle.std.specs.List.{list_all, list_any};
 ghost use Rattle.std.specs.Char.{is_ascii_digit};
 ghost use Rattle.tlb_syntax.specs.Lexeme.{decimal_onto};
+ghost use Rattle.tlb_kinds.specs.Dictionaries.{is_dictionary as is_dictionary_name};
+ghost use Rattle.tlb_kinds.specs.Widths.{exceeds as is_past, is_wide_in as is_wide_of};
+ghost use Rattle.tlb_kinds.specs.Words.{families, has_width as has_a_width, is_built_in as is_built_in_name, is_plain_number as is_plain, number_behind};
 
 /// A type of every width.
 #[derive(Clone, Copy, Debug, PartialEq, Eq)]
@@ -13,48 +15,36 @@ pub enum Family {
     Bits,
 }
 
-impl Family {
-    pub fn word(self) -> &'static [u8] {
-        match self {
-            Family::Uint => b"uint",
-            Family::Int => b"int",
-            Family::Bits => b"bits",
-        }
-    }
-
-    /// The greatest width.
-    pub fn most(self) -> u32 {
-        match self {
-            Family::Uint => 256,
-            Family::Int => 257,
-            Family::Bits => 1023,
-        }
-    }
+fn are_digits(bytes: &[u8]) -> bool
+    ensures { result ≡ list_all is_ascii_digit bytes.now }
+{
+    bytes.iter().all(|byte| byte.is_ascii_digit())
 }
 
 // A decimal number without leading zeros.
-fn is_plain_number(digits: &[u8]) -> bool {
+#[tactic(auto, using(crate::proofs::PlainNumbers::is_plain_number_of_more))]
+fn is_plain_number(digits: &[u8]) -> bool
+    ensures { result ≡ is_plain digits.now }
+{
     match digits {
         [] => false,
         [digit] => digit.is_ascii_digit(),
-        [first, rest @ ..] => first.is_ascii_digit()
-            && *first != b'0'
-            && rest.iter().all(|digit| digit.is_ascii_digit()),
+        [first, rest @ ..] => first.is_ascii_digit() && *first != b'0' && are_digits(rest),
     }
 }
 
-// The digits behind the word, where the name is the word and then a number.
-fn digits_behind<'a>(word: &[u8], name: &'a [u8]) -> Option<&'a [u8]> {
-    let digits = name.strip_prefix(word)?;
-    if is_plain_number(digits) {
-        Some(digits)
-    } else {
-        None
-    }
+// Whether the name is the word and then such a number.
+fn is_numbered(word: &[u8], name: &[u8]) -> bool
+    ensures { result ≡ is_some (number_behind word.now name.now) }
+{
+    name.starts_with(word) && is_plain_number(&name[word.len()..])
 }
 
 // Whether the decimal number is greater.
-fn exceeds(digits: &[u8], most: u32) -> bool {
+#[tactic(auto, using(crate::proofs::PlainNumbers::onto_grows))]
+fn exceeds(digits: &[u8], most: u32) -> bool
+    ensures { result ≡ nat_lt most (decimal_onto 0 digits.now) }
+{
     let mut number: u64 = 0;
     for digit in digits {
         number = 10 * number + u64::from(digit.saturating_sub(b'0'));
@@ -65,29 +55,28 @@ fn exceeds(digits: &[u8], most: u32) -> bool {
     false
 }
 
-fn has_width_in(family: Family, name: &[u8]) -> bool {
-    digits_behind(family.word(), name).is_some()
+fn is_wide_in(word: &[u8], most: u32, name: &[u8]) -> bool
+    ensures { result ≡ is_past most (number_behind word.now name.now) }
+{
+    name.starts_with(word)
+        && is_plain_number(&name[word.len()..])
+        && exceeds(&name[word.len()..], most)
 }
 
 /// Whether the name is that of a family and then a width.
-pub fn has_width(name: &[u8]) -> bool {
-    has_width_in(Family::Uint, name)
-        || has_width_in(Family::Int, name)
-        || has_width_in(Family::Bits, name)
-}
-
-fn is_wide_in(family: Family, name: &[u8]) -> bool {
-    match digits_behind(family.word(), name) {
-        None => false,
-        Some(digits) => exceeds(digits, family.most()),
-    }
+pub fn has_width(name: &[u8]) -> bool
+    ensures { result ≡ has_a_width name.now }
+{
+    is_numbered(b"uint", name) || is_numbered(b"int", name) || is_numbered(b"bits", name)
 }
 
 /// Whether the width behind the name of a family is beyond its greatest.
-pub fn is_wide(name: &[u8]) -> bool {
-    is_wide_in(Family::Uint, name)
-        || is_wide_in(Family::Int, name)
-        || is_wide_in(Family::Bits, name)
+pub fn is_wide(name: &[u8]) -> bool
+    ensures { result ≡ list_any (is_wide_of name.now) families }
+{
+    is_wide_in(b"uint", 256, name)
+        || is_wide_in(b"int", 257, name)
+        || is_wide_in(b"bits", 1023, name)
 }
 
 /// The family of the name, where no width stands behind it.
@@ -104,16 +93,23 @@ pub fn family_named(name: &[u8]) -> Option<Family> {
 }
 
 /// Type, Any, Cell, and the families without a width and with one.
-pub fn is_built_in(name: &[u8]) -> bool {
+#[tactic(auto, unfolding(crate::specs::Words::is_built_in))]
+pub fn is_built_in(name: &[u8]) -> bool
+    ensures { result ≡ is_built_in_name name.now }
+{
     name == b"Type".as_slice()
         || name == b"Any".as_slice()
         || name == b"Cell".as_slice()
-        || family_named(name).is_some()
+        || name == b"uint".as_slice()
+        || name == b"int".as_slice()
+        || name == b"bits".as_slice()
         || has_width(name)
 }
 
 /// Hashmap, HashmapNode and HashmapE.
-pub fn is_dictionary(name: &[u8]) -> bool {
+pub fn is_dictionary(name: &[u8]) -> bool
+    ensures { result ≡ is_dictionary_name name.now }
+{
     name == b"Hashmap".as_slice()
         || name == b"HashmapNode".as_slice()
         || name == b"HashmapE".as_slice()

@@ -1,5 +1,6 @@
-use Rattle.std.proofs.Common.{◌≤◌}
+use Rattle.std.proofs.Common.{◌≡◌, ◌≤◌, drop}
+use Rattle.tlb_syntax.specs.Lexeme.{decimal_onto}
 use Rattle.tlb_kinds.proofs.words.exceeds.Given as goal
 
 abbrev pub invariant-loop-digit : goal.invariant-loop-digit
-invariant-loop-digit l = l.number ≤ l.most
+invariant-loop-digit l = (l.number ≤ l.most) × (decimal_onto l.number (drop l.digit-index l.digits) ≡ decimal_onto 0 l.digits)
