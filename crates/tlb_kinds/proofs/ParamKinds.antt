@@ -1,10 +1,10 @@
 -- The kind of a parameter by what its form is.
-use Rattle.std.proofs.Common.{◌≡◌, List, ℕ, refl, true, false}
+use Rattle.std.proofs.Common.{◌≡◌, refl}
 use Rattle.std.specs.Prelude.{Option, Some, None, if◌then◌else◌}
-use Rattle.tlb_syntax.specs.Tree.{ExprView, ExprList, ItemList, lit, named, nat32, bits, below, up_to, plus, star, out, ref, group, no_exprs, an_expr}
+use Rattle.tlb_syntax.specs.Tree.{ExprView, ItemList, lit, named, nat32, bits, below, up_to, plus, star, out, ref, group, no_exprs, an_expr}
 use Rattle.tlb_kinds.specs.declared.kind.Kind.{Kind}
-use Rattle.tlb_kinds.specs.declared.kind.Kind.TheVariants.{NumberIn, NumberOut, NoKind}
-use Rattle.tlb_kinds.specs.Params.{bare_name, greatest, implicit_kind, is_literal, kind_alone, kind_in_sum, kind_of, kind_of_variable, kind_of_sum, variable_of}
+use Rattle.tlb_kinds.specs.declared.kind.Kind.TheVariants.{NumberIn, NumberOut}
+use Rattle.tlb_kinds.specs.Params.{bare_name, greatest, is_literal, kind_of, kind_of_variable, kind_of_sum, variable_of}
 use Rattle.tlb_kinds.specs.Scopes.{is_out}
 use Rattle.tlb_kinds.specs.Words.{Word}
 

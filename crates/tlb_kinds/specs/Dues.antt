@@ -2,7 +2,6 @@
 use Rattle.std.specs.Prelude.{ℕ, List, Bool, true, false, Option, Some, None, is_some, if◌then◌else◌}
 use Rattle.tlb_syntax.specs.Tree.{ExprView, ExprList, lit, named, nat32, bits, below, up_to, plus, star, out, ref, group, no_exprs, an_expr}
 use Rattle.tlb_kinds.specs.declared.rules.Stand.{Stand}
-use Rattle.tlb_kinds.specs.declared.rules.Stand.TheVariants.{Whole, Conditional, FieldRef, UnderRef, Inner}
 use Rattle.tlb_kinds.specs.Words.{Word}
 use Rattle.tlb_kinds.specs.Params.{bare_name}
 use Rattle.tlb_kinds.specs.Types.{TypeNamed, type_named}

@@ -13,3 +13,4 @@ pub mod Outputs
 pub mod Records
 pub mod Nodes
 pub mod Refusals
+pub mod Views

@@ -1,5 +1,5 @@
 -- The refusals of a schema by its kinds, their order, and the first of them.
-use Rattle.std.specs.Prelude.{ℕ, ◌≡◌, ◌+◌, ◌||◌, List, [], ◌∷◌, ◌++◌, map, filter, length, Bool, true, false, Option, Some, None, codes, decimal, if◌then◌else◌}
+use Rattle.std.specs.Prelude.{ℕ, ◌≡◌, ◌+◌, ◌||◌, List, [], ◌∷◌, ◌++◌, map, filter, length, Bool, false, Option, Some, None, codes, decimal, if◌then◌else◌}
 use Rattle.tlb_syntax.specs.Tree.{ConstructorView, SchemaView}
 use Rattle.tlb_kinds.specs.declared.error.Cause.{Cause}
 use Rattle.tlb_kinds.specs.declared.error.Cause.TheVariants.{Reserved, UnknownType, UnknownName, Arity, KindMismatch, OutputUnderRef, NotLinear, TwiceNamed, Undetermined, TooWide}

@@ -1,6 +1,6 @@
 -- Names in scope, and the variables that are known.
 -- Source: the TON documentation on TL-B (implicit and explicit fields), and this project's rules.
-use Rattle.std.specs.Prelude.{◌&&◌, not, List, [], ◌∷◌, ◌++◌, Bool, true, false, Option, Some, None, is_some, filter, option_map, find, bytes_eq}
+use Rattle.std.specs.Prelude.{◌&&◌, not, List, [], ◌∷◌, ◌++◌, Bool, true, false, Option, Some, None, is_some, filter, bytes_eq, if◌then◌else◌}
 use Rattle.nat_solver.specs.declared.compare.Op.{Op}
 use Rattle.nat_solver.specs.declared.compare.Op.TheVariants.{Eq, Lt, Le, Gt, Ge}
 use Rattle.tlb_syntax.specs.declared.tree.ParamKind.{ParamKind}
@@ -210,8 +210,10 @@ at_end s (an_item i is) = at_end (behind s i) is
 abbrev pub inside : Scope → Scope
 inside s = record s { around = s.around ++ s.own; own = [] }
 
+-- what the first entry of that name stands for
 abbrev pub meaning_in : List Entry → Word → Option Meaning
-meaning_in entries x = option_map (λ (e : Entry). e.meaning) (find (λ (e : Entry). bytes_eq e.name x) entries)
+meaning_in [] x = None
+meaning_in (e ∷ es) x = if bytes_eq e.name x then Some e.meaning else meaning_in es x
 
 -- what a name in scope stands for
 abbrev pub meaning_of : Scope → Word → Option Meaning

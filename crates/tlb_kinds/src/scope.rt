@@ -1,4 +1,10 @@
 //! Names in scope, and the variables that are known.
+ghost use Rattle.std.specs.Prelude.{◌≡◌, map, option_map, option_to_list, Some};
+ghost use Rattle.tlb_syntax.specs.View.{item};
+ghost use Rattle.tlb_kinds.specs.Scopes.{declares as declared_by, is_number_meaning, meaning_in as meaning_among};
+ghost use Rattle.tlb_kinds.specs.Views.{entry_of};
+ghost use Rattle.tlb_kinds.specs.Words.{is_among as is_word_among};
+
 use crate::shape::is_field_of_numbers;
 use bit_slice::Name;
 use tlb_syntax::{Item, ParamKind};
@@ -14,7 +20,9 @@ pub enum Meaning {
 }
 
 impl Meaning {
-    pub fn is_number(self) -> bool {
+    pub fn is_number(self) -> bool
+        ensures { result ≡ is_number_meaning (Some self) }
+    {
         matches!(self, Meaning::ImplicitNumber | Meaning::FieldNumber)
     }
 }
@@ -27,22 +35,33 @@ pub struct Entry<'a> {
 }
 
 /// What the first entry of that name stands for.
-pub fn meaning_in(entries: &[Entry<'_>], name: &Name) -> Option<Meaning> {
+pub fn meaning_in(entries: &[Entry<'_>], name: &Name) -> Option<Meaning>
+    ensures { result ≡ meaning_among (map entry_of entries.now) name.now }
+{
     for entry in entries {
-        if entry.name.same(name) {
+        if entry.name.text() == name.text() {
             return Some(entry.meaning);
         }
     }
     None
 }
 
-pub fn is_among(names: &[&Name], name: &Name) -> bool {
-    names.iter().any(|other| other.same(name))
+pub fn is_among(names: &[&Name], name: &Name) -> bool
+    ensures { result ≡ is_word_among (map (λ n. n.now) names.now) name.now }
+{
+    for other in names {
+        if name.text() == other.text() {
+            return true;
+        }
+    }
+    false
 }
 
 /// What an item brings into scope.
-pub fn declares(item: &Item) -> Option<Entry<'_>> {
-    match item {
+pub fn declares(i: &Item) -> Option<Entry<'_>>
+    ensures { option_to_list (option_map entry_of result) ≡ declared_by (item i.now) }
+{
+    match i {
         Item::Implicit(name, ParamKind::Nat) => Some(Entry {
             name,
             meaning: Meaning::ImplicitNumber,

@@ -1,4 +1,4 @@
-use Rattle.std.proofs.Common.{◌≡◌, ◌≢◌, ◌∙◌, [], refl, ap, arith}
+use Rattle.std.proofs.Common.{◌≢◌, ◌∙◌, [], refl, ap, arith}
 use Rattle.std.specs.Prelude.{None}
 use Rattle.std.proofs.lemmas.Grind.{common_steps}
 use Rattle.tlb_kinds.specs.Params.{bare_name}

@@ -1,4 +1,4 @@
-use Rattle.std.proofs.Common.{◌≡◌, ◌≢◌, ◌∙◌, [], refl, ap, arith, false}
+use Rattle.std.proofs.Common.{◌∙◌, refl, ap, false}
 use Rattle.tlb_kinds.specs.Scopes.{is_of_numbers}
 use Rattle.tlb_kinds.proofs.NestedSums.{one_term, no_terms, two_terms}
 use Rattle.tlb_kinds.proofs.shape.+is_of_numbers.Goals as goal

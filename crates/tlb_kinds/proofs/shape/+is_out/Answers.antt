@@ -1,4 +1,4 @@
-use Rattle.std.proofs.Common.{◌≡◌, ◌≢◌, ◌∙◌, [], refl, ap, arith, false}
+use Rattle.std.proofs.Common.{◌∙◌, refl, ap, false}
 use Rattle.tlb_kinds.specs.Scopes.{is_out}
 use Rattle.tlb_kinds.proofs.NestedSums.{one_term, no_terms, two_terms}
 use Rattle.tlb_kinds.proofs.shape.+is_out.Goals as goal

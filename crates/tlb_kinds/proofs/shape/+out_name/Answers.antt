@@ -1,4 +1,4 @@
-use Rattle.std.proofs.Common.{◌≡◌, ◌≢◌, ◌∙◌, [], refl, ap, arith}
+use Rattle.std.proofs.Common.{◌∙◌, refl, ap}
 use Rattle.std.specs.Prelude.{None}
 use Rattle.tlb_kinds.specs.Scopes.{out_name}
 use Rattle.tlb_kinds.proofs.NestedSums.{one_term, no_terms, two_terms}

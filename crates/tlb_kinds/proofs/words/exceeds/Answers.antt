@@ -1,4 +1,4 @@
-use Rattle.std.proofs.Common.{◌≡◌, ◌<◌, ◌+◌, ◌*◌, arith}
+use Rattle.std.proofs.Common.{◌<◌, ◌+◌, ◌*◌, arith}
 use Rattle.std.proofs.lemmas.Bool.Decides.{nat_tests}
 use Rattle.tlb_syntax.specs.Lexeme.{decimal_onto}
 use Rattle.tlb_kinds.proofs.PlainNumbers.{past}
