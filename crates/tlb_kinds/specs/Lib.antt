@@ -1,0 +1,16 @@
+pub mod Words
+pub mod Canonical
+pub mod Dictionaries
+pub mod Params
+pub mod Types
+pub mod Scopes
+pub mod Results
+pub mod Dues
+pub mod Names
+pub mod Numbers
+pub mod Widths
+pub mod Known
+pub mod Outputs
+pub mod Records
+pub mod Nodes
+pub mod Refusals

@@ -1,0 +1,122 @@
+-- The rules on numbers and types.
+use Rattle.std.specs.Prelude.{ℕ, ◌&&◌, ◌||◌, not, ◌==◌, length, Bool, true, false, Option, Some, None}
+use Rattle.std.specs.List.{list_any}
+use Rattle.tlb_syntax.specs.Tree.{ExprView, ExprList, lit, named, nat32, bits, below, up_to, plus, star, out, ref, group}
+use Rattle.tlb_kinds.specs.Words.{Word}
+use Rattle.tlb_kinds.specs.Params.{bare_name}
+use Rattle.tlb_kinds.specs.Types.{TypeNamed, no_type, basic, declared, count}
+use Rattle.tlb_kinds.specs.Scopes.{Scope, parts, is_number_variable, is_type_variable}
+use Rattle.tlb_kinds.specs.Dues.{Due, Use, a_number, an_output, a_type, used_at, type_at}
+
+abbrev pub is_variable_named : Scope → Option Word → Bool
+is_variable_named s None = false
+is_variable_named s (Some x) = is_number_variable s x
+
+-- a number variable in scope stands in the expression
+abbrev pub holds_variable : Scope → ExprView → Bool
+holds_variable s e = list_any (λ p. is_variable_named s (bare_name p)) (parts e)
+
+abbrev pub is_product : Scope → ExprView → Bool
+is_product s (star a b) = holds_variable s a && holds_variable s b
+is_product s (lit n) = false
+is_product s (named x es) = false
+is_product s nat32 = false
+is_product s (bits es) = false
+is_product s (below es) = false
+is_product s (up_to es) = false
+is_product s (plus a b) = false
+is_product s (out e) = false
+is_product s (ref e) = false
+is_product s (group is) = false
+
+abbrev pub is_product_at : Due → Scope → ExprView → Bool
+is_product_at (a_number n q) s e = is_product s e
+is_product_at (an_output before) s e = false
+is_product_at (a_type w) s e = false
+
+-- A number is a product of two factors that both hold variables.
+abbrev pub is_product_of_variables : Use → Bool
+is_product_of_variables u = is_product_at u.due u.scope u.at
+
+abbrev pub is_some_type : Option TypeNamed → Bool
+is_some_type None = false
+is_some_type (Some no_type) = false
+is_some_type (Some (basic ks)) = true
+is_some_type (Some (declared ks)) = true
+
+-- a name that is a type, or a variable of types
+abbrev pub names_a_type : Scope → Option TypeNamed → Option Word → Bool
+names_a_type s t None = is_some_type t
+names_a_type s t (Some x) = is_some_type t || is_type_variable s x
+
+-- an expression that is no number, whatever stands in it
+abbrev pub is_type_shaped : ExprView → Bool
+is_type_shaped nat32 = true
+is_type_shaped (bits es) = true
+is_type_shaped (below es) = true
+is_type_shaped (up_to es) = true
+is_type_shaped (ref e) = true
+is_type_shaped (group is) = true
+is_type_shaped (lit n) = false
+is_type_shaped (named x es) = false
+is_type_shaped (plus a b) = false
+is_type_shaped (star a b) = false
+is_type_shaped (out e) = false
+
+-- an expression that is no type, whatever stands in it; a product of a type is a repetition
+abbrev pub is_number_shaped : ExprView → Bool
+is_number_shaped (lit n) = true
+is_number_shaped (plus a b) = true
+is_number_shaped (out e) = true
+is_number_shaped (named x es) = false
+is_number_shaped nat32 = false
+is_number_shaped (bits es) = false
+is_number_shaped (below es) = false
+is_number_shaped (up_to es) = false
+is_number_shaped (star a b) = false
+is_number_shaped (ref e) = false
+is_number_shaped (group is) = false
+
+abbrev pub is_type_in_place : Due → Use → Bool
+is_type_in_place (a_type w) u = false
+is_type_in_place (a_number n q) u = is_type_shaped u.at || names_a_type u.scope (type_at u) (bare_name (used_at u))
+is_type_in_place (an_output before) u = is_type_shaped u.at || names_a_type u.scope (type_at u) (bare_name (used_at u))
+
+-- A type stands where a number is due.
+abbrev pub is_type_for_number : Use → Bool
+is_type_for_number u = is_type_in_place u.due u
+
+abbrev pub is_number_in_place : Due → Use → Bool
+is_number_in_place (a_type w) u = is_number_shaped u.at || is_variable_named u.scope (bare_name u.at)
+is_number_in_place (a_number n q) u = false
+is_number_in_place (an_output before) u = false
+
+-- A number stands where a type is due.
+abbrev pub is_number_for_type : Use → Bool
+is_number_for_type u = is_number_in_place u.due u
+
+abbrev pub takes_one : ExprList → Bool
+takes_one es = count es == 1
+
+abbrev pub takes_other_basic : Option TypeNamed → ℕ → Bool
+takes_other_basic None n = false
+takes_other_basic (Some no_type) n = false
+takes_other_basic (Some (basic ks)) n = not (length ks == n)
+takes_other_basic (Some (declared ks)) n = false
+
+abbrev pub is_other_basic : Option TypeNamed → ExprView → Bool
+is_other_basic t (bits es) = not (takes_one es)
+is_other_basic t (below es) = not (takes_one es)
+is_other_basic t (up_to es) = not (takes_one es)
+is_other_basic t (named x es) = takes_other_basic t (count es)
+is_other_basic t (lit n) = false
+is_other_basic t nat32 = false
+is_other_basic t (plus a b) = false
+is_other_basic t (star a b) = false
+is_other_basic t (out e) = false
+is_other_basic t (ref e) = false
+is_other_basic t (group is) = false
+
+-- A basic type has another number of arguments than it takes.
+abbrev pub is_other_basic_arity : Use → Bool
+is_other_basic_arity u = is_other_basic (type_at u) (used_at u)

@@ -1,0 +1,33 @@
+//! Places in a schema.
+use bit_slice::Name;
+use sqlite_items::Items;
+
+/// One part of a path to an item.
+#[derive(Debug, Drop)]
+pub enum Part {
+    /// A field by its name; the first blank field of a record is `_`, the k-th `_k`.
+    Named(Name),
+    /// A constraint by its place among the items of its record, from 1.
+    Check(u32),
+    /// The tag of a constructor.
+    Tag,
+    /// The result of a constructor.
+    Result,
+}
+
+/// The path to an item of a constructor: fields of inner records follow the fields that they stand in.
+#[derive(Debug, Drop)]
+pub struct FieldPath {
+    pub parts: Items<Part>,
+}
+
+/// An item of a constructor.
+#[derive(Debug, Drop)]
+pub struct Spot {
+    pub type_name: Name,
+    /// The constructor's name, or `_i` for a blank one, where i is its number.
+    pub constructor: Name,
+    /// The constructor's place among those of its type, from 1.
+    pub number: u32,
+    pub item: FieldPath,
+}
