@@ -3,3 +3,5 @@ pub mod View
 pub mod Lexeme
 pub mod Grammar
 pub mod Written
+pub mod Placed
+pub mod Tags

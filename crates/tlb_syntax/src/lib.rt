@@ -5,10 +5,12 @@
 
 mod lexeme;
 mod sign;
+#[cfg(test)]
+mod tests;
 mod tree;
 
 pub use bit_slice::{BitString, Name};
-pub use lexeme::Lexeme;
+pub use lexeme::{Lexeme, has_tag_bits, lexeme_at, tag_bits};
 pub use nat_solver::Op;
 pub use sign::Sign;
 pub use tree::{Constructor, Expr, FieldType, Item, ParamKind, Schema, Tag};
