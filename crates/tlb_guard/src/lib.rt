@@ -1,2 +1,16 @@
 //! The guard of a TL-B schema: no type leads back to itself before anything is taken.
 #![tactic(auto)]
+
+mod cycles;
+mod empty;
+#[cfg(test)]
+mod forge;
+mod front;
+mod rules;
+mod scope;
+#[cfg(test)]
+mod tests;
+mod types;
+mod words;
+
+pub use cycles::{Unguarded, first_unguarded};
