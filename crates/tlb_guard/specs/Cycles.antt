@@ -5,7 +5,7 @@ use Rattle.tlb_syntax.specs.Tree.{ConstructorView, SchemaView}
 use Rattle.tlb_kinds.specs.Words.{Word}
 use Rattle.tlb_kinds.specs.Dictionaries.{is_dictionary, of_type, without_dictionaries}
 use Rattle.tlb_guard.specs.Rounds.{Test, round}
-use Rattle.tlb_guard.specs.Declared.{declared_types, type_count}
+use Rattle.tlb_guard.specs.DeclaredTypes.{declared_types, type_count}
 use Rattle.tlb_guard.specs.Exposed.{Front, a_type, a_variable, is_type, Known, Exposed, exposed_by, known}
 
 -- an edge from a type to one that a constructor of it exposes

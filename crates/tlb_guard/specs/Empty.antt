@@ -8,7 +8,7 @@ use Rattle.tlb_kinds.specs.Dictionaries.{hashmap, hashmap_e, of_type}
 use Rattle.tlb_kinds.specs.Types.{is_family, has_exprs}
 use Rattle.tlb_kinds.specs.Nodes.{field_names}
 use Rattle.tlb_guard.specs.Rounds.{Test, round}
-use Rattle.tlb_guard.specs.Declared.{type_count, has_empty_tag}
+use Rattle.tlb_guard.specs.DeclaredTypes.{type_count, has_empty_tag}
 
 abbrev pub literal : ExprView → Option ℕ
 literal (lit n) = Some n

@@ -7,7 +7,7 @@ use Rattle.tlb_kinds.specs.Words.{Word}
 use Rattle.tlb_kinds.specs.Dictionaries.{of_type}
 use Rattle.tlb_kinds.specs.Nodes.{field_names}
 use Rattle.tlb_guard.specs.Rounds.{Test, round}
-use Rattle.tlb_guard.specs.Declared.{Parameter, is_declared_type, is_type_parameter, parameter_count, variable_at, has_empty_tag}
+use Rattle.tlb_guard.specs.DeclaredTypes.{Parameter, is_declared_type, is_type_parameter, parameter_count, variable_at, has_empty_tag}
 use Rattle.tlb_guard.specs.Empty.{is_variable, may_be_empty_item, may_take_nothing}
 
 -- what is exposed

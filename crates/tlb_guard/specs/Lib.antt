@@ -1,5 +1,6 @@
 pub mod Rounds
-pub mod Declared
+pub mod DeclaredTypes
 pub mod Empty
 pub mod Exposed
 pub mod Cycles
+pub mod Laws

@@ -4,7 +4,7 @@ use crate::front::{Front, Lead, exposed_parameters, leads_of};
 use crate::rules::{Rule, Rules};
 use crate::types::Types;
 use sqlite_items::Items;
-use std::alloc::Global;
+use std::alloc::{AllocError, Global};
 use tlb_memory::NoMemory;
 use tlb_syntax::Schema;
 
@@ -75,21 +75,42 @@ fn back_rules(alloc: Global, count: usize, edges: &[Edge]) -> Result<Rules, NoMe
     Rules::new(alloc, count, rules)
 }
 
+// For each type a rule: it comes to an end where all types to which it has edges do.
+fn end_rules(alloc: Global, count: usize, edges: &[Edge]) -> Result<Rules, NoMemory> {
+    let mut targets = Vec::new(alloc);
+    for _type in 0..count {
+        targets.push(Items::new(alloc)).map_err(AllocError::from)?;
+    }
+    for edge in edges {
+        targets[edge.from].push(edge.to)?;
+    }
+    let mut rules = Items::new(alloc);
+    for (head, body) in targets.into_iter().enumerate() {
+        rules.push(Rule { head, body })?;
+    }
+    Rules::new(alloc, count, rules)
+}
+
 fn first_on_cycle(
     alloc: Global,
     count: usize,
     edges: &[Edge],
 ) -> Result<Option<Unguarded>, NoMemory> {
+    // No type that comes to an end leads back to itself, and in a guarded schema each does.
+    let no_seeds: [usize; 0] = [];
+    let ending = end_rules(alloc, count, edges)?.least(alloc, &no_seeds)?;
     let rules = back_rules(alloc, count, edges)?;
     let mut end = count;
     let mut reaching = Vec::new(alloc);
     for edge in edges {
-        if edge.from != end {
-            end = edge.from;
-            reaching = rules.least(alloc, &[end])?;
-        }
-        if edge.to < reaching.len() && reaching[edge.to] {
-            return Ok(Some(edge.at));
+        if !ending[edge.to] {
+            if edge.from != end {
+                end = edge.from;
+                reaching = rules.least(alloc, &[end])?;
+            }
+            if reaching[edge.to] {
+                return Ok(Some(edge.at));
+            }
         }
     }
     Ok(None)

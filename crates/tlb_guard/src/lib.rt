@@ -6,6 +6,7 @@ mod empty;
 #[cfg(test)]
 mod forge;
 mod front;
+pub mod laws;
 mod rules;
 mod scope;
 #[cfg(test)]

@@ -10,20 +10,25 @@ pub struct Rule {
     pub body: Items<usize>,
 }
 
-/// Rules over the facts from 0 to `count`, and for each fact the rules that have it in their bodies.
+/// Rules over the facts from 0 to `count`.
 #[derive(Drop)]
 pub struct Rules {
     count: usize,
     rules: Items<Rule>,
+    /// The rules without a body.
+    bare: Items<usize>,
+    /// For each fact the rules that have it in their bodies.
     users: Vec<Items<usize>>,
 }
 
 impl Rules {
     pub fn new(alloc: Global, count: usize, rules: Items<Rule>) -> Result<Rules, NoMemory> {
+        let bare = bare(alloc, rules.as_slice())?;
         let users = users(alloc, count, rules.as_slice())?;
         Ok(Rules {
             count,
             rules,
+            bare,
             users,
         })
     }
@@ -36,10 +41,21 @@ impl Rules {
             queue: Items::new(alloc),
             checked: vec![in alloc; 0; self.rules.len()]?,
         };
-        search.begin(seeds)?;
+        search.add_all(seeds)?;
+        search.apply_all(self.bare.as_slice())?;
         search.finish(self.users.as_slice())?;
         Ok(search.found)
     }
+}
+
+fn bare(alloc: Global, rules: &[Rule]) -> Result<Items<usize>, NoMemory> {
+    let mut bare = Items::new(alloc);
+    for (number, rule) in rules.iter().enumerate() {
+        if rule.body.is_empty() {
+            bare.push(number)?;
+        }
+    }
+    Ok(bare)
 }
 
 fn no_users(alloc: Global, count: usize) -> Result<Vec<Items<usize>>, NoMemory> {
@@ -105,12 +121,9 @@ impl<'r> Search<'r> {
         Ok(())
     }
 
-    fn begin(&mut self, seeds: &[usize]) -> Result<(), NoMemory> {
-        for seed in seeds {
-            self.add(*seed)?;
-        }
-        for rule in 0..self.rules.len() {
-            self.apply(rule)?;
+    fn add_all(&mut self, facts: &[usize]) -> Result<(), NoMemory> {
+        for fact in facts {
+            self.add(*fact)?;
         }
         Ok(())
     }

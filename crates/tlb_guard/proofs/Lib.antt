@@ -1,0 +1,5 @@
+pub mod Rounds
+pub mod Lists
+pub mod Reaching
+pub mod Stays
+pub mod Exposing
