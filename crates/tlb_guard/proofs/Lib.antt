@@ -3,3 +3,5 @@ pub mod Lists
 pub mod Reaching
 pub mod Stays
 pub mod Exposing
+pub mod Searching
+pub mod Using

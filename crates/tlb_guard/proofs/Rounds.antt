@@ -133,3 +133,8 @@ module _ {A : Type 0} (rules : Test A → Test A) (mono : IsMonotone rules) wher
     -- the last round is closed
     pub last_closed : IsPart (rules (round rules (length xs))) (round rules (length xs))
     last_closed = within_last (suc (length xs))
+
+    -- a closed set that is a part of each closed set is the last round
+    pub least_is_last : (s : Test A) → IsPart (rules s) s → ((p : Test A) → IsPart (rules p) p → IsPart s p) → (x : A) → s x ≡ round rules (length xs) x
+    least_is_last s closed least x =
+        same_truth (s x) (round rules (length xs) x) (least (round rules (length xs)) last_closed x) (within_closed s closed (length xs) x)

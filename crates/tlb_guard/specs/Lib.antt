@@ -3,4 +3,6 @@ pub mod DeclaredTypes
 pub mod Empty
 pub mod Exposed
 pub mod Cycles
+pub mod Facts
+pub mod Users
 pub mod Laws

@@ -1,10 +1,15 @@
 //! Types that lead back to themselves.
+ghost use Rattle.std.specs.Prelude.{All, IfOk};
+ghost use Rattle.tlb_guard.specs.Facts.{IsBelow};
+
 use crate::empty::empty_types;
 use crate::front::{Front, Lead, exposed_parameters, leads_of};
-use crate::rules::{Rule, Rules};
+use crate::least::{least, least_with};
+use crate::rules::{Rule, is_found, push_rule};
 use crate::types::Types;
+use crate::users::{no_users, users_of};
 use sqlite_items::Items;
-use std::alloc::{AllocError, Global};
+use std::alloc::Global;
 use tlb_memory::NoMemory;
 use tlb_syntax::Schema;
 
@@ -24,7 +29,9 @@ struct Edge {
 }
 
 fn holds(exposed: &[bool], through: &[usize]) -> bool {
-    through.iter().all(|parameter| *parameter < exposed.len() && exposed[*parameter])
+    through
+        .iter()
+        .all(|parameter| is_found(exposed, *parameter))
 }
 
 fn edges_of(
@@ -63,32 +70,37 @@ fn edge_of(types: &Types<'_>, lead: &Lead<'_>, exposed: &[bool]) -> Option<Edge>
 }
 
 // A type reaches what the types to which it has edges reach.
-fn back_rules(alloc: Global, count: usize, edges: &[Edge]) -> Result<Rules, NoMemory> {
-    let mut rules = Items::new(alloc);
+fn back_rules(alloc: Global, count: usize, edges: &[Edge]) -> Result<Items<Rule>, NoMemory>
+    ensures { IfOk result (All (IsBelow count)) }
+{
+    let mut rules: Items<Rule> = Items::new(alloc);
     for edge in edges {
         let body = Items::from_slice(alloc, &[edge.to])?;
-        rules.push(Rule {
-            head: edge.from,
-            body,
-        })?;
+        push_rule(&mut rules, count, edge.from, body)?;
     }
-    Rules::new(alloc, count, rules)
+    Ok(rules)
 }
 
-// For each type a rule: it comes to an end where all types to which it has edges do.
-fn end_rules(alloc: Global, count: usize, edges: &[Edge]) -> Result<Rules, NoMemory> {
-    let mut targets = Vec::new(alloc);
-    for _type in 0..count {
-        targets.push(Items::new(alloc)).map_err(AllocError::from)?;
-    }
+// For each type those to which it has edges.
+fn targets_of(alloc: Global, count: usize, edges: &[Edge]) -> Result<Vec<Items<usize>>, NoMemory> {
+    let mut targets = no_users(alloc, count)?;
     for edge in edges {
-        targets[edge.from].push(edge.to)?;
+        if let Some(targets) = targets.get_mut(edge.from) {
+            targets.push(edge.to)?;
+        }
     }
-    let mut rules = Items::new(alloc);
-    for (head, body) in targets.into_iter().enumerate() {
-        rules.push(Rule { head, body })?;
+    Ok(targets)
+}
+
+// The types that come to an end: a type does where all types to which it has edges do.
+fn ending_types(alloc: Global, count: usize, edges: &[Edge]) -> Result<Items<bool>, NoMemory> {
+    let targets = targets_of(alloc, count, edges)?;
+    let mut rules: Items<Rule> = Items::new(alloc);
+    for (head, targets) in targets.iter().enumerate() {
+        let body = Items::from_slice(alloc, targets.as_slice())?;
+        push_rule(&mut rules, count, head, body)?;
     }
-    Rules::new(alloc, count, rules)
+    least(alloc, count, rules.as_slice())
 }
 
 fn first_on_cycle(
@@ -97,18 +109,18 @@ fn first_on_cycle(
     edges: &[Edge],
 ) -> Result<Option<Unguarded>, NoMemory> {
     // No type that comes to an end leads back to itself, and in a guarded schema each does.
-    let no_seeds: [usize; 0] = [];
-    let ending = end_rules(alloc, count, edges)?.least(alloc, &no_seeds)?;
+    let ending = ending_types(alloc, count, edges)?;
     let rules = back_rules(alloc, count, edges)?;
+    let users = users_of(alloc, count, rules.as_slice())?;
     let mut end = count;
-    let mut reaching = Vec::new(alloc);
+    let mut reaching = Items::new(alloc);
     for edge in edges {
-        if !ending[edge.to] {
+        if edge.from < count && !is_found(ending.as_slice(), edge.to) {
             if edge.from != end {
                 end = edge.from;
-                reaching = rules.least(alloc, &[end])?;
+                reaching = least_with(alloc, rules.as_slice(), users.as_slice(), &[end])?;
             }
-            if reaching[edge.to] {
+            if is_found(reaching.as_slice(), edge.to) {
                 return Ok(Some(edge.at));
             }
         }

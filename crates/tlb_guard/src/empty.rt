@@ -1,5 +1,6 @@
 //! What may take nothing.
-use crate::rules::{Rule, Rules};
+use crate::least::least;
+use crate::rules::{Rule, push_rule};
 use crate::scope::{is_at_least, is_variable, leave, name_of};
 use crate::types::{Types, has_empty_tag};
 use crate::words::{has_some_width, has_width, is_any_or_cell, is_family, is_map};
@@ -110,15 +111,15 @@ fn needs_of(
 }
 
 /// The declared types that may take nothing.
-pub fn empty_types(alloc: Global, types: &Types<'_>) -> Result<Vec<bool>, NoMemory> {
-    let mut rules = Items::new(alloc);
+pub fn empty_types(alloc: Global, types: &Types<'_>) -> Result<Items<bool>, NoMemory> {
+    let count = types.constructors.len();
+    let mut rules: Items<Rule> = Items::new(alloc);
     for constructor in types.constructors {
         if let Some(body) = needs_of(alloc, types, constructor)? {
             if let Some(head) = types.place(&constructor.result) {
-                rules.push(Rule { head, body })?;
+                push_rule(&mut rules, count, head, body)?;
             }
         }
     }
-    let no_seeds: [usize; 0] = [];
-    Rules::new(alloc, types.constructors.len(), rules)?.least(alloc, &no_seeds)
+    least(alloc, count, rules.as_slice())
 }

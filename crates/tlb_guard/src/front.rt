@@ -1,5 +1,9 @@
 //! What stands at the front of a type.
-use crate::rules::{Rule, Rules};
+ghost use Rattle.std.specs.Prelude.{All, OnOk};
+ghost use Rattle.tlb_guard.specs.Facts.{IsBelow};
+
+use crate::least::least;
+use crate::rules::{Rule, is_found, push_rule};
 use crate::scope::{is_at_least, is_variable, leave, name_of};
 use crate::types::{Types, has_empty_tag};
 use crate::words::{has_some_width, has_width, is_any_or_cell, is_dictionary, is_family, is_map};
@@ -66,7 +70,7 @@ impl<'s, 'a> Leads<'s, 'a> {
         } else {
             match self.types.place(name) {
                 None => false,
-                Some(number) => number < self.empty.len() && self.empty[number],
+                Some(number) => is_found(self.empty, number),
             }
         }
     }
@@ -188,8 +192,12 @@ fn add_rules(
     alloc: Global,
     types: &Types<'_>,
     lead: &Lead<'_>,
+    count: usize,
     rules: &mut Items<Rule>,
-) -> Result<(), NoMemory> {
+) -> Result<(), NoMemory>
+    requires { All (IsBelow count) rules.old }
+    ensures { OnOk result (All (IsBelow count) rules.new) }
+{
     let Front::Variable(variable) = lead.front else {
         return Ok(());
     };
@@ -203,7 +211,7 @@ fn add_rules(
         if is_named(e, variable) && types.is_type_parameter(number, place) {
             if let Some(head) = types.parameter(number, place) {
                 let body = Items::from_slice(alloc, lead.through.as_slice())?;
-                rules.push(Rule { head, body })?;
+                push_rule(rules, count, head, body)?;
             }
         }
     }
@@ -222,11 +230,11 @@ pub fn exposed_parameters(
     alloc: Global,
     types: &Types<'_>,
     leads: &[Lead<'_>],
-) -> Result<Vec<bool>, NoMemory> {
-    let mut rules = Items::new(alloc);
+) -> Result<Items<bool>, NoMemory> {
+    let count = types.parameter_count()?;
+    let mut rules: Items<Rule> = Items::new(alloc);
     for lead in leads {
-        add_rules(alloc, types, lead, &mut rules)?;
+        add_rules(alloc, types, lead, count, &mut rules)?;
     }
-    let no_seeds: [usize; 0] = [];
-    Rules::new(alloc, types.parameter_count()?, rules)?.least(alloc, &no_seeds)
+    least(alloc, count, rules.as_slice())
 }

@@ -7,11 +7,13 @@ mod empty;
 mod forge;
 mod front;
 pub mod laws;
+mod least;
 mod rules;
 mod scope;
 #[cfg(test)]
 mod tests;
 mod types;
+mod users;
 mod words;
 
 pub use cycles::{Unguarded, first_unguarded};

@@ -1,4 +1,9 @@
 //! The least set of facts under rules, by a work list.
+ghost use Rattle.std.specs.Prelude.{◌≡◌, ℕ, ◌+◌, ◌<◌, ◌≤◌, length, not, All, OnOk, IfOk, true, false, count_by, slice_set, slice_index, slice_index_or, [], List, IsTrue, ◌↔◌};
+ghost use Rattle.std.specs.List.{list_all};
+ghost use Rattle.tlb_guard.specs.declared.rules.Rule.{Rule as RuleView};
+ghost use Rattle.tlb_guard.specs.Facts.{holds, IsClosed, IsSound, IsBelow, IsSearch, Extends, IsServed, AreUsers, Obeys};
+
 use sqlite_items::Items;
 use std::alloc::{AllocError, Global};
 use tlb_memory::NoMemory;
@@ -10,138 +15,148 @@ pub struct Rule {
     pub body: Items<usize>,
 }
 
-/// Rules over the facts from 0 to `count`.
-#[derive(Drop)]
-pub struct Rules {
+fn are_below(count: usize, facts: &[usize]) -> bool
+    ensures { IsTrue result ↔ All (λ x. x < count) facts.now }
+{
+    facts.iter().all(|fact| *fact < count)
+}
+
+/// Adds a rule, where its head and its body are below `count`.
+pub(crate) fn push_rule(
+    rules: &mut Items<Rule>,
     count: usize,
-    rules: Items<Rule>,
-    /// The rules without a body.
-    bare: Items<usize>,
-    /// For each fact the rules that have it in their bodies.
-    users: Vec<Items<usize>>,
-}
-
-impl Rules {
-    pub fn new(alloc: Global, count: usize, rules: Items<Rule>) -> Result<Rules, NoMemory> {
-        let bare = bare(alloc, rules.as_slice())?;
-        let users = users(alloc, count, rules.as_slice())?;
-        Ok(Rules {
-            count,
-            rules,
-            bare,
-            users,
-        })
-    }
-
-    /// The least set that holds the seeds and is closed under the rules.
-    pub fn least(&self, alloc: Global, seeds: &[usize]) -> Result<Vec<bool>, NoMemory> {
-        let mut search = Search {
-            rules: self.rules.as_slice(),
-            found: vec![in alloc; false; self.count]?,
-            queue: Items::new(alloc),
-            checked: vec![in alloc; 0; self.rules.len()]?,
-        };
-        search.add_all(seeds)?;
-        search.apply_all(self.bare.as_slice())?;
-        search.finish(self.users.as_slice())?;
-        Ok(search.found)
-    }
-}
-
-fn bare(alloc: Global, rules: &[Rule]) -> Result<Items<usize>, NoMemory> {
-    let mut bare = Items::new(alloc);
-    for (number, rule) in rules.iter().enumerate() {
-        if rule.body.is_empty() {
-            bare.push(number)?;
-        }
-    }
-    Ok(bare)
-}
-
-fn no_users(alloc: Global, count: usize) -> Result<Vec<Items<usize>>, NoMemory> {
-    let mut users = Vec::new(alloc);
-    for _fact in 0..count {
-        users.push(Items::new(alloc)).map_err(AllocError::from)?;
-    }
-    Ok(users)
-}
-
-fn users(alloc: Global, count: usize, rules: &[Rule]) -> Result<Vec<Items<usize>>, NoMemory> {
-    let mut users = no_users(alloc, count)?;
-    for (number, rule) in rules.iter().enumerate() {
-        add_user(users.as_mut_slice(), number, rule.body.as_slice())?;
-    }
-    Ok(users)
-}
-
-fn add_user(users: &mut [Items<usize>], number: usize, body: &[usize]) -> Result<(), NoMemory> {
-    for fact in body {
-        users[*fact].push(number)?;
+    head: usize,
+    body: Items<usize>,
+) -> Result<(), NoMemory>
+    requires { All (IsBelow count) rules.old }
+    ensures { OnOk result (All (IsBelow count) rules.new) }
+{
+    if head < count && are_below(count, body.as_slice()) {
+        rules.push(Rule { head, body })?;
     }
     Ok(())
 }
 
-/// A search for the facts that hold.
-#[derive(Drop)]
-struct Search<'r> {
-    rules: &'r [Rule],
-    found: Vec<bool>,
-    /// The facts that are found, in the order in which they were.
-    queue: Items<usize>,
-    /// For each rule, how much of its body is known to hold.
-    checked: Vec<usize>,
+/// Whether the fact is found.
+pub(crate) fn is_found(found: &[bool], fact: usize) -> bool
+    ensures { result ≡ holds found.now fact }
+{
+    fact < found.len() && found[fact]
 }
 
-impl<'r> Search<'r> {
-    fn add(&mut self, fact: usize) -> Result<(), NoMemory> {
-        if !self.found[fact] {
-            self.queue.push(fact)?;
-            self.found[fact] = true;
-        }
-        Ok(())
-    }
+/// A search for the facts that hold.
+#[derive(Drop)]
+pub(crate) struct State {
+    pub found: Items<bool>,
+    /// The facts that are found, in the order in which they were.
+    pub queue: Items<usize>,
+}
 
-    // How much of the rule's body holds, from the front.
-    fn check(&self, rule: usize) -> usize {
-        let body = self.rules[rule].body.as_slice();
-        let mut held = self.checked[rule];
-        while held < body.len() && self.found[body[held]] {
-            held += 1;
-        }
-        held
+fn add(state: &mut State, fact: usize) -> Result<(), NoMemory>
+    requires search { IsSearch state.old }
+    requires below { fact < length state.old.found }
+    ensures search { OnOk result (IsSearch state.new) }
+    ensures extends { OnOk result (Extends state.old state.new) }
+    ensures found { OnOk result (state.new.found ≡ slice_set state.old.found fact true) }
+{
+    if !state.found.as_slice()[fact] {
+        state.queue.push(fact)?;
+        state.found.set(fact, true);
     }
+    Ok(())
+}
 
-    // Adds the rule's head where its body holds.
-    fn apply(&mut self, rule: usize) -> Result<(), NoMemory> {
-        let held = self.check(rule);
-        self.checked[rule] = held;
-        if held == self.rules[rule].body.len() {
-            self.add(self.rules[rule].head)?;
+// Whether all facts of the body are found.
+fn is_met(found: &[bool], body: &[usize]) -> bool
+    requires { All (λ b. b < length found.now) body.now }
+    ensures { result ≡ list_all (holds found.now) body.now }
+{
+    for fact in body {
+        if !found[*fact] {
+            return false;
         }
-        Ok(())
     }
+    true
+}
 
-    fn add_all(&mut self, facts: &[usize]) -> Result<(), NoMemory> {
-        for fact in facts {
-            self.add(*fact)?;
-        }
-        Ok(())
+// Adds the rule's head where its body holds.
+fn apply(rule: &Rule, state: &mut State) -> Result<(), NoMemory>
+    requires search { IsSearch state.old }
+    requires below { IsBelow (length state.old.found) rule.now }
+    ensures search { OnOk result (IsSearch state.new) }
+    ensures extends { OnOk result (Extends state.old state.new) }
+    ensures served { OnOk result ((n : ℕ) → n ≤ length state.old.queue → IsServed state.new n rule.now) }
+    ensures sound { OnOk result ((rules : List RuleView) (seeds : List ℕ) (k : ℕ) → k < length rules → slice_index_or rules k rule.now ≡ rule.now → IsSound rules seeds (holds state.old.found) → IsSound rules seeds (holds state.new.found)) }
+{
+    if is_met(state.found.as_slice(), rule.body.as_slice()) {
+        add(state, rule.head)?;
     }
+    Ok(())
+}
 
-    fn apply_all(&mut self, rules: &[usize]) -> Result<(), NoMemory> {
-        for rule in rules {
-            self.apply(*rule)?;
-        }
-        Ok(())
+pub(crate) fn add_all(state: &mut State, facts: &[usize]) -> Result<(), NoMemory>
+    requires search { IsSearch state.old }
+    requires below { All (λ x. x < length state.old.found) facts.now }
+    ensures search { OnOk result (IsSearch state.new) }
+    ensures extends { OnOk result (Extends state.old state.new) }
+    ensures seeded { OnOk result (All (λ x. holds state.new.found x ≡ true) facts.now) }
+    ensures sound { OnOk result ((rules : List RuleView) → IsSound rules facts.now (holds state.old.found) → IsSound rules facts.now (holds state.new.found)) }
+{
+    for fact in facts {
+        add(state, *fact)?;
     }
+    Ok(())
+}
 
-    fn finish(&mut self, users: &[Items<usize>]) -> Result<(), NoMemory> {
-        let mut next = 0;
-        while next < self.queue.len() {
-            let fact = self.queue.as_slice()[next];
-            next += 1;
-            self.apply_all(users[fact].as_slice())?;
-        }
-        Ok(())
+pub(crate) fn apply_all(rules: &[Rule], state: &mut State) -> Result<(), NoMemory>
+    requires search { IsSearch state.old }
+    requires below { All (IsBelow (length state.old.found)) rules.now }
+    ensures search { OnOk result (IsSearch state.new) }
+    ensures extends { OnOk result (Extends state.old state.new) }
+    ensures served { OnOk result ((k : ℕ) (d : RuleView) → k < length rules.now → IsServed state.new 0 (slice_index_or rules.now k d)) }
+    ensures sound { OnOk result ((seeds : List ℕ) → IsSound rules.now seeds (holds state.old.found) → IsSound rules.now seeds (holds state.new.found)) }
+{
+    for rule in rules {
+        apply(rule, state)?;
     }
+    Ok(())
+}
+
+fn apply_users(rules: &[Rule], users: &[usize], state: &mut State) -> Result<(), NoMemory>
+    requires search { IsSearch state.old }
+    requires below { All (IsBelow (length state.old.found)) rules.now }
+    requires within { All (λ k. k < length rules.now) users.now }
+    ensures search { OnOk result (IsSearch state.new) }
+    ensures extends { OnOk result (Extends state.old state.new) }
+    ensures served { OnOk result ((n : ℕ) → n ≤ length state.old.queue → (i : ℕ) (d : RuleView) → i < length users.now → IsServed state.new n (slice_index_or rules.now (slice_index users.now i) d)) }
+    ensures sound { OnOk result ((seeds : List ℕ) → IsSound rules.now seeds (holds state.old.found) → IsSound rules.now seeds (holds state.new.found)) }
+{
+    for rule in users {
+        apply(&rules[*rule], state)?;
+    }
+    Ok(())
+}
+
+pub(crate) fn finish(
+    rules: &[Rule],
+    users: &[Items<usize>],
+    state: &mut State,
+) -> Result<(), NoMemory>
+    requires search { IsSearch state.old }
+    requires below { All (IsBelow (length state.old.found)) rules.now }
+    requires facts { length users.now ≡ length state.old.found }
+    requires within { All (All (λ k. k < length rules.now)) users.now }
+    requires users { (fact : ℕ) → fact < length users.now → AreUsers rules.now fact (slice_index_or users.now fact []) }
+    requires served { (k : ℕ) (d : RuleView) → k < length rules.now → IsServed state.old 0 (slice_index_or rules.now k d) }
+    ensures extends { OnOk result (Extends state.old state.new) }
+    ensures ruled { OnOk result (All (Obeys (holds state.new.found)) rules.now) }
+    ensures sound { OnOk result ((seeds : List ℕ) → IsSound rules.now seeds (holds state.old.found) → IsSound rules.now seeds (holds state.new.found)) }
+{
+    let mut next = 0;
+    while next < state.queue.len() {
+        let fact = state.queue.as_slice()[next];
+        next += 1;
+        apply_users(rules, users[fact].as_slice(), state)?;
+    }
+    Ok(())
 }
