@@ -89,10 +89,10 @@ impl<'s, 'a> Needs<'s, 'a> {
 }
 
 // The types that have to take nothing, so that the constructor may; `None` where it never may.
-fn needs_of(
+fn needs_of<'a>(
     alloc: Global,
-    types: &Types<'_>,
-    constructor: &Constructor,
+    types: &Types<'a>,
+    constructor: &'a Constructor,
 ) -> Result<Option<Items<usize>>, NoMemory> {
     if !has_empty_tag(constructor) {
         return Ok(None);
@@ -111,7 +111,7 @@ fn needs_of(
 }
 
 /// The declared types that may take nothing.
-pub fn empty_types(alloc: Global, types: &Types<'_>) -> Result<Items<bool>, NoMemory> {
+pub fn empty_types<'a>(alloc: Global, types: &Types<'a>) -> Result<Items<bool>, NoMemory> {
     let count = types.constructors.len();
     let mut rules: Items<Rule> = Items::new(alloc);
     for constructor in types.constructors {
