@@ -1,4 +1,9 @@
 //! Names in scope.
+ghost use Rattle.std.specs.Prelude.{◌≡◌, option_map};
+ghost use Rattle.tlb_syntax.specs.View.{item as item_view};
+ghost use Rattle.tlb_kinds.specs.Params.{option_list};
+ghost use Rattle.tlb_kinds.specs.Nodes.{field_names};
+
 use bit_slice::Name;
 use sqlite_items::Items;
 use tlb_syntax::{Expr, Item};
@@ -9,7 +14,9 @@ pub fn is_variable(scope: &[&Name], name: &Name, args: &[Expr]) -> bool {
 }
 
 /// The name that an item brings into scope.
-pub fn name_of(item: &Item) -> Option<&Name> {
+pub fn name_of(item: &Item) -> Option<&Name>
+    ensures { option_list (option_map (λ name. name.now) result) ≡ field_names (item_view item.now) }
+{
     match item {
         Item::Implicit(name, _) => Some(name),
         Item::Check(_, _, _) | Item::Explicit(None, _) => None,

@@ -1,4 +1,8 @@
 //! The types of a schema by numbers: a type's number is the place of its first constructor.
+ghost use Rattle.std.specs.Prelude.{◌≡◌};
+ghost use Rattle.tlb_syntax.specs.View.{constructor as constructor_view};
+ghost use Rattle.tlb_guard.specs.DeclaredTypes.{has_empty_tag};
+
 use crate::words::{is_built_in, is_dictionary};
 use bit_slice::Name;
 use std::alloc::{AllocError, Global};
@@ -98,7 +102,9 @@ fn is_type_variable(items: &[Item], name: &Name) -> bool {
 }
 
 /// A constructor called `_` without a tag has the empty tag.
-pub fn has_empty_tag(constructor: &Constructor) -> bool {
+pub fn has_empty_tag(constructor: &Constructor) -> bool
+    ensures { result ≡ has_empty_tag (constructor_view constructor.now) }
+{
     match &constructor.tag {
         Tag::Computed => constructor.name.is_none(),
         Tag::Given(bits) => bits.slice().len() == 0,

@@ -1,4 +1,8 @@
 //! Names that the schema language has for itself.
+ghost use Rattle.std.specs.Prelude.{◌≡◌, ◌∷◌, [], codes};
+ghost use Rattle.tlb_kinds.specs.Words.{is_among};
+ghost use Rattle.tlb_kinds.specs.Types.{is_family};
+ghost use Rattle.tlb_kinds.specs.Dictionaries.{hashmap, hashmap_e};
 
 // A decimal number without leading zeros.
 fn is_plain_number(digits: &[u8]) -> bool {
@@ -47,12 +51,16 @@ pub fn has_some_width(name: &[u8]) -> bool {
 }
 
 /// Whether the name is uint, int or bits.
-pub fn is_family(name: &[u8]) -> bool {
+pub fn is_family(name: &[u8]) -> bool
+    ensures { result ≡ is_family name.now }
+{
     name == b"uint".as_slice() || name == b"int".as_slice() || name == b"bits".as_slice()
 }
 
 /// Whether the name is Any or Cell.
-pub fn is_any_or_cell(name: &[u8]) -> bool {
+pub fn is_any_or_cell(name: &[u8]) -> bool
+    ensures { result ≡ is_among (codes "Any" ∷ codes "Cell" ∷ []) name.now }
+{
     name == b"Any".as_slice() || name == b"Cell".as_slice()
 }
 
@@ -62,7 +70,9 @@ pub fn is_built_in(name: &[u8]) -> bool {
 }
 
 /// Whether the name is Hashmap or HashmapE.
-pub fn is_map(name: &[u8]) -> bool {
+pub fn is_map(name: &[u8]) -> bool
+    ensures { result ≡ is_among (hashmap ∷ hashmap_e ∷ []) name.now }
+{
     name == b"Hashmap".as_slice() || name == b"HashmapE".as_slice()
 }
 
