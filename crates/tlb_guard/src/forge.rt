@@ -44,6 +44,7 @@ fn tag(alloc: Global, digits: &str) -> Result<Tag, Fail> {
             count += 1;
         }
     }
+    let count = if count > 8 { 8 } else { count };
     Ok(Tag::Given(BitString::from_bytes(alloc, &[byte], count)?))
 }
 
@@ -74,7 +75,7 @@ impl Forge {
         Ok(Items::from_vec(taken))
     }
 
-    fn last_items(&mut self, count: u32) -> Result<Items<Item>, Fail> {
+    fn last_items(&mut self, count: usize) -> Result<Items<Item>, Fail> {
         let mut taken = Vec::new(self.alloc);
         for _turn in 0..count {
             taken.push(self.items.pop().ok_or("an item")?)?;
@@ -150,7 +151,7 @@ impl Forge {
             None => (front, Tag::Computed),
             Some((front, digits)) => (front, tag(self.alloc, digits)?),
         };
-        let count = self.items.len() as u32;
+        let count = self.items.len();
         let constructor = Constructor {
             name: label(self.alloc, front)?,
             tag,
@@ -175,7 +176,7 @@ impl Forge {
             return self.brace(word);
         }
         if let Some(count) = word.strip_prefix('[') {
-            let items = self.last_items(count.parse::<u32>()?)?;
+            let items = self.last_items(count.parse::<usize>()?)?;
             return self.push(Expr::Group(items));
         }
         if let Some((front, back)) = word.split_once(':') {

@@ -1,4 +1,6 @@
 //! Schemas and their first unguarded items, worked out by hand.
+ghost use Rattle.std.specs.Prelude.{◌<◌};
+
 use crate::forge::schema;
 use crate::{Unguarded, first_unguarded};
 use std::alloc::Global;
@@ -81,7 +83,9 @@ fn guarded_types_pass(rt: HostRuntime) -> Result<(), Fail> {
 }
 
 // Each type exposes the next, and the last one exposes the type of that number.
-fn chain(alloc: Global, count: u32, last: u32) -> Result<String, Fail> {
+fn chain(alloc: Global, count: u32, last: u32) -> Result<String, Fail>
+    requires { 0 < count }
+{
     let mut words = String::new(alloc);
     for number in 1..count {
         words.push_str(format!(in alloc; "T{number} x: _=T{} ", number - 1)?.as_str())?;
