@@ -1,4 +1,6 @@
 //! Texts that are read, and refused at their byte. The places are counted by hand.
+ghost use Rattle.std.specs.Prelude.{◌≤◌, length};
+
 use super::*;
 use std::alloc::Global;
 use std::test::Fail;
@@ -37,7 +39,9 @@ fn a_schema_is_read(rt: HostRuntime) -> Result<(), Fail> {
 }
 
 // The error that a schema's text is refused with.
-fn refused(alloc: Global, text: &str) -> Option<GrammarError> {
+fn refused(alloc: Global, text: &str) -> Option<GrammarError>
+    requires { length text.now ≤ 1048576 }
+{
     read_schema(alloc, text.as_bytes()).err()
 }
 
