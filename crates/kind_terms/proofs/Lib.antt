@@ -1,0 +1,6 @@
+pub mod NestedSums
+pub mod ParamKinds
+pub mod PlainNumbers
+pub mod Founds
+pub mod Capped
+pub mod PartSums

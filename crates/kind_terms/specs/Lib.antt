@@ -1,0 +1,11 @@
+pub mod Words
+pub mod Dictionaries
+pub mod Params
+pub mod Types
+pub mod Forms
+pub mod Closed
+pub mod Sought
+pub mod Scopes
+pub mod Views
+pub mod Found
+pub mod Outs

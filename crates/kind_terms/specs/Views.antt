@@ -1,0 +1,35 @@
+-- What the program's values stand for.
+use Rattle.std.specs.Prelude.{List, [], map, Option, Some, None}
+use Rattle.std.specs.Borrow.{Bor}
+use Rattle.tlb_syntax.specs.declared.tree.Constructor.{Constructor}
+use Rattle.tlb_syntax.specs.Tree.{SchemaView}
+use Rattle.tlb_syntax.specs.View.{constructor}
+use Rattle.kind_terms.specs.declared.kind.Kind.{Kind}
+use Rattle.kind_terms.specs.declared.scope.Entry.{Entry as ProgramEntry}
+use Rattle.kind_terms.specs.declared.types.Declared.{Declared}
+use Rattle.kind_terms.specs.declared.types.Sort.{Sort}
+use Rattle.kind_terms.specs.declared.types.Sort.TheVariants.{NoType, Basic, Declared as IsDeclared}
+use Rattle.kind_terms.specs.declared.types.TypeNamed.{TypeNamed as ProgramType}
+use Rattle.kind_terms.specs.Scopes.{Entry}
+use Rattle.kind_terms.specs.Types.{TypeNamed, no_type, basic, declared}
+use Rattle.kind_terms.specs.Words.{Word}
+
+abbrev pub entry_of : ProgramEntry → Entry
+entry_of e = record { name = e.name.now; meaning = e.meaning }
+
+abbrev pub type_by : Sort → List Kind → TypeNamed
+type_by NoType ks = no_type
+type_by Basic ks = basic ks
+type_by IsDeclared ks = declared ks
+
+abbrev pub named_by : ProgramType → TypeNamed
+named_by t = type_by t.sort t.kinds.now
+
+-- the declarations of a type
+abbrev pub constructors_by : Option (Bor Declared) → SchemaView
+constructors_by None = []
+constructors_by (Some d) = map (λ c. constructor c.now) d.now.constructors
+
+abbrev pub kinds_by : Option (Bor Declared) → Option (List Kind)
+kinds_by None = None
+kinds_by (Some d) = Some d.now.kinds

@@ -1,0 +1,29 @@
+//! What the rules on a TL-B schema's kinds and its guard speak of: names of the language, the kinds of parameters, forms of
+//! expressions, names in scope, what is known, and the types of a schema. The language is that of the TON documentation on
+//! TL-B; where that leaves a point open, the definitions of this crate fix it.
+#![tactic(auto)]
+
+mod kind;
+mod numbers;
+mod outs;
+mod part;
+mod scope;
+mod shape;
+#[cfg(test)]
+mod tests;
+mod types;
+mod words;
+
+pub use kind::{GREATEST, Kind, has_outputs, kind_of, kinds};
+pub use numbers::{closed, is_beyond};
+pub use outs::{add_known, sought};
+pub use part::Part;
+pub use scope::{Entry, Meaning, declares, field_name, is_among, meaning_in};
+pub use shape::{
+    bare_name, is_field_of_numbers, is_literal, is_of_numbers, is_out, out_name, variable_of,
+};
+pub use types::{Declared, Sort, TypeNamed, Types, no_type};
+pub use words::{
+    has_some_width, has_width, is_any_or_cell, is_built_in, is_dictionary, is_family, is_map,
+    is_wide,
+};
