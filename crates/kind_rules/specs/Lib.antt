@@ -1,0 +1,14 @@
+pub mod Dues
+pub mod Headings
+pub mod Names
+pub mod Numbers
+pub mod Widths
+pub mod Known
+pub mod Outputs
+pub mod Records
+pub mod Uses
+pub mod Nodes
+pub mod Faults
+pub mod Parts
+pub mod Sums
+pub mod Views
