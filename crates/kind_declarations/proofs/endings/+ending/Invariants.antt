@@ -1,0 +1,26 @@
+use Rattle.std.proofs.Common.{◌≡◌, ◌≤◌, ◌+◌, map, drop}
+use Rattle.tlb_syntax.specs.View.{constructor, exprs, items}
+use Rattle.kind_declarations.specs.EndingViews.{place_at}
+use Rattle.kind_rules.specs.Faults.{verdict}
+use Rattle.kind_rules.specs.Nodes.{arg_endings, first_place, record_endings}
+use Rattle.kind_rules.specs.Views.{part_by}
+use Rattle.kind_declarations.proofs.endings.+ending.Given as goal
+
+abbrev pub invariant-endings_in_all-loop-e : goal.invariant-endings_in_all-loop-e
+invariant-endings_in_all-loop-e l = record {
+  kept : l.path ≡ l.fn.path;
+  passed :
+      verdict (arg_endings (exprs (drop l.e-index l.es)) (map constructor l.types) (map part_by l.fn.path))
+      ≡ verdict (arg_endings (exprs l.es) (map constructor l.types) (map part_by l.fn.path));
+}
+
+abbrev pub invariant-judge_items-loop-item : goal.invariant-judge_items-loop-item
+invariant-judge_items-loop-item l = record {
+  kept : l.path ≡ l.fn.path;
+  number : l.place ≡ l.item-index + 1;
+  few : l.blanks ≤ l.item-index;
+  passed :
+      verdict (record_endings (items (drop l.item-index l.items)) (map constructor l.types)
+      (place_at (map part_by l.fn.path) l.place l.blanks) (map (λ n. n.now) l.known))
+      ≡ verdict (record_endings (items l.items) (map constructor l.types) (first_place (map part_by l.fn.path)) (map (λ n. n.now) l.known));
+}

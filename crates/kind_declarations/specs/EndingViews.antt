@@ -1,0 +1,13 @@
+-- What the code that judges implicit fields works with.
+use Rattle.std.specs.Prelude.{ℕ, List, ◌++◌}
+use Rattle.tlb_syntax.specs.Tree.{ItemView, SchemaView}
+use Rattle.kind_terms.specs.declared.part.Part.{Part}
+use Rattle.kind_terms.specs.Words.{Word}
+use Rattle.kind_rules.specs.Nodes.{Judged, Place, ending_at, item_endings, path_at}
+
+abbrev pub place_at : List Part → ℕ → ℕ → Place
+place_at path number blanks = record { path = path; number = number; blanks = blanks }
+
+-- of an item at this place of a record at whose end these of its variables are known, and of the records in it
+abbrev pub endings_at : ItemView → SchemaView → Place → List Word → List Judged
+endings_at i types p known = ending_at (path_at p i) known i ++ item_endings i types (path_at p i)

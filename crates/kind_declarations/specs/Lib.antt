@@ -1,0 +1,2 @@
+pub mod HeadingViews
+pub mod EndingViews

@@ -1,0 +1,204 @@
+//! Implicit fields that are never known.
+ghost use Rattle.std.specs.Prelude.{◌≡◌, ◌≤◌, ◌<◌, ◌+◌, ◌++◌, if◌then◌else◌, map, IfOk, OnOk};
+ghost use Rattle.tlb_syntax.specs.Limits.{AreExprs, AreItems, IsExpr, IsItem, IsType, item_count};
+ghost use Rattle.tlb_syntax.specs.View.{constructor as constructor_view, expr, exprs, field_type, item as item_view, items as items_view};
+ghost use Rattle.kind_terms.specs.Scopes.{made_known};
+ghost use Rattle.kind_declarations.specs.EndingViews.{endings_at, place_at};
+ghost use Rattle.kind_rules.specs.Faults.{Judges};
+ghost use Rattle.kind_rules.specs.Nodes.{arg_endings, ending_at, expr_endings, first_place, is_blank as is_blank_item, item_endings, record_endings, type_endings};
+ghost use Rattle.kind_rules.specs.Views.{part_by};
+
+use bit_slice::Name;
+use kind_rules::{Cause, Fault, Shown, is_blank, show_item};
+use kind_terms::{Types, add_known, is_among};
+use sqlite_items::Items;
+use std::alloc::{AllocError, Global};
+use tlb_syntax::{Expr, FieldType, Item};
+
+// What is known at the end of a record: these variables, and those that its items make known.
+fn known_at_end<'a>(
+    types: &Types<'_>,
+    items: &'a [Item],
+    inputs: Items<&'a Name>,
+) -> Result<Items<&'a Name>, AllocError>
+    ensures { IfOk result (λ known. map (λ n. n.now) known ≡ map (λ n. n.now) inputs.entry ++ made_known (map constructor_view types.now) (items_view items.now)) }
+{
+    let mut known = inputs;
+    for item in items {
+        add_known(types, item, &mut known)?;
+    }
+    Ok(known)
+}
+
+// The number of blank fields before the next item.
+fn blanks_behind(item: &Item, blanks: u32) -> u32
+    requires { blanks < 255 }
+    ensures { result ≡ (if is_blank_item (item_view item.now) then blanks + 1 else blanks) }
+{
+    if is_blank(item) { blanks + 1 } else { blanks }
+}
+
+/// The first implicit field of a record, and of the records in it, that is known neither from the start nor by an
+/// item of its own record, is refused; the path leads to it then.
+#[cycle(ending)]
+pub fn judge_endings<'a>(
+    alloc: Global,
+    types: &Types<'a>,
+    items: &'a [Item],
+    inputs: Items<&'a Name>,
+    path: &mut Items<Shown<'a>>,
+) -> Result<(), Fault>
+    requires few { item_count (items_view items.now) ≤ 255 }
+    requires sized { AreItems (items_view items.now) }
+    ensures judged { Judges (record_endings (items_view items.now) (map constructor_view types.now) (first_place (map part_by path.old)) (map (λ n. n.now) inputs.entry ++ made_known (map constructor_view types.now) (items_view items.now))) (map part_by path.new) result }
+    ensures kept { OnOk result (path.new ≡ path.old) }
+{
+    let known = known_at_end(types, items, inputs)?;
+    judge_items(alloc, types, items, known.as_slice(), path)
+}
+
+// The items of a record at whose end these variables are known.
+#[cycle(ending)]
+fn judge_items<'a>(
+    alloc: Global,
+    types: &Types<'a>,
+    items: &'a [Item],
+    known: &[&'a Name],
+    path: &mut Items<Shown<'a>>,
+) -> Result<(), Fault>
+    requires few { item_count (items_view items.now) ≤ 255 }
+    requires sized { AreItems (items_view items.now) }
+    ensures judged { Judges (record_endings (items_view items.now) (map constructor_view types.now) (first_place (map part_by path.old)) (map (λ n. n.now) known.now)) (map part_by path.new) result }
+    ensures kept { OnOk result (path.new ≡ path.old) }
+{
+    let mut place: u32 = 1;
+    let mut blanks: u32 = 0;
+    for item in items {
+        judge_item(alloc, types, item, place, blanks, known, path)?;
+        place += 1;
+        blanks = blanks_behind(item, blanks);
+    }
+    Ok(())
+}
+
+// An item at this place of its record, behind so many blank fields.
+#[cycle(ending)]
+fn judge_item<'a>(
+    alloc: Global,
+    types: &Types<'a>,
+    item: &'a Item,
+    place: u32,
+    blanks: u32,
+    known: &[&'a Name],
+    path: &mut Items<Shown<'a>>,
+) -> Result<(), Fault>
+    requires { IsItem (item_view item.now) }
+    ensures judged { Judges (endings_at (item_view item.now) (map constructor_view types.now) (place_at (map part_by path.old) place blanks) (map (λ n. n.now) known.now)) (map part_by path.new) result }
+    ensures kept { OnOk result (path.new ≡ path.old) }
+{
+    path.push(show_item(item, place, blanks))?;
+    judge_ending(alloc, types, item, known, path)?;
+    path.pop();
+    Ok(())
+}
+
+// The item to which the path leads.
+#[cycle(ending)]
+fn judge_ending<'a>(
+    alloc: Global,
+    types: &Types<'a>,
+    item: &'a Item,
+    known: &[&'a Name],
+    path: &mut Items<Shown<'a>>,
+) -> Result<(), Fault>
+    requires { IsItem (item_view item.now) }
+    ensures judged { Judges (ending_at (map part_by path.old) (map (λ n. n.now) known.now) (item_view item.now) ++ item_endings (item_view item.now) (map constructor_view types.now) (map part_by path.old)) (map part_by path.new) result }
+    ensures kept { OnOk result (path.new ≡ path.old) }
+{
+    match item {
+        Item::Implicit(name, _) => {
+            if is_among(known, name) {
+                Ok(())
+            } else {
+                Err(Fault::Refused(Cause::Undetermined))
+            }
+        }
+        Item::Check(_, _, _) => Ok(()),
+        Item::Explicit(_, t) => endings_in_type(alloc, types, t, path),
+    }
+}
+
+// Those of the records in the type of a field.
+#[cycle(ending)]
+fn endings_in_type<'a>(
+    alloc: Global,
+    types: &Types<'a>,
+    t: &'a FieldType,
+    path: &mut Items<Shown<'a>>,
+) -> Result<(), Fault>
+    requires { IsType (field_type t.now) }
+    ensures judged { Judges (type_endings (field_type t.now) (map constructor_view types.now) (map part_by path.old)) (map part_by path.new) result }
+    ensures kept { OnOk result (path.new ≡ path.old) }
+{
+    match t {
+        FieldType::Plain(e) => endings_in(alloc, types, e, path),
+        FieldType::If(condition, e) => {
+            endings_in(alloc, types, condition, path)?;
+            endings_in(alloc, types, e, path)
+        }
+        FieldType::IfBit(condition, _, e) => {
+            endings_in(alloc, types, condition, path)?;
+            endings_in(alloc, types, e, path)
+        }
+    }
+}
+
+// Those of the records in an expression.
+#[cycle(ending)]
+fn endings_in<'a>(
+    alloc: Global,
+    types: &Types<'a>,
+    e: &'a Expr,
+    path: &mut Items<Shown<'a>>,
+) -> Result<(), Fault>
+    requires { IsExpr (expr e.now) }
+    ensures judged { Judges (expr_endings (expr e.now) (map constructor_view types.now) (map part_by path.old)) (map part_by path.new) result }
+    ensures kept { OnOk result (path.new ≡ path.old) }
+{
+    match e {
+        Expr::Lit(_) | Expr::Nat32 => Ok(()),
+        Expr::Named(_, args) | Expr::Bits(args) | Expr::Below(args) | Expr::UpTo(args) =>
+            endings_in_all(alloc, types, args.as_slice(), path),
+        Expr::Sum(terms) => endings_in_all(alloc, types, terms.as_slice(), path),
+        Expr::Star(left, right) => {
+            endings_in(alloc, types, left.get(), path)?;
+            endings_in(alloc, types, right.get(), path)
+        }
+        Expr::Out(inner) | Expr::Ref(inner) => endings_in(alloc, types, inner.get(), path),
+        Expr::Group(items) => judge_endings(
+            alloc,
+            types,
+            items.as_slice(),
+            Items::new(alloc),
+            path,
+        ),
+    }
+}
+
+// Those of the records in expressions.
+#[cycle(ending)]
+fn endings_in_all<'a>(
+    alloc: Global,
+    types: &Types<'a>,
+    es: &'a [Expr],
+    path: &mut Items<Shown<'a>>,
+) -> Result<(), Fault>
+    requires { AreExprs (exprs es.now) }
+    ensures judged { Judges (arg_endings (exprs es.now) (map constructor_view types.now) (map part_by path.old)) (map part_by path.new) result }
+    ensures kept { OnOk result (path.new ≡ path.old) }
+{
+    for e in es {
+        endings_in(alloc, types, e, path)?;
+    }
+    Ok(())
+}
