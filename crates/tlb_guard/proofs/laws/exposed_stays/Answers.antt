@@ -1,0 +1,5 @@
+use Rattle.tlb_guard.proofs.Exposing.{exposed_stays}
+use Rattle.tlb_guard.proofs.laws.exposed_stays.Goals as goal
+
+pub returns : goal.returns
+returns c = exposed_stays

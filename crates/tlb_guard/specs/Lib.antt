@@ -1,0 +1,14 @@
+pub mod Rounds
+pub mod DeclaredTypes
+pub mod Empty
+pub mod Exposed
+pub mod Cycles
+pub mod Facts
+pub mod Users
+pub mod Laws
+pub mod Numbering
+pub mod Scoping
+pub mod Views
+pub mod Numbers
+pub mod Edges
+pub mod Variables

@@ -1,0 +1,17 @@
+//! What follows from the definitions alone.
+ghost use Rattle.tlb_guard.specs.Laws.{EmptyStays, ExposedStays, FewEdgesReach};
+
+/// No later round of what may take nothing differs.
+pub fn empty_stays()
+    ensures { EmptyStays }
+{}
+
+/// No later round of what is exposed differs.
+pub fn exposed_stays()
+    ensures { ExposedStays }
+{}
+
+/// What is reached at all is reached by at most as many edges as there are declared types.
+pub fn few_edges_reach()
+    ensures { FewEdgesReach }
+{}

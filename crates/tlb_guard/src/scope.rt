@@ -1,0 +1,69 @@
+//! Names in scope, and literals.
+ghost use Rattle.std.specs.Prelude.{◌≡◌, ◌≤◌, ◌++◌, OnOk, length, map, take};
+ghost use Rattle.tlb_syntax.specs.View.{expr, exprs, item};
+ghost use Rattle.kind_terms.specs.Scopes.{field_names};
+ghost use Rattle.kind_terms.specs.Words.{is_at_least};
+ghost use Rattle.tlb_guard.specs.Scoping.{IsFront, names};
+ghost use Rattle.tlb_guard.specs.Empty.{is_variable as is_a_variable, literal as literal_of, literal_argument};
+
+use bit_slice::Name;
+use kind_terms::{field_name, is_among};
+use sqlite_items::Items;
+use tlb_memory::NoMemory;
+use tlb_syntax::{Expr, Item};
+
+/// Whether a name stands alone and is in scope.
+pub fn is_variable(scope: &[&Name], name: &Name, args: &[Expr]) -> bool
+    ensures { result ≡ is_a_variable (names scope.now) name.now (exprs args.now) }
+{
+    args.is_empty() && is_among(scope, name)
+}
+
+// The number that is written out. A sum of one term stands for that term.
+fn literal(e: &Expr) -> Option<u32>
+    ensures { result ≡ literal_of (expr e.now) }
+{
+    match e {
+        Expr::Lit(number) => Some(*number),
+        Expr::Sum(terms) => match terms.as_slice() {
+            [] => Some(0),
+            [only] => literal(only),
+            [_, _, ..] => None,
+        },
+        _ => None,
+    }
+}
+
+/// Whether the first argument is a literal of at least that size.
+pub fn is_at_least(least: u32, args: &[Expr]) -> bool
+    ensures { result ≡ is_at_least least (literal_argument (exprs args.now)) }
+{
+    match args {
+        [] => false,
+        [first, ..] => match literal(first) {
+            None => false,
+            Some(number) => number >= least,
+        },
+    }
+}
+
+/// Brings the name of an item into scope.
+pub fn enter<'a>(scope: &mut Items<&'a Name>, i: &'a Item) -> Result<(), NoMemory>
+    ensures names { OnOk result (names scope.new ≡ names scope.old ++ field_names (item i.now)) }
+    ensures front { OnOk result (IsFront scope.old scope.new) }
+{
+    if let Some(name) = field_name(i) {
+        scope.push(name)?;
+    }
+    Ok(())
+}
+
+/// Ends the scope of the names behind the first `count`.
+pub fn leave(scope: &mut Items<&Name>, count: usize)
+    requires { count ≤ length scope.old }
+    ensures { scope.new ≡ take count scope.old }
+{
+    while scope.len() > count {
+        scope.pop();
+    }
+}
