@@ -1,0 +1,5 @@
+pub mod BlankNames
+pub mod Firsts
+pub mod Counting
+pub mod Loops
+pub mod Passing

@@ -1,0 +1,97 @@
+-- A schema without its declarations of dictionaries.
+use Rattle.std.proofs.Common.{◌≡◌, ◌∙◌, ap, sym, refl, subst, Bool, true, false, List, [], ◌∷◌, ◌++◌, ℕ, append_assoc}
+use Rattle.std.specs.Prelude.{not, filter, bytes_eq, cond}
+use Rattle.std.proofs.lemmas.Bool.{false≢true}
+use Rattle.std.proofs.lemmas.Slice.Eq.{bytes_eq-Decides}
+use Rattle.tlb_syntax.specs.Tree.{ConstructorView, SchemaView}
+use Rattle.kind_terms.specs.Dictionaries.{is_dictionary, of_type, without_dictionaries}
+use Rattle.kind_terms.specs.Words.{Word}
+use Rattle.kind_rules.specs.Headings.{Heading}
+use Rattle.kind_rules.specs.Nodes.{heading_nodes}
+use Rattle.tlb_kinds.specs.declared.error.KindError.{KindError}
+use Rattle.tlb_kinds.specs.Laws.{KindedStays, PassedOver}
+use Rattle.tlb_kinds.specs.Refusals.{of_headings, refusals_within, refusals, IsKinded}
+use Rattle.tlb_kinds.specs.Spots.{heading, refusals_at}
+
+abbrev heading_of : SchemaView → ConstructorView → Heading
+heading_of earlier c = record { earlier = earlier; this = c }
+
+over_again : (c : ConstructorView) (cs : SchemaView) → without_dictionaries (without_dictionaries cs) ≡ without_dictionaries cs
+    → (b : Bool) → is_dictionary c.result ≡ b
+    → without_dictionaries (cond (not b) (c ∷ without_dictionaries cs) (without_dictionaries cs)) ≡ cond (not b) (c ∷ without_dictionaries cs) (without_dictionaries cs)
+over_again c cs rest true is = rest
+over_again c cs rest false is =
+    ap (λ b. cond (not b) (c ∷ without_dictionaries (without_dictionaries cs)) (without_dictionaries (without_dictionaries cs))) is
+    ∙ ap (λ z. c ∷ z) rest
+
+pub passed_over : PassedOver
+passed_over [] = refl
+passed_over (c ∷ cs) = over_again c cs (passed_over cs) (is_dictionary c.result) refl
+
+one_more_kept : (x : Word) → is_dictionary x ≡ false → (c : ConstructorView) (cs : SchemaView) → of_type (without_dictionaries cs) x ≡ of_type cs x
+    → (b : Bool) → is_dictionary c.result ≡ b → (d : Bool) → bytes_eq c.result x ≡ d
+    → of_type (cond (not b) (c ∷ without_dictionaries cs) (without_dictionaries cs)) x ≡ cond d (c ∷ of_type cs x) (of_type cs x)
+one_more_kept x other c cs rest true is true same =
+    absurd (false≢true (sym other ∙ sym (ap is_dictionary ((bytes_eq-Decides c.result x).0 same)) ∙ is))
+one_more_kept x other c cs rest true is false same = rest
+one_more_kept x other c cs rest false is d same =
+    ap (λ e. cond e (c ∷ of_type (without_dictionaries cs) x) (of_type (without_dictionaries cs) x)) same ∙ ap (λ z. cond d (c ∷ z) z) rest
+
+-- the declarations of a type that is no dictionary
+of_type_kept : (x : Word) → is_dictionary x ≡ false → (s : SchemaView) → of_type (without_dictionaries s) x ≡ of_type s x
+of_type_kept x other [] = refl
+of_type_kept x other (c ∷ cs) = one_more_kept x other c cs (of_type_kept x other cs) (is_dictionary c.result) refl (bytes_eq c.result x) refl
+
+front_none : {X : Type 0} (xs ys : List X) → xs ++ ys ≡ [] → xs ≡ []
+front_none [] ys e = refl
+front_none (x ∷ xs) ys e = cc
+
+rest_none : {X : Type 0} (xs ys : List X) → xs ++ ys ≡ [] → ys ≡ []
+rest_none [] ys e = e
+rest_none (x ∷ xs) ys e = cc
+
+append_nil : {X : Type 0} (xs : List X) → xs ++ [] ≡ xs
+append_nil [] = refl
+append_nil (x ∷ xs) = ap (λ z. x ∷ z) (append_nil xs)
+
+with_one : (c : ConstructorView) (cs ys : SchemaView) → without_dictionaries (cs ++ ys) ≡ without_dictionaries cs ++ without_dictionaries ys
+    → (b : Bool) → cond (not b) (c ∷ without_dictionaries (cs ++ ys)) (without_dictionaries (cs ++ ys))
+    ≡ cond (not b) (c ∷ without_dictionaries cs) (without_dictionaries cs) ++ without_dictionaries ys
+with_one c cs ys rest true = rest
+with_one c cs ys rest false = ap (λ z. c ∷ z) rest
+
+without_append : (xs ys : SchemaView) → without_dictionaries (xs ++ ys) ≡ without_dictionaries xs ++ without_dictionaries ys
+without_append [] ys = refl
+without_append (c ∷ cs) ys = with_one c cs ys (without_append cs ys) (is_dictionary c.result)
+
+heading_kept : (c : ConstructorView) (cs before : SchemaView) → refusals_at (heading before c) (heading_nodes (heading before c)) ≡ []
+    → of_headings (without_dictionaries (before ++ c ∷ [])) (without_dictionaries cs) ≡ [] → (b : Bool) → is_dictionary c.result ≡ b
+    → of_headings (without_dictionaries before) (cond (not b) (c ∷ without_dictionaries cs) (without_dictionaries cs)) ≡ []
+heading_kept c cs before here later true is =
+    let gone : without_dictionaries (c ∷ []) ≡ [] = ap (λ b. cond (not b) (c ∷ []) []) is in
+    let same : without_dictionaries (before ++ c ∷ []) ≡ without_dictionaries before =
+    without_append before (c ∷ []) ∙ ap (λ z. without_dictionaries before ++ z) gone ∙ append_nil (without_dictionaries before) in
+    ap (λ z. of_headings z (without_dictionaries cs)) (sym same) ∙ later
+heading_kept c cs before here later false is =
+    let kept : without_dictionaries (c ∷ []) ≡ c ∷ [] = ap (λ b. cond (not b) (c ∷ []) []) is in
+    let same : without_dictionaries (before ++ c ∷ []) ≡ without_dictionaries before ++ c ∷ [] =
+    without_append before (c ∷ []) ∙ ap (λ z. without_dictionaries before ++ z) kept in
+    let alike : heading (without_dictionaries before) c ≡ heading before c =
+    ap (λ (z : SchemaView). heading_of z c) (of_type_kept c.result is before) in
+    ap (λ (h : Heading). refusals_at h (heading_nodes h) ++ of_headings (without_dictionaries before ++ c ∷ []) (without_dictionaries cs)) alike
+    ∙ ap (λ z. z ++ of_headings (without_dictionaries before ++ c ∷ []) (without_dictionaries cs)) here
+    ∙ ap (λ z. of_headings z (without_dictionaries cs)) (sym same) ∙ later
+
+headings_kept : (cs before : SchemaView) → of_headings before cs ≡ [] → of_headings (without_dictionaries before) (without_dictionaries cs) ≡ []
+headings_kept [] before none = refl
+headings_kept (c ∷ cs) before none =
+    heading_kept c cs before (front_none _ (of_headings (before ++ c ∷ []) cs) none)
+    (headings_kept cs (before ++ c ∷ []) (rest_none (refusals_at (heading before c) (heading_nodes (heading before c))) _ none))
+    (is_dictionary c.result) refl
+
+pub kinded_stays : KindedStays
+unfolding refusals
+kinded_stays s none =
+    let within : refusals_within (without_dictionaries s) ≡ [] = rest_none (of_headings [] s) _ none in
+    ap (λ z. z ++ refusals_within (without_dictionaries (without_dictionaries s))) (headings_kept s [] (front_none _ (refusals_within (without_dictionaries s)) none))
+    ∙ ap refusals_within (passed_over s) ∙ within

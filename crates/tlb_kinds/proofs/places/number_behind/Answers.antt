@@ -1,0 +1,19 @@
+use Rattle.std.proofs.Common.{◌≡◌, true, false, arith, ap, sym, ◌∙◌}
+use Rattle.std.specs.Prelude.{bytes_eq}
+use Rattle.std.proofs.lemmas.Grind.{common_steps}
+use Rattle.std.proofs.lemmas.Bool.{false_from_ne_true}
+use Rattle.std.proofs.lemmas.Slice.Eq.{bytes_eq-Decides}
+use Rattle.tlb_kinds.proofs.Counting.{number_more, number_few}
+use Rattle.tlb_kinds.proofs.places.number_behind.Goals as goal
+use Rattle.tlb_kinds.proofs.places.number_behind.Goals.{then-same, else-same}
+
+pub overflow_add-number : goal.overflow_add-number
+overflow_add-number c =
+    let few = number_few c.args.before.now c.loop-constructor.constructor-index c.args.type_name.now in
+    omega (arith, few, c.loop-constructor.invariant)
+
+pub loop-constructor-preserved : goal.loop-constructor-preserved
+loop-constructor-preserved c =
+    let more = number_more c.args.before.now c.loop-constructor.constructor-index c.constructor-item.result c.args.type_name.now (omega arith) c.constructor-item.is in
+    let decides = bytes_eq-Decides c.constructor-item.result.result c.args.type_name.now in
+    elim c.if-same.branch [ then-same w ↦ grind (arith, common_steps, more, decides, w.number-is) | else-same w ↦ grind (arith, common_steps, more, decides, w.number-is) ]

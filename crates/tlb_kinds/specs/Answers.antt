@@ -1,0 +1,34 @@
+-- What judging a schema answers.
+use Rattle.std.specs.Prelude.{◌≡◌, ◌≢◌, List, [], Some, Result, Ok, Err}
+use Rattle.tlb_syntax.specs.declared.tree.Schema.{Schema}
+use Rattle.tlb_syntax.specs.Tree.{SchemaView}
+use Rattle.tlb_syntax.specs.View.{schema}
+use Rattle.kind_terms.specs.Dictionaries.{without_dictionaries}
+use Rattle.kind_rules.specs.Faults.{first}
+use Rattle.tlb_kinds.specs.declared.error.KindError.{KindError}
+use Rattle.tlb_kinds.specs.declared.error.KindError.TheVariants.{NoMemory}
+use Rattle.tlb_kinds.specs.Refusals.{refusals, IsKinded}
+
+-- the first refusal is told, unless memory is wanted
+abbrev pub IsFirst : List KindError → KindError → Type 0
+IsFirst es e = e ≢ NoMemory → first es ≡ Some e
+
+-- a judgement of these refusals: there is none, or the first is told
+abbrev pub Finds : List KindError → Result (Unit {0}) KindError → Type 0
+Finds es (Ok done) = es ≡ []
+Finds es (Err e) = IsFirst es e
+
+-- A schema without a refusal, given without the declarations of dictionaries, or the first refusal.
+abbrev pub IsJudged : SchemaView → Result Schema KindError → Type 0
+IsJudged s (Ok kept) = IsKinded s × (schema kept ≡ without_dictionaries s)
+IsJudged s (Err e) = IsFirst (refusals s) e
+
+-- The schema passes, unless memory is wanted.
+abbrev pub IsPassed : SchemaView → Result Schema KindError → Type 0
+IsPassed s (Ok kept) = schema kept ≡ without_dictionaries s
+IsPassed s (Err e) = e ≢ NoMemory → ⊥
+
+-- The answer is this refusal, unless memory is wanted.
+abbrev pub IsRefused : KindError → Result Schema KindError → Type 0
+IsRefused refusal (Ok kept) = ⊥
+IsRefused refusal (Err e) = e ≢ NoMemory → e ≡ refusal

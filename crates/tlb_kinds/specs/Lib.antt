@@ -1,0 +1,4 @@
+pub mod Spots
+pub mod Refusals
+pub mod Answers
+pub mod Laws

@@ -1,0 +1,17 @@
+//! Whether a TL-B schema is in order: its names, parameters, numbers, outputs, records and widths, and its guard; and if
+//! not, its first refusal. The language is that of the TON documentation on TL-B; where that leaves a point open, the
+//! definitions of this crate and of those below it fix it.
+#![tactic(auto)]
+
+mod check;
+mod error;
+pub mod laws;
+mod places;
+mod spot;
+#[cfg(test)]
+mod tests;
+
+pub use check::{Kinded, kind_check};
+pub use error::KindError;
+pub use kind_terms::Part;
+pub use spot::{FieldPath, Spot};
