@@ -12,8 +12,8 @@ use Rattle.flat_records.specs.Text.{text_of}
 use Rattle.flat_records.specs.declared.declaration.Declaration.{Declaration}
 use Rattle.flat_records.specs.declared.read.Cause.{Cause}
 use Rattle.flat_records.specs.declared.read.Spot.{Spot}
-use Rattle.tlb_cli.specs.Lines.{bag_cause, cause_text, grammar_cause}
-use Rattle.tlb_cli.specs.Outcome.{Verdict, says, cell_refusal, OfCell, stops, holds, OfBag, refused, OfSchema, refused_text}
+use Rattle.tlb_cli.specs.Lines.{bag_cause, cause_text, grammar_cause, kind_cause}
+use Rattle.tlb_cli.specs.Outcome.{Verdict, says, cell_refusal, OfCell, stops, holds, OfBag, refused, OfKinds, refused_schema, OfSchema, refused_text}
 use Rattle.tlb_cli.specs.Schema.{FormOf}
 use Rattle.tlb_cli.specs.View.{verdict_by}
 use Rattle.tlb_cli.specs.declared.answer.Answer.{Answer}
@@ -24,6 +24,11 @@ use Rattle.tlb_edge.specs.Files.{Name}
 use Rattle.tlb_grammar.specs.Answer.{Refuses}
 use Rattle.tlb_grammar.specs.declared.error.GrammarError.{GrammarError}
 use Rattle.tlb_grammar.specs.declared.error.GrammarError.TheVariants as grammar
+use Rattle.kind_rules.specs.Faults.{first}
+use Rattle.tlb_kinds.specs.Refusals.{refusals}
+use Rattle.tlb_kinds.specs.declared.error.KindError.{KindError}
+use Rattle.tlb_kinds.specs.declared.error.KindError.TheVariants as kinds
+use Rattle.tlb_syntax.specs.Tree.{SchemaView}
 use Rattle.typed_value.specs.Val.{Val}
 
 pub bag-refused : {E : Type 0} (r : Result Answer E) (next : Tree → Verdict → Type 0) (bag : List ℕ) (error : BagError) →
@@ -63,6 +68,12 @@ form-found text tokens first None whole cut same none = λ ds form.
 form-found text tokens first (Some ds) whole cut same declares =
     let P : List Token → Type 0 = λ ts. Declares (lexemes text ts) ds in
     record { tokens = tokens; cut = whole; declares = subst P same declares }
+
+pub kinds-refused : {E : Type 0} (r : Result Answer E) (word : Name) (s : SchemaView) (schema bag : List ℕ) (error : KindError) →
+    (error ≢ kinds.NoMemory → first (refusals s) ≡ Some error) → IfOk r (λ a. verdict_by a ≡ says SchemaRefused (codes "refused: schema " ++ kind_cause error)) →
+    IfOk r (λ _. error ≢ kinds.NoMemory) → IfOk r (λ a. OfKinds word s schema bag (verdict_by a))
+kinds-refused (Ok a) word s schema bag error why is memory = refused_schema error (why memory) is
+kinds-refused (Err e) word s schema bag error why is memory = tt
 
 pub schema-refused : {E : Type 0} (r : Result Answer E) (word : Name) (schema bag : List ℕ) (error : GrammarError) →
     (error ≢ grammar.NoMemory → Refuses schema error) → IfOk r (λ a. verdict_by a ≡ says SchemaRefused (codes "refused: schema " ++ grammar_cause error)) →

@@ -12,11 +12,13 @@ use Rattle.flat_records.specs.Text.{text_of}
 use Rattle.flat_records.specs.declared.declaration.Declaration.{Declaration}
 use Rattle.flat_records.specs.declared.read.Cause.{Cause}
 use Rattle.flat_records.specs.declared.read.Spot.{Spot}
-use Rattle.tlb_grammar.proofs.Reading.{refused_at_most_once, not_both_read}
+use Rattle.tlb_grammar.proofs.Reading.{refused_at_most_once, not_both_read, written_at_most_once}
+use Rattle.tlb_kinds.proofs.Firsts.{refused_not_kinded}
 use Rattle.tlb_lexer.proofs.Whole.{cut_once}
 use Rattle.tlb_lexer.specs.declared.Token.{Token}
-use Rattle.tlb_cli.specs.Lines.{bag_cause, cause_text, grammar_cause}
-use Rattle.tlb_cli.specs.Outcome.{Verdict, says, cell_refusal, OfCell, exotic, stops, holds as cell_holds, OfLevels, OfBag, refused, holds, OfType, unknown, named, OfForm, outside, formed, OfSchema, refused_text, written, OfFile, too_long, within, with_file, of_form}
+use Rattle.tlb_syntax.specs.Tree.{SchemaView}
+use Rattle.tlb_cli.specs.Lines.{bag_cause, cause_text, grammar_cause, kind_cause}
+use Rattle.tlb_cli.specs.Outcome.{Verdict, says, cell_refusal, OfCell, exotic, stops, holds as cell_holds, OfLevels, OfBag, refused, holds, OfType, unknown, named, OfForm, outside, formed, OfKinds, refused_schema, kinded, OfSchema, refused_text, written, OfFile, too_long, within, with_file, of_form}
 use Rattle.tlb_cli.specs.Schema.{FormOf}
 use Rattle.tlb_cli.specs.Words.{Form, FileWord, read_form, hash_form, schema_word, bag_word, schema_limit, bag_limit, files_of, HoldsAll}
 use Rattle.tlb_cli.specs.declared.status.Status.TheVariants.{Done, BagRefused, SchemaRefused}
@@ -52,8 +54,8 @@ bag-once next bag once v w (holds t held judged) (refused error why is) = absurd
 bag-once next bag once v w (holds t held judged) (holds t' held' judged') =
     let P : Tree → Type 0 = λ x. next x v in once t' v w (subst P (holds_once bag t t' held held') judged) judged'
 
-some-same : (d e : Declaration) (o : Option Declaration) → o ≡ Some d → o ≡ Some e → d ≡ e
-some-same d e o a b = let same : Some d ≡ Some e = sym a ∙ b in grind arith
+some-same : {X : Type 0} (d e : X) (o : Option X) → o ≡ Some d → o ≡ Some e → d ≡ e
+some-same d e o a b = let same : Some d ≡ Some e = sym a ∙ b in cc
 
 type-once : (word : Name) (ds : List Declaration) (bag : List ℕ) → IsOnce (OfType word ds bag)
 type-once word ds bag v w (unknown none is) (unknown none' is') = is ∙ sym is'
@@ -76,12 +78,21 @@ form-judged-once word schema bag v w (formed ds form judged) (formed es form' ju
     let P : List Declaration → Type 0 = λ x. OfType word x bag v in
     type-once word es bag v w (subst P (forms-same schema ds es form form') judged) judged'
 
+kinds-once : (word : Name) (s : SchemaView) (schema bag : List ℕ) → IsOnce (OfKinds word s schema bag)
+kinds-once word s schema bag v w (refused_schema error first is) (refused_schema error' first' is') =
+    is ∙ ap (λ e. says SchemaRefused (codes "refused: schema " ++ kind_cause e)) (some-same error error' _ first first') ∙ sym is'
+kinds-once word s schema bag v w (refused_schema error first is) (kinded good judged) = absurd (refused_not_kinded s error first good)
+kinds-once word s schema bag v w (kinded good judged) (refused_schema error first is) = absurd (refused_not_kinded s error first good)
+kinds-once word s schema bag v w (kinded good judged) (kinded good' judged') = form-judged-once word schema bag v w judged judged'
+
 schema-once : (word : Name) (schema bag : List ℕ) → IsOnce (OfSchema word schema bag)
 schema-once word schema bag v w (refused_text error why is) (refused_text error' why' is') =
     is ∙ ap (λ e. says SchemaRefused (codes "refused: schema " ++ grammar_cause e)) (refused_at_most_once schema error error' why why') ∙ sym is'
 schema-once word schema bag v w (refused_text error why is) (written s writes judged) = absurd (not_both_read schema s error writes why)
 schema-once word schema bag v w (written s writes judged) (refused_text error why is) = absurd (not_both_read schema s error writes why)
-schema-once word schema bag v w (written s writes judged) (written t writes' judged') = form-judged-once word schema bag v w judged judged'
+schema-once word schema bag v w (written s writes judged) (written t writes' judged') =
+    let P : SchemaView → Type 0 = λ x. OfKinds word x schema bag v in
+    kinds-once word t schema bag v w (subst P (written_at_most_once schema s t writes writes') judged) judged'
 
 file-once : (next : List ℕ → Verdict → Type 0) (name : Name) (limit : ℕ) (bytes : List ℕ) → IsOnce (next bytes) → IsOnce (OfFile next name limit bytes)
 file-once next name limit bytes once v w (too_long more is) (too_long more' is') = is ∙ sym is'

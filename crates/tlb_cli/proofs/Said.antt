@@ -5,9 +5,10 @@ use Rattle.cell_nodes.specs.declared.tree.Tree.{Tree}
 use Rattle.flat_records.specs.declared.declaration.Declaration.{Declaration}
 use Rattle.flat_records.specs.declared.read.Spot.{Spot}
 use Rattle.flat_records.specs.declared.read.Spot.TheVariants.{Root}
+use Rattle.tlb_syntax.specs.Tree.{SchemaView}
 use Rattle.tlb_cli.specs.Causes.{IsAnswer, IsRefusal, IsRefusalLine}
-use Rattle.tlb_cli.specs.Lines.{spaced, spot_text, bag_cause, cause_text, grammar_cause}
-use Rattle.tlb_cli.specs.Outcome.{Verdict, says, cell_refusal, OfCell, exotic, stops, holds as cell_holds, OfLevels, OfBag, refused, holds, OfType, unknown, named, OfForm, outside, formed, OfSchema, refused_text, written}
+use Rattle.tlb_cli.specs.Lines.{spaced, spot_text, bag_cause, cause_text, grammar_cause, kind_cause}
+use Rattle.tlb_cli.specs.Outcome.{Verdict, says, cell_refusal, OfCell, exotic, stops, holds as cell_holds, OfLevels, OfBag, refused, holds, OfType, unknown, named, OfForm, outside, formed, OfKinds, refused_schema, kinded, OfSchema, refused_text, written}
 use Rattle.tlb_cli.specs.declared.status.Status.{Status}
 use Rattle.tlb_cli.specs.declared.status.Status.TheVariants.{Done, Usage, ReadFault, WriteFault, TooLong, SchemaRefused, BagRefused, TypeRefused, CellRefused, NoMemory}
 
@@ -60,9 +61,13 @@ form-said : (word : Name) (schema bag : List ℕ) (v : Verdict) → OfForm word 
 form-said word schema bag v (outside none is) = same v _ is (line SchemaRefused (codes "schema Unsupported") tt)
 form-said word schema bag v (formed ds form judged) = type-said word ds bag v judged
 
+kinds-said : (word : Name) (s : SchemaView) (schema bag : List ℕ) (v : Verdict) → OfKinds word s schema bag v → IsSaid v
+kinds-said word s schema bag v (refused_schema error first is) = same v _ is (line SchemaRefused (codes "schema " ++ kind_cause error) tt)
+kinds-said word s schema bag v (kinded good judged) = form-said word schema bag v judged
+
 pub schema-said : (word : Name) (schema bag : List ℕ) (v : Verdict) → OfSchema word schema bag v → IsSaid v
 schema-said word schema bag v (refused_text error why is) = same v _ is (line SchemaRefused (codes "schema " ++ grammar_cause error) tt)
-schema-said word schema bag v (written s writes judged) = form-said word schema bag v judged
+schema-said word schema bag v (written s writes judged) = kinds-said word s schema bag v judged
 
 answers : (s : Status) → IsFound s → IsAnswer s
 answers Usage found = found

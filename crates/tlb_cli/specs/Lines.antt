@@ -10,6 +10,11 @@ use Rattle.tlb_lexer.specs.declared.LexError.TheVariants as token
 use Rattle.tlb_lexer.specs.declared.LexError.TheVariants.{BadCharacter, OpenComment, TooLongName}
 use Rattle.tlb_grammar.specs.declared.error.GrammarError.{GrammarError}
 use Rattle.tlb_grammar.specs.declared.error.GrammarError.TheVariants as grammar
+use Rattle.kind_terms.specs.declared.part.Part.{Part}
+use Rattle.kind_terms.specs.declared.part.Part.TheVariants as places
+use Rattle.tlb_kinds.specs.declared.error.KindError.{KindError}
+use Rattle.tlb_kinds.specs.declared.error.KindError.TheVariants as kinds
+use Rattle.tlb_kinds.specs.declared.spot.Spot.{Spot as At}
 use Rattle.cell_nodes.specs.Tree.{hash, depth}
 use Rattle.cell_nodes.specs.declared.tree.Tree.{Tree}
 use Rattle.flat_records.specs.Form.{field_name}
@@ -71,6 +76,37 @@ grammar_cause (grammar.TooManyConstructors place) = numbered (codes "TooManyCons
 grammar_cause (grammar.TooManyFields place) = numbered (codes "TooManyFields") place
 grammar_cause (grammar.TooManyParams place) = numbered (codes "TooManyParams") place
 grammar_cause grammar.NoMemory = []
+
+-- a shown part of the path to an item
+abbrev pub part_text : Part → List ℕ
+part_text (places.Named x) = x
+part_text (places.Check place) = codes "{" ++ decimal place ++ codes "}"
+part_text places.Tag = codes "$"
+part_text places.Result = codes "="
+
+-- each behind a dot
+abbrev pub dotted : List Part → List ℕ
+dotted [] = []
+dotted (p ∷ ps) = codes "." ++ part_text p ++ dotted ps
+
+-- TYPE.CONSTRUCTOR.ITEM
+abbrev pub item_text : At → List ℕ
+item_text s = s.type_name ++ codes "." ++ s.constructor ++ dotted s.item.parts
+
+-- the cause and the place of a refusal by the kinds; none is refused for want of memory
+abbrev pub kind_cause : KindError → List ℕ
+kind_cause (kinds.UnknownType s) = spaced (codes "UnknownType") (item_text s)
+kind_cause (kinds.UnknownName s) = spaced (codes "UnknownName") (item_text s)
+kind_cause (kinds.Arity s) = spaced (codes "Arity") (item_text s)
+kind_cause (kinds.KindMismatch s) = spaced (codes "KindMismatch") (item_text s)
+kind_cause (kinds.OutputUnderRef s) = spaced (codes "OutputUnderRef") (item_text s)
+kind_cause (kinds.NotLinear s) = spaced (codes "NotLinear") (item_text s)
+kind_cause (kinds.TwiceNamed s) = spaced (codes "TwiceNamed") (item_text s)
+kind_cause (kinds.Undetermined s) = spaced (codes "Undetermined") (item_text s)
+kind_cause (kinds.TooWide s) = spaced (codes "TooWide") (item_text s)
+kind_cause (kinds.Reserved s) = spaced (codes "Reserved") (item_text s)
+kind_cause (kinds.Unguarded s) = spaced (codes "Unguarded") (item_text s)
+kind_cause kinds.NoMemory = []
 
 -- the name of the field with that number, where there is one
 abbrev pub name_at : List Field → ℕ → List ℕ

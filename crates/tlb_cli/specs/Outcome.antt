@@ -16,8 +16,10 @@ use Rattle.tlb_syntax.specs.Tree.{SchemaView}
 use Rattle.tlb_syntax.specs.Written.{Writes}
 use Rattle.tlb_grammar.specs.Answer.{Refuses}
 use Rattle.tlb_grammar.specs.declared.error.GrammarError.{GrammarError}
+use Rattle.tlb_kinds.specs.Refusals.{IsKinded, first_refusal}
+use Rattle.tlb_kinds.specs.declared.error.KindError.{KindError}
 use Rattle.typed_value.specs.Val.{Val}
-use Rattle.tlb_cli.specs.Lines.{line_of, spaced, bag_cause, grammar_cause, spot_text, cause_text, level_lines}
+use Rattle.tlb_cli.specs.Lines.{line_of, spaced, bag_cause, grammar_cause, kind_cause, spot_text, cause_text, level_lines}
 use Rattle.tlb_cli.specs.Schema.{FormOf}
 use Rattle.tlb_cli.specs.Words.{Form, TypedWords, read_form, hash_form, form_of, schema_limit, bag_limit}
 use Rattle.tlb_cli.specs.declared.status.Status.{Status}
@@ -75,10 +77,15 @@ pub data OfForm (word : Name) (schema bag : List ℕ) (v : Verdict) : Type 0 whe
   outside : ((ds : List Declaration) → FormOf schema ds → ⊥) → v ≡ says SchemaRefused (codes "refused: schema Unsupported") → OfForm word schema bag v
   formed : (ds : List Declaration) → FormOf schema ds → OfType word ds bag v → OfForm word schema bag v
 
--- A schema's text is refused, or it writes a schema, whose form is judged.
+-- A schema is refused by its kinds or its guard, or its form is judged.
+pub data OfKinds (word : Name) (s : SchemaView) (schema bag : List ℕ) (v : Verdict) : Type 0 where
+  refused_schema : (error : KindError) → first_refusal s ≡ Some error → v ≡ says SchemaRefused (codes "refused: schema " ++ kind_cause error) → OfKinds word s schema bag v
+  kinded : IsKinded s → OfForm word schema bag v → OfKinds word s schema bag v
+
+-- A schema's text is refused, or it writes a schema, which is judged.
 pub data OfSchema (word : Name) (schema bag : List ℕ) (v : Verdict) : Type 0 where
   refused_text : (error : GrammarError) → Refuses schema error → v ≡ says SchemaRefused (codes "refused: schema " ++ grammar_cause error) → OfSchema word schema bag v
-  written : (s : SchemaView) → Writes schema s → OfForm word schema bag v → OfSchema word schema bag v
+  written : (s : SchemaView) → Writes schema s → OfKinds word s schema bag v → OfSchema word schema bag v
 
 -- A file has more bytes than its limit, or they are judged.
 pub data OfFile (next : List ℕ → Verdict → Type 0) (name : Name) (limit : ℕ) (bytes : List ℕ) (v : Verdict) : Type 0 where

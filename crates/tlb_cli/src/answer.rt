@@ -5,17 +5,20 @@ ghost use Rattle.bag_cells.specs.declared.error.BagError.TheVariants.{NoMemory a
 ghost use Rattle.cell_nodes.specs.Tree.{is_exotic};
 ghost use Rattle.cell_nodes.specs.declared.tree.Tree.{out-Tree};
 ghost use Rattle.flat_records.specs.Form.{AreShaped, AreShapedFields};
-ghost use Rattle.tlb_syntax.specs.Tree.{SchemaView};
-ghost use Rattle.tlb_syntax.specs.Written.{Writes};
-ghost use Rattle.tlb_grammar.specs.Answer.{IfRead, Refuses};
+ghost use Rattle.tlb_syntax.specs.Limits.{IsWithinLimits};
+ghost use Rattle.tlb_syntax.specs.View.{schema as schema_view};
+ghost use Rattle.tlb_kinds.specs.Answers.{Finds};
+ghost use Rattle.tlb_kinds.specs.Refusals.{refusals};
+ghost use Rattle.tlb_kinds.specs.declared.error.KindError.TheVariants.{NoMemory as NoRoom};
 ghost use Rattle.tlb_grammar.specs.declared.error.GrammarError.TheVariants.{NoMemory as WantOfMemory};
 ghost use Rattle.tlb_cli.specs.Causes.{Judges, ReadFails, IsTooLong, IsAnswer, IsRefusal, IsRefusalLine};
-ghost use Rattle.tlb_cli.specs.Lines.{bag_cause, grammar_cause};
-ghost use Rattle.tlb_cli.specs.Outcome.{OfCell, OfLevels, OfBag, OfType, OfForm, OfSchema, cell_refusal, says, read_line, long_line, long_refusal};
+ghost use Rattle.tlb_cli.specs.Lines.{bag_cause, grammar_cause, kind_cause};
+ghost use Rattle.tlb_cli.specs.Outcome.{OfCell, OfLevels, OfBag, OfType, OfForm, OfKinds, OfSchema, cell_refusal, says, read_line, long_line, long_refusal};
 ghost use Rattle.tlb_cli.specs.View.{form_by, verdict_by, words_by};
 ghost use Rattle.tlb_cli.specs.Words.{files_of, read_form, hash_form};
 
 use crate::command::{Command, Typed};
+use crate::kind_lines::kind_words;
 use crate::lines::{bag_words, cause_words, grammar_words, level_lines, spot_words};
 use crate::load::{LoadError, load};
 use crate::schema::read_form;
@@ -25,7 +28,8 @@ use cell_nodes::{Cell, Kind};
 use flat_records::{Declaration, ReadError, Spot, of_type, print, read_record};
 use std::alloc::Global;
 use tlb_edge::Shelf;
-use tlb_grammar::{GrammarError, read_schema};
+use tlb_grammar::{GrammarError, Schema, read_schema};
+use tlb_kinds::{KindError, kind_check};
 use tlb_memory::NoMemory;
 
 const SCHEMA_LIMIT: usize = 1_048_576;
@@ -154,7 +158,7 @@ fn refuse_schema(alloc: Global, error: GrammarError) -> Result<Answer, NoMemory>
     refusal(alloc, Status::SchemaRefused, b"refused: schema ", &words)
 }
 
-// What follows where the text writes a schema.
+// What follows where the schema passes.
 fn judge_form(
     alloc: Global,
     type_word: &str,
@@ -172,14 +176,38 @@ fn judge_form(
     }
 }
 
-// Whether the text writes a schema, or its refusal.
-fn check_schema(alloc: Global, schema: &[u8]) -> Result<(), GrammarError>
-    requires { length schema.now ≤ 1048576 }
-    ensures { IfRead result (λ _. (s : SchemaView) × Writes schema.now s) (λ e. Refuses schema.now e) }
+fn refuse_kinds(alloc: Global, error: &KindError) -> Result<Answer, NoMemory>
+    ensures refused { IfOk result (λ a. verdict_by a ≡ says Status.SchemaRefused (codes "refused: schema " ++ kind_cause error.now)) }
+    ensures memory { IfOk result (λ _. error.now ≢ NoRoom) }
 {
-    match read_schema(alloc, schema) {
-        Ok(_) => Ok(()),
-        Err(error) => Err(error),
+    let words = kind_words(alloc, error)?;
+    refusal(alloc, Status::SchemaRefused, b"refused: schema ", &words)
+}
+
+// Whether the schema passes, or its first refusal; the schema is given back first.
+fn check_kinds(alloc: Global, tree: Schema) -> Result<(), KindError>
+    requires { IsWithinLimits (schema_view tree) }
+    ensures { Finds (refusals (schema_view tree)) result }
+{
+    kind_check(alloc, tree)?;
+    Ok(())
+}
+
+// What follows where the text writes this schema.
+fn judge_kinds(
+    alloc: Global,
+    type_word: &str,
+    tree: Schema,
+    schema: Vec<u8>,
+    bag: Vec<u8>,
+) -> Result<Answer, NoMemory>
+    requires limits { IsWithinLimits (schema_view tree) }
+    requires short { length schema.items ≤ 1048576 }
+    ensures { IfOk result (λ a. OfKinds type_word.now (schema_view tree) schema.items bag.items (verdict_by a)) }
+{
+    match check_kinds(alloc, tree) {
+        Ok(()) => judge_form(alloc, type_word, schema, bag),
+        Err(error) => refuse_kinds(alloc, &error),
     }
 }
 
@@ -193,8 +221,8 @@ fn judge_read(
     requires { length schema.items ≤ 1048576 }
     ensures { IfOk result (λ a. OfSchema type_word.now schema.items bag.items (verdict_by a)) }
 {
-    match check_schema(alloc, &schema) {
-        Ok(()) => judge_form(alloc, type_word, schema, bag),
+    match read_schema(alloc, &schema) {
+        Ok(tree) => judge_kinds(alloc, type_word, tree, schema, bag),
         Err(error) => refuse_schema(alloc, error),
     }
 }

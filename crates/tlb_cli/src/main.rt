@@ -3,6 +3,7 @@
 
 mod answer;
 mod command;
+mod kind_lines;
 mod laws;
 mod lines;
 mod load;

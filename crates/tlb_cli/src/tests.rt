@@ -205,14 +205,23 @@ fn a_refused_schema_is_shown_with_its_cause_and_place(rt: HostRuntime) -> Result
         (deep.as_str(), "DeepType 70"),
         (params.as_str(), "TooManyParams 24"),
         (fields.as_str(), "TooManyFields 514"),
-        ("x$_ = A;", "Unsupported"),
+        ("a$_ x:T = T;", "Unguarded T.a.x"),
+        ("a$_ x:Nope = T;", "UnknownType T.a.x"),
+        ("a$_ {n:#} = T;", "Undetermined T.a.n"),
+        ("a$_ x:uint300 = T;", "TooWide T.a.x"),
+        ("a$_ {1 = ~k} = T;", "UnknownName T.a.{1}"),
+        (
+            "_$0 = T; _$1 _:# _:[ y:Any z:y ] = T;",
+            "KindMismatch T._2._2.z",
+        ),
+        ("x$_ = A;", "Reserved A.x.="),
         ("a = A;", "Unsupported"),
         ("a#8 = A;", "Unsupported"),
         ("a$_ x:(uint8) = A;", "Unsupported"),
         ("a$_ x:^Cell = A;", "Unsupported"),
         ("a$_ x:uint129 = A;", "Unsupported"),
         ("a$0 = A; b$1 = A;", "Unsupported"),
-        ("a$_ = uint8;", "Unsupported"),
+        ("a$_ = uint8;", "Reserved uint8.a.="),
     ] {
         let held = files(alloc, schema, EMPTY)?;
         let (status, output) = answer(alloc, "read s A b", held, 0, 0)?;
