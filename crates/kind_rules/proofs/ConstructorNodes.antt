@@ -1,6 +1,6 @@
 -- The nodes of a constructor.
-use Rattle.std.proofs.Common.{◌≡◌, ap, sym, ◌∙◌, refl, subst, ℕ, List, [], ◌∷◌, ◌++◌, map}
-use Rattle.std.specs.Prelude.{None, Result, Ok, Err}
+use Rattle.std.proofs.Common.{◌≡◌, ap, sym, ◌∙◌, refl, subst, List, [], ◌∷◌, ◌++◌, map}
+use Rattle.std.specs.Prelude.{None, Result, Err}
 use Rattle.std.proofs.lemmas.List.{map-append}
 use Rattle.tlb_syntax.specs.declared.tree.Constructor.{Constructor}
 use Rattle.tlb_syntax.specs.declared.tree.Expr.{Expr}
@@ -9,7 +9,6 @@ use Rattle.tlb_syntax.specs.View.{constructor, exprs, items}
 use Rattle.tlb_syntax.specs.Tree.{ConstructorView, SchemaView}
 use Rattle.kind_terms.specs.declared.part.Part.{Part}
 use Rattle.kind_terms.specs.declared.part.Part.TheVariants as places
-use Rattle.kind_terms.specs.declared.scope.Entry.{Entry as ProgramEntry}
 use Rattle.kind_terms.specs.Params.{inputs}
 use Rattle.kind_terms.specs.Words.{Word}
 use Rattle.kind_terms.specs.Scopes.{Scope, at_end, made_known}
@@ -21,7 +20,7 @@ use Rattle.kind_rules.specs.Nodes.{Judged, constructor_nodes, first_place, outpu
 use Rattle.kind_rules.specs.Faults.{Judges, verdict}
 use Rattle.kind_rules.specs.Views.{Follows, all_by, first_by, part_by, path_by, scope_by, scope_of, words}
 use Rattle.kind_rules.proofs.OutputNodes.{outputs_alike}
-use Rattle.kind_rules.proofs.Verdicts.{judged_from, passed_then, passed_verdict, refused_then}
+use Rattle.kind_rules.proofs.Verdicts.{judged_from, passed_then, refused_then}
 
 -- ---- its items, then its outputs
 

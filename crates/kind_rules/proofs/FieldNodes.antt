@@ -1,13 +1,12 @@
 -- The names of fields, and the first causes that one test decides.
 use Rattle.std.proofs.Common.{◌≡◌, ap, sym, ◌∙◌, refl, List, [], ◌∷◌, ◌++◌, Bool, true, false, ◌||◌}
-use Rattle.std.specs.Prelude.{Option, Some, None, Ok, Err, if◌then◌else◌, bytes_eq}
+use Rattle.std.specs.Prelude.{Some, None, Ok, Err, if◌then◌else◌, bytes_eq}
 use Rattle.std.proofs.lemmas.List.Folds.{list_any-append}
 use Rattle.kind_terms.specs.declared.part.Part.{Part}
 use Rattle.kind_terms.specs.Words.{Word, is_among}
-use Rattle.kind_rules.specs.declared.error.Cause.{Cause}
 use Rattle.kind_rules.specs.declared.error.Cause.TheVariants.{TwiceNamed}
 use Rattle.kind_rules.specs.declared.error.Fault.TheVariants.{Refused}
-use Rattle.kind_rules.specs.Nodes.{Node, Judged, a_field, name_at}
+use Rattle.kind_rules.specs.Nodes.{a_field, name_at}
 use Rattle.kind_rules.specs.Faults.{Judges, causes, first, verdict}
 use Rattle.kind_rules.proofs.Verdicts.{passed_here, refused_here, verdict_none}
 

@@ -1,6 +1,6 @@
 -- Nodes judged part by part.
 use Rattle.std.proofs.Common.{◌≡◌, ◌∙◌, ap, sym, subst}
-use Rattle.std.specs.Prelude.{List, ◌∷◌, ◌++◌, map, Option, Some, None, Result, Ok, Err, IsErrAnd}
+use Rattle.std.specs.Prelude.{List, ◌∷◌, ◌++◌, map, Some, None, Result, Err, IsErrAnd}
 use Rattle.kind_terms.specs.declared.part.Part.{Part}
 use Rattle.kind_rules.specs.declared.error.Cause.{Cause}
 use Rattle.kind_rules.specs.declared.error.Fault.{Fault}

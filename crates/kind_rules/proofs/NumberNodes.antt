@@ -1,21 +1,21 @@
 -- The nodes of numbers and outputs.
-use Rattle.std.proofs.Common.{◌≡◌, ◌⊎◌, inl, inr, ap, sym, ◌∙◌, refl, ℕ, ◌+◌, ◌<◌, ◌≤◌, List, [], ◌∷◌, ◌++◌, map, drop, length, get_or}
+use Rattle.std.proofs.Common.{◌≡◌, ◌⊎◌, inl, inr, ap, sym, ◌∙◌, refl, ℕ, ◌+◌, ◌<◌, ◌≤◌, List, [], ◌∷◌, ◌++◌, drop, length, get_or}
 use Rattle.std.specs.Prelude.{Option, Some, None, Result, Err}
 use Rattle.tlb_syntax.specs.declared.tree.Expr.{Expr}
 use Rattle.tlb_syntax.specs.declared.tree.Item.{Item}
-use Rattle.tlb_syntax.specs.declared.tree.Expr.TheVariants.{Lit, Named, Nat32, Bits, Below, UpTo, Sum, Star, Out, Ref, Group}
+use Rattle.tlb_syntax.specs.declared.tree.Expr.TheVariants.{Lit, Named, Nat32, Bits, Below, UpTo, Star, Out, Ref, Group}
 use Rattle.tlb_syntax.specs.View.{expr, exprs}
-use Rattle.tlb_syntax.specs.Tree.{ExprView, ExprList, lit, named, nat32, bits, below, up_to, plus, star, out, ref, group, no_exprs, an_expr, exprs_of, nested, sum_of}
+use Rattle.tlb_syntax.specs.Tree.{ExprView, ExprList, lit, named, nat32, bits, below, up_to, plus, star, out, ref, group, no_exprs, an_expr}
 use Rattle.kind_terms.specs.declared.part.Part.{Part}
 use Rattle.kind_terms.specs.Words.{Word}
 use Rattle.kind_terms.specs.Params.{greatest}
 use Rattle.kind_rules.specs.declared.error.Fault.{Fault}
-use Rattle.kind_rules.specs.Dues.{Due, a_number, an_output, a_type}
-use Rattle.kind_rules.specs.Nodes.{At, Judged, arg_nodes, expr_nodes, use_at, left_due, right_due, sum_due}
+use Rattle.kind_rules.specs.Dues.{Due, a_number, an_output}
+use Rattle.kind_rules.specs.Nodes.{At, arg_nodes, expr_nodes, use_at}
 use Rattle.kind_rules.specs.Faults.{Judges, verdict}
 use Rattle.kind_rules.specs.Parts.{number_nodes}
 use Rattle.kind_rules.proofs.Verdicts.{judged_from, passed_verdict, refused_then, verdict_none}
-use Rattle.kind_rules.proofs.Forms.{drop_at, drop_end, seen_lit, seen_named, seen_nat32, seen_bits, seen_below, seen_up_to, seen_sum, seen_star, seen_out, seen_ref, seen_group}
+use Rattle.kind_rules.proofs.Forms.{drop_at, drop_end, seen_lit, seen_named, seen_nat32, seen_bits, seen_below, seen_up_to, seen_star, seen_out, seen_ref, seen_group}
 
 pub append_none : {X : Type 0} (xs : List X) → xs ++ [] ≡ xs
 append_none [] = refl

@@ -1,9 +1,9 @@
 -- The nodes of a result's outputs.
-use Rattle.std.proofs.Common.{◌≡◌, ◌⊎◌, inl, inr, ◌<◌, ◌≤◌, ◌+◌, ap, sym, ◌∙◌, refl, arith, ℕ, List, [], ◌∷◌, ◌++◌, map, length, drop, get_or}
-use Rattle.std.specs.Prelude.{Option, Some, None, Result, Ok, Err}
+use Rattle.std.proofs.Common.{◌≡◌, ◌⊎◌, inl, inr, ◌<◌, ◌≤◌, ◌+◌, ap, sym, ◌∙◌, refl, ℕ, List, [], ◌++◌, length, drop, get_or}
+use Rattle.std.specs.Prelude.{Option, Some, None, Result, Err}
 use Rattle.tlb_syntax.specs.declared.tree.Expr.{Expr}
 use Rattle.tlb_syntax.specs.declared.tree.Item.{Item}
-use Rattle.tlb_syntax.specs.declared.tree.Expr.TheVariants.{Lit, Named, Nat32, Bits, Below, UpTo, Sum, Star, Out, Ref, Group}
+use Rattle.tlb_syntax.specs.declared.tree.Expr.TheVariants.{Lit, Named, Nat32, Bits, Below, UpTo, Star, Ref, Group}
 use Rattle.tlb_syntax.specs.View.{expr, exprs}
 use Rattle.tlb_syntax.specs.Tree.{ExprView, ExprList, lit, named, nat32, bits, below, up_to, plus, star, out, ref, group, no_exprs, an_expr}
 use Rattle.kind_terms.specs.declared.part.Part.{Part}

@@ -14,7 +14,7 @@ use Rattle.kind_terms.specs.Sought.{sought}
 use Rattle.kind_rules.specs.Dues.{a_number}
 use Rattle.tlb_syntax.specs.Limits.{AreExprs, AreItems, IsExpr, IsItem, item_count}
 use Rattle.tlb_syntax.specs.View.{constructor, expr, exprs, field_type, item, items}
-use Rattle.tlb_syntax.specs.Tree.{an_expr, an_item, explicit, ItemList, ExprView, ItemView, SchemaView}
+use Rattle.tlb_syntax.specs.Tree.{an_expr, explicit, ItemList, ItemView, SchemaView}
 use Rattle.kind_terms.specs.declared.part.Part.{Part}
 use Rattle.kind_terms.specs.declared.kind.Kind.{Kind}
 use Rattle.kind_terms.specs.declared.scope.Entry.{Entry as ProgramEntry}
@@ -24,7 +24,7 @@ use Rattle.kind_terms.specs.Scopes.{at_end, behind, inside, declares, given_out,
 use Rattle.kind_rules.specs.declared.error.Fault.{Fault}
 use Rattle.kind_rules.specs.declared.row.Row.{Row}
 use Rattle.kind_rules.specs.declared.scope.Scope.{Scope as State}
-use Rattle.kind_rules.specs.Nodes.{At, Judged, arg_nodes, at, expr_nodes, first_inside, is_blank, item_nodes, kind_due, name_at, next, record_nodes, type_nodes}
+use Rattle.kind_rules.specs.Nodes.{Judged, arg_nodes, at, expr_nodes, first_inside, is_blank, item_nodes, kind_due, name_at, next, record_nodes, type_nodes}
 use Rattle.kind_rules.specs.Faults.{Judges, verdict}
 use Rattle.kind_rules.specs.Views.{Follows, HasNamed, at_by, behind_name, first_by, path_by, here_by, scope_by, scope_of, words}
 use Rattle.kind_rules.proofs.Forms.{drop_at, drop_end, item_at, item_end, seen_check, seen_explicit}

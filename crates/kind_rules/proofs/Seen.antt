@@ -1,12 +1,12 @@
 -- What the parts of the state are seen as.
-use Rattle.std.proofs.Common.{◌≡◌, ap, sym, ◌∙◌, List, [], ◌∷◌, ◌++◌, map, refl, take, drop}
+use Rattle.std.proofs.Common.{◌≡◌, ap, ◌∙◌, List, [], ◌∷◌, ◌++◌, map, refl, take, drop}
 use Rattle.std.proofs.lemmas.List.{take-append-drop}
 use Rattle.tlb_syntax.specs.View.{constructor}
 use Rattle.kind_terms.specs.Words.{Word, is_among}
 use Rattle.kind_terms.specs.Views.{entry_of}
-use Rattle.kind_terms.specs.Scopes.{Entry, meaning_in, meaning_of, is_known}
+use Rattle.kind_terms.specs.Scopes.{meaning_in, meaning_of, is_known}
 use Rattle.kind_rules.specs.declared.scope.Scope.{Scope as State}
-use Rattle.kind_rules.specs.Views.{scope_by, scope_of, words}
+use Rattle.kind_rules.specs.Views.{scope_by, scope_of}
 
 pub map_append : {X Y : Type 0} (f : X → Y) (xs ys : List X) → map f xs ++ map f ys ≡ map f (xs ++ ys)
 map_append f [] ys = refl

@@ -4,23 +4,22 @@ use Rattle.std.specs.Prelude.{Option, Some, None, Result, Ok, Err, if◌then◌e
 use Rattle.std.proofs.lemmas.Bool.{le-ltb}
 use Rattle.tlb_syntax.specs.declared.tree.Expr.{Expr}
 use Rattle.tlb_syntax.specs.View.{expr, exprs}
-use Rattle.tlb_syntax.specs.Tree.{ExprView, ExprList, lit, plus, no_exprs, an_expr, exprs_of, nested, sum_of}
+use Rattle.tlb_syntax.specs.Tree.{ExprView, lit, plus, exprs_of, nested, sum_of}
 use Rattle.kind_terms.specs.Closed.{closed, exceeds}
 use Rattle.kind_terms.specs.declared.part.Part.{Part}
 use Rattle.kind_terms.specs.Params.{greatest}
 use Rattle.kind_terms.specs.Scopes.{Scope}
 use Rattle.kind_terms.specs.Words.{Word}
-use Rattle.kind_rules.specs.declared.error.Cause.{Cause}
 use Rattle.kind_rules.specs.declared.error.Cause.TheVariants.{TooWide}
 use Rattle.kind_rules.specs.declared.error.Fault.{Fault}
 use Rattle.kind_rules.specs.declared.error.Fault.TheVariants.{Refused, NoMemory}
 use Rattle.kind_rules.specs.Dues.{a_number}
-use Rattle.kind_rules.specs.Nodes.{At, a_use, expr_nodes, judged}
+use Rattle.kind_rules.specs.Nodes.{At, a_use, expr_nodes}
 use Rattle.kind_rules.specs.Faults.{FaultAt, Judges, causes, fault_at, first, verdict}
 use Rattle.kind_rules.specs.Parts.{number_nodes}
 use Rattle.kind_rules.specs.Sums.{is_past_total, is_sum_past}
 use Rattle.kind_rules.proofs.NumberNodes.{append_none}
-use Rattle.kind_rules.proofs.Verdicts.{append_assoc, or_else, fault_of, verdict_append, verdict_node, verdict_none}
+use Rattle.kind_rules.proofs.Verdicts.{append_assoc, or_else, fault_of, verdict_node, verdict_none}
 
 first_if : {X : Type 0} (b : Bool) (x : X) → first (if b then x ∷ [] else []) ≡ (if b then Some x else None)
 first_if true x = refl

@@ -1,5 +1,5 @@
 -- Totals that stop at the greatest number of the type.
-use Rattle.std.proofs.Common.{◌≡◌, ◌≤◌, ◌<◌, ◌+◌, ◌-◌, ◌^◌, ap, sym, ◌∙◌, refl, arith, ℕ, List, [], ◌∷◌, map, length, drop, get_or, min, Bool, false, suc, add-one, ◌||◌}
+use Rattle.std.proofs.Common.{◌≡◌, ◌<◌, ◌+◌, ap, sym, ◌∙◌, refl, arith, ℕ, List, [], ◌∷◌, map, length, drop, get_or, min, Bool, false, suc, add-one, ◌||◌}
 use Rattle.std.specs.Prelude.{Option, Some, None, option_map, nat_lt}
 use Rattle.std.proofs.lemmas.Bool.Decides.{nat_tests}
 use Rattle.nat_solver.specs.Number.{exact_sum}

@@ -1,26 +1,25 @@
 -- The nodes of types and of their parts.
-use Rattle.std.proofs.Common.{◌≡◌, ◌<◌, ◌≤◌, ◌+◌, ap, sym, ◌∙◌, refl, arith, ℕ, suc, List, [], ◌∷◌, ◌++◌, map, length, drop, get_or, not, Bool, ◌⊎◌, inl, inr}
-use Rattle.std.specs.Prelude.{Option, Some, None, Result, Ok, Err}
+use Rattle.std.proofs.Common.{◌≡◌, ap, sym, ◌∙◌, refl, ℕ, List, [], ◌++◌, Bool, ◌⊎◌, inl, inr}
+use Rattle.std.specs.Prelude.{Some, None, Result}
 use Rattle.tlb_syntax.specs.declared.tree.Expr.{Expr}
-use Rattle.tlb_syntax.specs.declared.tree.Expr.TheVariants.{Lit, Named, Nat32, Out, Sum, Star}
+use Rattle.tlb_syntax.specs.declared.tree.Expr.TheVariants.{Lit, Named, Nat32, Out, Star}
 use Rattle.tlb_syntax.specs.View.{expr, exprs}
-use Rattle.tlb_syntax.specs.Tree.{ExprView, ExprList, lit, named, nat32, bits, below, up_to, plus, star, out, ref, group, no_exprs, an_expr}
+use Rattle.tlb_syntax.specs.Tree.{ExprView, lit, named, nat32, bits, below, up_to, plus, star, out, ref, group}
 use Rattle.kind_terms.specs.declared.part.Part.{Part}
 use Rattle.kind_terms.specs.declared.kind.Kind.{Kind}
 use Rattle.kind_terms.specs.declared.kind.Kind.TheVariants.{NoKind}
 use Rattle.kind_terms.specs.Words.{Word}
 use Rattle.kind_terms.specs.Types.{type_named, parameters, has_exprs}
-use Rattle.kind_terms.specs.Scopes.{given_out}
 use Rattle.kind_rules.specs.declared.due.Stand.{Stand}
 use Rattle.kind_rules.specs.declared.due.Stand.TheVariants.{Inner}
 use Rattle.kind_rules.specs.declared.error.Fault.{Fault}
 use Rattle.kind_rules.specs.Dues.{a_type}
-use Rattle.kind_rules.specs.Nodes.{At, Judged, arg_nodes, expr_nodes, kind_due, number_due, use_at}
+use Rattle.kind_rules.specs.Nodes.{At, arg_nodes, expr_nodes, kind_due, number_due, use_at}
 use Rattle.kind_rules.specs.Parts.{part_nodes}
 use Rattle.kind_rules.specs.Faults.{Judges, verdict}
-use Rattle.kind_rules.proofs.Forms.{seen_lit, seen_nat32, seen_out, seen_named, seen_star, drop_at, drop_end}
-use Rattle.kind_rules.proofs.NumberNodes.{append_none, arg_none, none_due}
-use Rattle.kind_rules.proofs.Verdicts.{judged_from, passed_verdict, refused_then, verdict_none}
+use Rattle.kind_rules.proofs.Forms.{seen_lit, seen_nat32, seen_out, seen_named, seen_star}
+use Rattle.kind_rules.proofs.NumberNodes.{none_due}
+use Rattle.kind_rules.proofs.Verdicts.{judged_from, verdict_none}
 
 -- the node of a type, and those of its parts
 pub type_split : (e : ExprView) (a : At) (w : Stand)

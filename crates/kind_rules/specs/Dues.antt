@@ -1,6 +1,6 @@
 -- What is due where an expression stands.
 use Rattle.std.specs.Prelude.{ℕ, ◌&&◌, not, List, Bool, true, false, Option, Some, None, is_some, if◌then◌else◌}
-use Rattle.tlb_syntax.specs.Tree.{ExprView, ExprList, lit, named, nat32, bits, below, up_to, plus, star, out, ref, group, no_exprs, an_expr}
+use Rattle.tlb_syntax.specs.Tree.{ExprView, ExprList, lit, named, nat32, bits, below, up_to, plus, star, out, ref, group, no_exprs}
 use Rattle.kind_rules.specs.declared.due.Stand.{Stand}
 use Rattle.kind_terms.specs.declared.scope.Meaning.{Meaning}
 use Rattle.kind_terms.specs.Words.{Word}

@@ -1,5 +1,5 @@
 -- The rules on what is known.
-use Rattle.std.specs.Prelude.{◌&&◌, ◌||◌, not, List, [], Bool, true, false, Option, Some, None, bytes_eq}
+use Rattle.std.specs.Prelude.{◌&&◌, ◌||◌, not, List, [], Bool, false, Option, Some, None, bytes_eq}
 use Rattle.tlb_syntax.specs.Tree.{ExprView}
 use Rattle.kind_terms.specs.Words.{Word, is_among}
 use Rattle.kind_terms.specs.Params.{bare_name}

@@ -6,7 +6,7 @@ use Rattle.kind_terms.specs.declared.part.Part.TheVariants as places
 use Rattle.kind_terms.specs.Words.{Word}
 use Rattle.kind_terms.specs.declared.kind.Kind.{Kind}
 use Rattle.kind_terms.specs.declared.kind.Kind.TheVariants.{NumberIn, TypeIn, NumberOut, NoKind}
-use Rattle.kind_terms.specs.Params.{greatest, inputs, option_list}
+use Rattle.kind_terms.specs.Params.{greatest, inputs}
 use Rattle.kind_terms.specs.Types.{type_named, parameters, has_exprs}
 use Rattle.kind_terms.specs.Sought.{sought}
 use Rattle.kind_terms.specs.Scopes.{Scope, field_names, given_out, behind, at_end, inside, made_known}

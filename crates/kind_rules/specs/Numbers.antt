@@ -1,7 +1,7 @@
 -- The rules on numbers and types.
 use Rattle.std.specs.Prelude.{ℕ, ◌&&◌, ◌||◌, not, ◌==◌, length, Bool, true, false, Option, Some, None}
 use Rattle.std.specs.List.{list_any}
-use Rattle.tlb_syntax.specs.Tree.{ExprView, ExprList, lit, named, nat32, bits, below, up_to, plus, star, out, ref, group}
+use Rattle.tlb_syntax.specs.Tree.{ExprView, lit, named, nat32, bits, below, up_to, plus, star, out, ref, group}
 use Rattle.kind_terms.specs.Params.{bare_name}
 use Rattle.kind_terms.specs.Types.{TypeNamed, no_type, basic, declared, count}
 use Rattle.kind_terms.specs.Forms.{parts}

@@ -1,5 +1,5 @@
 -- The nodes behind that of an expression where a type is due, and those of numbers in a row.
-use Rattle.std.specs.Prelude.{List, [], ◌∷◌, ◌++◌, Option, Some, None}
+use Rattle.std.specs.Prelude.{List, [], ◌∷◌, ◌++◌, Option, Some}
 use Rattle.tlb_syntax.specs.Tree.{ExprView, ExprList, lit, named, nat32, bits, below, up_to, plus, star, out, ref, group, no_exprs, an_expr}
 use Rattle.kind_terms.specs.Words.{Word}
 use Rattle.kind_terms.specs.declared.kind.Kind.TheVariants.{NumberIn}

@@ -4,7 +4,7 @@ ghost use Rattle.tlb_syntax.specs.Limits.{IsConstructor};
 ghost use Rattle.tlb_syntax.specs.Tree.{an_expr, no_exprs};
 ghost use Rattle.tlb_syntax.specs.View.{constructor as constructor_view, expr, exprs};
 ghost use Rattle.kind_rules.specs.Faults.{Judges};
-ghost use Rattle.kind_rules.specs.Nodes.{constructor_nodes, output_nodes, record_and_outputs};
+ghost use Rattle.kind_rules.specs.Nodes.{output_nodes, record_and_outputs};
 ghost use Rattle.kind_rules.specs.Views.{all_by, at_by, part_by, path_by};
 
 use crate::error::Fault;

@@ -1,6 +1,6 @@
 -- Declarations of one type among the first of a schema.
-use Rattle.std.proofs.Common.{◌≡◌, ◌≤◌, ◌<◌, ◌+◌, ◌∙◌, ap, sym, refl, ℕ, Bool, true, false, List, [], ◌∷◌, ◌++◌, length, map, take, drop, get_or, arith, length-append}
-use Rattle.std.specs.Prelude.{bytes_eq, cond, filter}
+use Rattle.std.proofs.Common.{◌≡◌, ◌≤◌, ◌<◌, ◌+◌, ◌∙◌, ap, sym, refl, ℕ, Bool, true, false, List, [], ◌∷◌, ◌++◌, length, map, take, get_or, arith, length-append}
+use Rattle.std.specs.Prelude.{bytes_eq, cond}
 use Rattle.std.proofs.lemmas.List.{take_more, map-append, length-map, length-take}
 use Rattle.std.proofs.lemmas.List.Elements.{filter-append}
 use Rattle.std.proofs.lemmas.List.Sums.{length-filter, count_by-le-length}

@@ -1,18 +1,15 @@
 -- The first of several refusals.
-use Rattle.std.proofs.Common.{◌≡◌, ◌≢◌, ◌∙◌, ap, sym, refl, List, [], ◌∷◌, ◌++◌, map, Option, Some, None, Ok, Err, Result}
+use Rattle.std.proofs.Common.{◌≡◌, ◌∙◌, ap, sym, refl, List, [], ◌∷◌, ◌++◌, map, Some, None, Ok, Err, Result}
 use Rattle.tlb_syntax.specs.declared.tree.Schema.{Schema}
 use Rattle.tlb_syntax.specs.Tree.{SchemaView}
 use Rattle.kind_rules.specs.declared.error.Cause.{Cause}
-use Rattle.kind_rules.specs.declared.error.Fault.{Fault}
-use Rattle.kind_rules.specs.declared.error.Fault.TheVariants.{Refused, NoMemory}
 use Rattle.kind_terms.specs.declared.part.Part.{Part}
-use Rattle.kind_rules.specs.Faults.{FaultAt, fault_at, faults, first, verdict, Judges}
+use Rattle.kind_rules.specs.Faults.{fault_at, faults, first, verdict}
 use Rattle.kind_rules.specs.Headings.{Heading}
 use Rattle.kind_rules.specs.Nodes.{Judged}
 use Rattle.tlb_kinds.specs.declared.error.KindError.{KindError}
-use Rattle.tlb_kinds.specs.declared.error.KindError.TheVariants as errors
 use Rattle.tlb_kinds.specs.Answers.{IsFirst, Finds, IsJudged, IsPassed, IsRefused}
-use Rattle.tlb_kinds.specs.Refusals.{refusals, first_refusal, IsKinded}
+use Rattle.tlb_kinds.specs.Refusals.{first_refusal, IsKinded}
 use Rattle.tlb_kinds.specs.Spots.{refusal_at, refusals_at, spot, refusal}
 
 none_first : {X : Type 0} (xs : List X) → first xs ≡ None → xs ≡ []

@@ -1,24 +1,24 @@
 -- The loops over the declarations of a schema.
-use Rattle.std.proofs.Common.{◌≡◌, ◌≢◌, ◌≤◌, ◌<◌, ◌+◌, ◌∙◌, ap, sym, refl, subst, ℕ, zero, suc, Bool, true, false, List, [], ◌∷◌, ◌++◌, length, map, take, drop, get_or, arith, append_assoc, add-one, length-append, length-drop, Some}
+use Rattle.std.proofs.Common.{◌≡◌, ◌≤◌, ◌<◌, ◌+◌, ◌∙◌, ap, sym, refl, subst, ℕ, zero, suc, Bool, true, false, List, [], ◌∷◌, ◌++◌, length, map, take, drop, get_or, arith, append_assoc, add-one, length-append, length-drop}
 use Rattle.std.specs.Prelude.{cond, not, remove}
 use Rattle.std.proofs.lemmas.List.{at_drop_more, length-take-le, map-append, take_at, take-append-drop}
 use Rattle.std.proofs.lemmas.List.Elements.{filter-append}
 use Rattle.std.proofs.lemmas.List.Sums.{length-filter, count_by-le-length}
 use Rattle.tlb_syntax.specs.declared.tree.Constructor.{Constructor}
 use Rattle.tlb_syntax.specs.declared.tree.Item.{Item}
-use Rattle.tlb_syntax.specs.Limits.{AreConstructors, IsConstructor, IsWithinLimits, item_count}
-use Rattle.tlb_syntax.specs.Tree.{ConstructorView, SchemaView, ItemList}
+use Rattle.tlb_syntax.specs.Limits.{AreConstructors, IsConstructor, item_count}
+use Rattle.tlb_syntax.specs.Tree.{ConstructorView, SchemaView}
 use Rattle.tlb_syntax.specs.View.{constructor, item, items}
 use Rattle.kind_terms.specs.Dictionaries.{is_dictionary, without_dictionaries}
-use Rattle.kind_rules.specs.Faults.{first, verdict}
+use Rattle.kind_rules.specs.Faults.{first}
 use Rattle.kind_rules.specs.Nodes.{heading_nodes, constructor_nodes}
 use Rattle.tlb_kinds.specs.declared.error.KindError.{KindError}
-use Rattle.tlb_kinds.specs.declared.error.KindError.TheVariants.{NoMemory, Unguarded}
+use Rattle.tlb_kinds.specs.declared.error.KindError.TheVariants.{Unguarded}
 use Rattle.tlb_kinds.specs.Answers.{IsFirst}
 use Rattle.tlb_kinds.specs.Refusals.{of_headings, of_contents, unguarded_at}
 use Rattle.tlb_kinds.specs.Spots.{heading, refusals_at, item_spot}
 use Rattle.tlb_kinds.proofs.Counting.{one_more}
-use Rattle.tlb_kinds.proofs.Firsts.{is_first_more, no_refusals}
+use Rattle.tlb_kinds.proofs.Firsts.{is_first_more}
 
 -- what is left from a place on
 left : (xs : List Constructor) (i : ℕ) (c : Constructor) → i < length xs → c ≡ get_or xs i c

@@ -1,6 +1,6 @@
 -- A schema without its declarations of dictionaries.
-use Rattle.std.proofs.Common.{◌≡◌, ◌∙◌, ap, sym, refl, subst, Bool, true, false, List, [], ◌∷◌, ◌++◌, ℕ, append_assoc}
-use Rattle.std.specs.Prelude.{not, filter, bytes_eq, cond}
+use Rattle.std.proofs.Common.{◌≡◌, ◌∙◌, ap, sym, refl, Bool, true, false, List, [], ◌∷◌, ◌++◌}
+use Rattle.std.specs.Prelude.{not, bytes_eq, cond}
 use Rattle.std.proofs.lemmas.Bool.{false≢true}
 use Rattle.std.proofs.lemmas.Slice.Eq.{bytes_eq-Decides}
 use Rattle.tlb_syntax.specs.Tree.{ConstructorView, SchemaView}
@@ -8,9 +8,8 @@ use Rattle.kind_terms.specs.Dictionaries.{is_dictionary, of_type, without_dictio
 use Rattle.kind_terms.specs.Words.{Word}
 use Rattle.kind_rules.specs.Headings.{Heading}
 use Rattle.kind_rules.specs.Nodes.{heading_nodes}
-use Rattle.tlb_kinds.specs.declared.error.KindError.{KindError}
 use Rattle.tlb_kinds.specs.Laws.{KindedStays, PassedOver}
-use Rattle.tlb_kinds.specs.Refusals.{of_headings, refusals_within, refusals, IsKinded}
+use Rattle.tlb_kinds.specs.Refusals.{of_headings, refusals_within, refusals}
 use Rattle.tlb_kinds.specs.Spots.{heading, refusals_at}
 
 abbrev heading_of : SchemaView → ConstructorView → Heading

@@ -1,6 +1,5 @@
 use Rattle.std.proofs.Common.{map}
 use Rattle.tlb_syntax.specs.View.{constructor}
-use Rattle.kind_rules.specs.Views.{words}
 use Rattle.kind_rules.proofs.ConstructorNodes.{endings_judged}
 use Rattle.kind_rules.proofs.Verdicts.{judges_err, refused_then}
 use Rattle.kind_declarations.proofs.constructors.judge_constructor.Goals as goal

@@ -1,4 +1,4 @@
-use Rattle.std.proofs.Common.{ap, sym, ◌∙◌, refl, map}
+use Rattle.std.proofs.Common.{ap, sym, ◌∙◌, map}
 use Rattle.tlb_syntax.specs.View.{constructor}
 use Rattle.kind_rules.specs.declared.scope.Scope.{Scope as State}
 use Rattle.kind_rules.specs.Views.{part_by, words}

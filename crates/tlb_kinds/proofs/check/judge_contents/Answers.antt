@@ -1,4 +1,4 @@
-use Rattle.std.proofs.Common.{◌≡◌, ◌∙◌, ap, arith, map, take, sym, subst, List, Result, Ok, Err}
+use Rattle.std.proofs.Common.{◌∙◌, arith, map, take, sym, subst, List, Result, Ok, Err}
 use Rattle.tlb_syntax.specs.declared.tree.Constructor.{Constructor}
 use Rattle.tlb_syntax.specs.View.{constructor}
 use Rattle.kind_rules.specs.declared.error.Fault.{Fault}

@@ -1,13 +1,10 @@
-use Rattle.std.proofs.Common.{◌≡◌, ◌≤◌, ◌<◌, ◌∙◌, [], ◌∷◌, Some, ap, sym, refl, map, take, length, arith}
+use Rattle.std.proofs.Common.{◌≡◌, ◌<◌, ◌∙◌, [], Some, ap, sym, map, take, length, arith}
 use Rattle.std.specs.Prelude.{option_map}
 use Rattle.std.proofs.lemmas.List.{length-map, take-map, get_or-map}
-use Rattle.tlb_syntax.specs.Limits.{IsConstructor}
 use Rattle.tlb_syntax.specs.View.{constructor}
-use Rattle.tlb_guard.specs.Cycles.{first_unguarded}
 use Rattle.tlb_guard.specs.Edges.{place_by}
 use Rattle.tlb_kinds.specs.declared.error.KindError.TheVariants.{Unguarded}
 use Rattle.tlb_kinds.specs.Refusals.{of_place, of_guard, unguarded_at}
-use Rattle.tlb_kinds.specs.Spots.{heading, item_spot}
 use Rattle.kind_rules.specs.Faults.{first}
 use Rattle.tlb_kinds.proofs.Loops.{constructor_within, item_count-items, unguarded_there, unguarded_nowhere}
 use Rattle.tlb_kinds.proofs.check.judge_guard.Goals as goal

@@ -1,13 +1,10 @@
-use Rattle.std.proofs.Common.{◌≡◌, ◌∙◌, ap, arith, map, take, drop, sym, subst, ◌++◌, [], ◌∷◌, List, Result, Ok, Err, None}
+use Rattle.std.proofs.Common.{◌∙◌, ap, arith, map, take, sym, subst, ◌++◌, [], ◌∷◌, List, Result, Ok, Err}
 use Rattle.std.proofs.lemmas.List.{take_more}
 use Rattle.tlb_syntax.specs.declared.tree.Constructor.{Constructor}
 use Rattle.tlb_syntax.specs.View.{constructor}
-use Rattle.kind_terms.specs.Dictionaries.{of_type}
 use Rattle.kind_rules.specs.declared.error.Fault.{Fault}
-use Rattle.kind_rules.specs.Faults.{Judges, verdict}
-use Rattle.kind_rules.specs.Headings.{Heading}
+use Rattle.kind_rules.specs.Faults.{Judges}
 use Rattle.kind_rules.specs.Nodes.{heading_nodes, result_path}
-use Rattle.tlb_kinds.specs.Refusals.{of_headings}
 use Rattle.tlb_kinds.specs.Spots.{heading, refusals_at}
 use Rattle.tlb_kinds.proofs.Firsts.{no_refusals}
 use Rattle.tlb_kinds.proofs.Loops.{headings_here, later, first_here}

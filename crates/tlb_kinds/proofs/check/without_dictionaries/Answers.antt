@@ -1,6 +1,5 @@
 use Rattle.std.proofs.Common.{◌≡◌, ◌<◌, ◌∙◌, ap, sym, true, take, map, length, get_or, arith}
 use Rattle.tlb_syntax.specs.declared.tree.Constructor.{Constructor}
-use Rattle.std.specs.Prelude.{remove}
 use Rattle.tlb_syntax.specs.View.{constructor}
 use Rattle.kind_terms.specs.Dictionaries.{is_dictionary, without_dictionaries}
 use Rattle.tlb_kinds.proofs.Loops.{removed, front_kept, length-removed}

@@ -1,6 +1,4 @@
-use Rattle.std.proofs.Common.{◌∙◌, sym, ap, refl}
-use Rattle.tlb_syntax.specs.View.{expr}
-use Rattle.kind_rules.specs.Numbers.{holds_variable, is_variable_in}
+use Rattle.std.proofs.Common.{◌∙◌}
 use Rattle.kind_rules.specs.Views.{scope_by}
 use Rattle.kind_rules.proofs.Holding.{holds_in_sum}
 use Rattle.kind_rules.proofs.scope.Scope.+holds.Goals as goal

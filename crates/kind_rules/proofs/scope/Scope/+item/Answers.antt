@@ -1,8 +1,7 @@
-use Rattle.std.proofs.Common.{◌≡◌, ◌∙◌, [], ap, sym, refl, arith, rules}
+use Rattle.std.proofs.Common.{◌∙◌, [], ap, sym, refl, arith, rules}
 use Rattle.std.specs.Prelude.{Err, Ok}
 use Rattle.kind_terms.proofs.NestedSums.{one_term, no_terms, two_terms}
 use Rattle.kind_rules.proofs.Forms.{has_exprs_seen, seen_implicit, seen_check}
-use Rattle.kind_rules.proofs.NumberNodes.{none_due}
 use Rattle.tlb_syntax.specs.declared.tree.Expr.{the_lemmas}
 use Rattle.tlb_syntax.specs.View.{item, items}
 use Rattle.kind_terms.specs.Scopes.{field_names}

@@ -1,4 +1,4 @@
-use Rattle.std.proofs.Common.{sym, ap, ◌∙◌, refl}
+use Rattle.std.proofs.Common.{refl}
 use Rattle.kind_rules.proofs.NumberNodes.{leaf_nodes, star_nodes, terms_end, terms_passed, terms_refused}
 use Rattle.std.specs.Prelude.{Err}
 use Rattle.kind_rules.proofs.SumNodes.{no_terms_pass, sum_past, sum_judged}

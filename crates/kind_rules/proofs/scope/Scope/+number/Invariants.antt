@@ -1,4 +1,4 @@
-use Rattle.std.proofs.Common.{◌≡◌, drop, map}
+use Rattle.std.proofs.Common.{◌≡◌, drop}
 use Rattle.std.specs.Prelude.{option_map}
 use Rattle.tlb_syntax.specs.View.{exprs}
 use Rattle.kind_rules.specs.Faults.{verdict}

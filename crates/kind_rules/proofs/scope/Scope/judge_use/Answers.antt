@@ -1,4 +1,4 @@
-use Rattle.std.proofs.Common.{[], sym, ◌∙◌, refl}
+use Rattle.std.proofs.Common.{[]}
 use Rattle.std.specs.Prelude.{Ok}
 use Rattle.kind_rules.proofs.Verdicts.{passed_here, refused_here, verdict_none}
 use Rattle.kind_rules.proofs.scope.Scope.judge_use.Goals as goal
