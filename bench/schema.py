@@ -3,7 +3,8 @@
 
 Writes texts of at most 1,048,576 bytes: open brackets alone, sums of half a million numbers and of as many variables, a row of
 parameters, a row of fields, 4,096 declarations, 4,096 declarations with fields of each other's types, types in one chain, in one
-ring, and types of which each exposes many later ones and the last exposes itself. Runs the built program on each and prints its line and its processor time.
+ring, and types of which each exposes many later ones and the last exposes itself. Runs the built program on each and prints its
+line and its processor time.
 """
 import os
 import resource

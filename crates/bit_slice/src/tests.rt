@@ -33,7 +33,7 @@ fn texts_are_refused_at_their_first_bad_byte(rt: HostRuntime) {
         (b"8_", 1),
         (b"0_", 1),
         (b"d2", 0),
-        (b"D2c", 2),
+        (b"DAc", 2),
         (b"D2C_1", 4),
         (b"D2C__", 4),
         (b"A ", 1),
