@@ -16,12 +16,8 @@ mod header;
 pub mod laws;
 mod post;
 mod raw;
-#[cfg(test)]
-mod tests;
 mod trees;
 mod write;
-#[cfg(test)]
-mod write_tests;
 
 use cell_nodes::Cell;
 pub use error::BagError;

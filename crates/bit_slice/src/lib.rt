@@ -15,6 +15,3 @@ pub use name::{Name, is_name};
 pub use slice::BitSlice;
 pub use string::BitString;
 pub use writer::{BitWriter, Full};
-
-#[cfg(test)]
-mod tests;

@@ -6,8 +6,6 @@ mod children;
 mod layouts;
 mod marks;
 mod slice;
-#[cfg(test)]
-mod tests;
 mod tree;
 
 pub use cell::{Cell, CellError};

@@ -8,8 +8,6 @@ mod form;
 pub mod laws;
 mod lexeme;
 mod read;
-#[cfg(test)]
-mod tests;
 mod text;
 mod words;
 

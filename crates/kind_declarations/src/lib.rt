@@ -4,8 +4,6 @@
 mod constructors;
 mod endings;
 mod headings;
-#[cfg(test)]
-mod tests;
 
 pub use constructors::judge_constructor;
 pub use headings::judge_heading;

@@ -9,8 +9,6 @@ mod outs;
 mod part;
 mod scope;
 mod shape;
-#[cfg(test)]
-mod tests;
 mod types;
 mod words;
 

@@ -17,6 +17,3 @@ pub use expr::NatExpr;
 pub use numbers::Env;
 pub use pattern::{Pattern, pattern_fit, patterns_exclude};
 pub use unknown::sought;
-
-#[cfg(test)]
-mod tests;

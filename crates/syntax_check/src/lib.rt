@@ -17,8 +17,6 @@ pub mod laws;
 mod machine;
 mod modes;
 mod step;
-#[cfg(test)]
-mod tests;
 
 pub use judge::Refusal;
 use judge::{Judge, Whole};

@@ -9,6 +9,3 @@ pub use real::{RealShelf, RealSink};
 pub use shelf::{Failed, MemShelf, Shelf, SureShelf};
 pub use sink::{MemSink, Sink, SureSink};
 pub use tlb_memory::NoMemory;
-
-#[cfg(test)]
-mod tests;

@@ -18,8 +18,3 @@ pub use tlb_syntax::{
     BitString, Constructor, Expr, FieldType, Item, Name, Op, ParamKind, Schema, Tag, canonical,
     show,
 };
-
-#[cfg(test)]
-mod read_tests;
-#[cfg(test)]
-mod tests;

@@ -8,8 +8,6 @@ mod error;
 pub mod laws;
 mod places;
 mod spot;
-#[cfg(test)]
-mod tests;
 
 pub use check::{Kinded, kind_check};
 pub use error::KindError;

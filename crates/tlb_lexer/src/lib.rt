@@ -12,8 +12,6 @@ ghost use Rattle.tlb_lexer.specs.declared.LexError.{LexError};
 mod bytes;
 pub mod laws;
 mod scan;
-#[cfg(test)]
-mod tests;
 
 use scan::Stretch;
 use std::alloc::{AllocError, AllocFailed, Global};

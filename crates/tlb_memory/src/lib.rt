@@ -12,14 +12,3 @@ impl From<AllocError> for NoMemory {
         NoMemory
     }
 }
-
-#[cfg(test)]
-mod tests {
-    use super::NoMemory;
-    use std::alloc::AllocError;
-
-    #[test]
-    fn a_refused_growth_is_want_of_memory(rt: HostRuntime) {
-        assert!(rt; NoMemory::from(AllocError) == NoMemory);
-    }
-}

@@ -6,11 +6,7 @@
 pub mod laws;
 mod lexeme;
 mod sign;
-#[cfg(test)]
-mod tests;
 mod text;
-#[cfg(test)]
-mod text_tests;
 mod tree;
 
 pub use bit_slice::{BitString, Name};

@@ -2,8 +2,6 @@
 #![tactic(auto)]
 
 mod path;
-#[cfg(test)]
-mod tests;
 mod value;
 
 pub use bit_slice::Name;
