@@ -14,14 +14,14 @@ use Rattle.kind_terms.specs.declared.kind.Kind.{Kind}
 use Rattle.kind_terms.specs.Params.{has_kind, inputs, kind_of, option_list, variable_of}
 use Rattle.kind_terms.specs.Types.{count, first_kinds}
 use Rattle.kind_terms.specs.Words.{Word}
-use Rattle.kind_rules.specs.declared.error.Cause.{Cause}
-use Rattle.kind_rules.specs.declared.error.Cause.TheVariants.{Reserved, TwiceNamed, Arity, KindMismatch, NotLinear}
-use Rattle.kind_rules.specs.Faults.{causes, fault_at, first, verdict}
-use Rattle.kind_rules.specs.Headings.{Heading, Param, differs_at, is_constructor_twice, is_input_twice, is_no_param, is_other_param, is_reserved, is_variable_among, lacks_params, same_name}
+use Rattle.kind_declarations.specs.declared.error.Cause.{Cause}
+use Rattle.kind_declarations.specs.declared.error.Cause.TheVariants.{Reserved, TwiceNamed, Arity, KindMismatch, NotLinear}
+use Rattle.kind_declarations.specs.Faults.{causes, fault_at, first, verdict}
+use Rattle.kind_declarations.specs.Headings.{Heading, Param, differs_at, is_constructor_twice, is_input_twice, is_no_param, is_other_param, is_reserved, is_variable_among, lacks_params, same_name}
 use Rattle.kind_declarations.specs.HeadingViews.{all_params, heading_by, param_cause}
-use Rattle.kind_rules.specs.Nodes.{Judged, a_heading, a_param, heading_nodes, joined, judged, param_nodes, params_end, result_path}
-use Rattle.kind_rules.proofs.JudgedParts.{node_passes, node_stops}
-use Rattle.kind_rules.proofs.Verdicts.{verdict_none}
+use Rattle.kind_declarations.specs.Nodes.{Judged, a_heading, a_param, heading_nodes, joined, judged, param_nodes, params_end, result_path}
+use Rattle.kind_declarations.proofs.JudgedParts.{node_passes, node_stops}
+use Rattle.kind_declarations.proofs.Verdicts.{verdict_none}
 
 -- ---- causes
 

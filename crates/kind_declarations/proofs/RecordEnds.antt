@@ -11,16 +11,17 @@ use Rattle.tlb_syntax.specs.Tree.{ExprView, TypeView, ItemView, SchemaView, lit,
 use Rattle.tlb_syntax.specs.View.{expr, exprs, expr_step, type_step, item_step, item, items}
 use Rattle.kind_terms.specs.declared.part.Part.{Part}
 use Rattle.kind_terms.specs.Words.{Word, is_among}
-use Rattle.kind_rules.specs.declared.error.Cause.{Cause}
-use Rattle.kind_rules.specs.declared.error.Cause.TheVariants.{Undetermined}
-use Rattle.kind_rules.specs.declared.shown.Shown.{Shown}
+use Rattle.kind_declarations.specs.declared.error.Cause.{Cause}
+use Rattle.kind_declarations.specs.declared.error.Cause.TheVariants.{Undetermined}
+use Rattle.kind_terms.specs.declared.shown.Shown.{Shown}
 use Rattle.kind_declarations.specs.EndingViews.{endings_at}
-use Rattle.kind_rules.specs.Faults.{fault_at, first, verdict}
+use Rattle.kind_declarations.specs.Faults.{fault_at, first, verdict}
 use Rattle.kind_rules.specs.Known.{Ending, is_never_known}
-use Rattle.kind_rules.specs.Nodes.{Place, an_ending, arg_endings, expr_endings, ending_at, item_endings, judged, next_place, path_at, record_endings}
-use Rattle.kind_rules.specs.Views.{part_by}
-use Rattle.kind_rules.proofs.JudgedParts.{node_passes, node_stops}
-use Rattle.kind_rules.proofs.Verdicts.{verdict_none}
+use Rattle.kind_terms.specs.Positions.{Place, next_place, path_at}
+use Rattle.kind_declarations.specs.Nodes.{an_ending, arg_endings, expr_endings, ending_at, item_endings, judged, record_endings}
+use Rattle.kind_terms.specs.Views.{part_by}
+use Rattle.kind_declarations.proofs.JudgedParts.{node_passes, node_stops}
+use Rattle.kind_declarations.proofs.Verdicts.{verdict_none}
 
 -- ---- sums
 

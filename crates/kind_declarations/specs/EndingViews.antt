@@ -3,7 +3,8 @@ use Rattle.std.specs.Prelude.{ℕ, List, ◌++◌}
 use Rattle.tlb_syntax.specs.Tree.{ItemView, SchemaView}
 use Rattle.kind_terms.specs.declared.part.Part.{Part}
 use Rattle.kind_terms.specs.Words.{Word}
-use Rattle.kind_rules.specs.Nodes.{Judged, Place, ending_at, item_endings, path_at}
+use Rattle.kind_declarations.specs.Nodes.{Judged, ending_at, item_endings}
+use Rattle.kind_terms.specs.Positions.{Place, path_at}
 
 abbrev pub place_at : List Part → ℕ → ℕ → Place
 place_at path number blanks = record { path = path; number = number; blanks = blanks }

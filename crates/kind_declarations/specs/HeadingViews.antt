@@ -6,10 +6,10 @@ use Rattle.tlb_syntax.specs.View.{constructor}
 use Rattle.tlb_syntax.specs.Tree.{no_exprs}
 use Rattle.kind_terms.specs.declared.types.Declared.{Declared}
 use Rattle.kind_terms.specs.Views.{constructors_by}
-use Rattle.kind_rules.specs.declared.error.Cause.{Cause}
-use Rattle.kind_rules.specs.declared.error.Cause.TheVariants.{Arity, KindMismatch, NotLinear}
-use Rattle.kind_rules.specs.Headings.{Heading}
-use Rattle.kind_rules.specs.Nodes.{Judged, judged, param_nodes, params_end, result_path}
+use Rattle.kind_declarations.specs.declared.error.Cause.{Cause}
+use Rattle.kind_declarations.specs.declared.error.Cause.TheVariants.{Arity, KindMismatch, NotLinear}
+use Rattle.kind_declarations.specs.Headings.{Heading}
+use Rattle.kind_declarations.specs.Nodes.{Judged, judged, param_nodes, params_end, result_path}
 
 -- a declaration behind those of its type before it
 abbrev pub heading_by : Option (Bor Declared) → Constructor → Heading

@@ -4,13 +4,14 @@ ghost use Rattle.tlb_syntax.specs.Limits.{AreExprs, AreItems, IsExpr, IsItem, Is
 ghost use Rattle.tlb_syntax.specs.View.{constructor as constructor_view, expr, exprs, field_type, item as item_view, items as items_view};
 ghost use Rattle.kind_terms.specs.Scopes.{made_known};
 ghost use Rattle.kind_declarations.specs.EndingViews.{endings_at, place_at};
-ghost use Rattle.kind_rules.specs.Faults.{Judges};
-ghost use Rattle.kind_rules.specs.Nodes.{arg_endings, ending_at, expr_endings, first_place, is_blank as is_blank_item, item_endings, record_endings, type_endings};
-ghost use Rattle.kind_rules.specs.Views.{part_by};
+ghost use Rattle.kind_declarations.specs.Faults.{Judges};
+ghost use Rattle.kind_declarations.specs.Nodes.{arg_endings, ending_at, expr_endings, item_endings, record_endings, type_endings};
+ghost use Rattle.kind_terms.specs.Positions.{first_place, is_blank as is_blank_item};
+ghost use Rattle.kind_terms.specs.Views.{part_by};
 
+use crate::error::{Cause, Fault};
 use bit_slice::Name;
-use kind_rules::{Cause, Fault, Shown, is_blank, show_item};
-use kind_terms::{Types, add_known, is_among};
+use kind_terms::{Shown, Types, add_known, is_among, is_blank, show_item};
 use sqlite_items::Items;
 use std::alloc::{AllocError, Global};
 use tlb_syntax::{Expr, FieldType, Item};

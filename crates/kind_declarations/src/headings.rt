@@ -7,15 +7,15 @@ ghost use Rattle.kind_terms.specs.Params.{has_kind, variable_of as variable_in};
 ghost use Rattle.kind_terms.specs.Types.{count, first_kinds};
 ghost use Rattle.kind_terms.specs.Views.{constructors_by, kinds_by};
 ghost use Rattle.kind_terms.specs.Words.{x_alone};
-ghost use Rattle.kind_rules.specs.Faults.{Judges};
-ghost use Rattle.kind_rules.specs.Headings.{differs_at, is_constructor_twice, is_fewer, is_reserved as is_reserved_in, is_variable_among, is_word, same_name};
-ghost use Rattle.kind_rules.specs.Nodes.{heading_nodes, result_path};
+ghost use Rattle.kind_declarations.specs.Faults.{Judges};
+ghost use Rattle.kind_declarations.specs.Headings.{differs_at, is_constructor_twice, is_fewer, is_reserved as is_reserved_in, is_variable_among, is_word, same_name};
+ghost use Rattle.kind_declarations.specs.Nodes.{heading_nodes, result_path};
 ghost use Rattle.kind_declarations.specs.HeadingViews.{all_params, heading_by, param_cause};
 
+use crate::error::{Cause, Fault};
 use bit_slice::Name;
-use kind_rules::{Cause, Fault, add_variable};
 use kind_terms::{
-    Declared, Kind, Types, is_among, is_built_in, is_dictionary, kind_of, variable_of,
+    Declared, add_variable, Kind, Types, is_among, is_built_in, is_dictionary, kind_of, variable_of,
 };
 use sqlite_items::Items;
 use std::alloc::Global;

@@ -1,5 +1,6 @@
 -- The names of fields of records in expressions.
-use Rattle.std.proofs.Common.{◌≡◌, ap, sym, ◌∙◌, refl, ℕ, ◌+◌, ◌<◌, ◌≤◌, List, [], ◌∷◌, ◌++◌, map, drop, length, get_or}
+use Rattle.std.proofs.Common.{◌≡◌, ap, sym, ◌∙◌, refl, ℕ, ◌+◌, ◌<◌, ◌≤◌, List, [], ◌∷◌, ◌++◌, map, drop, length, get_or, append_assoc}
+use Rattle.std.proofs.lemmas.List.{append-nil}
 use Rattle.tlb_syntax.specs.declared.tree.Expr.{Expr}
 use Rattle.tlb_syntax.specs.declared.tree.Item.{Item}
 use Rattle.tlb_syntax.specs.declared.tree.Expr.TheVariants.{Sum, Star}
@@ -8,13 +9,11 @@ use Rattle.tlb_syntax.specs.Tree.{ExprView, plus, exprs_of, nested, sum_of}
 use Rattle.std.specs.Prelude.{Result, Ok, Err, OnOk}
 use Rattle.kind_terms.specs.Words.{Word}
 use Rattle.kind_terms.specs.Scopes.{field_names}
-use Rattle.kind_rules.specs.Nodes.{names_in, names_in_all, names_inside, names_of}
-use Rattle.kind_rules.proofs.Forms.{seen_sum, seen_star, drop_at, drop_end, item_at, item_end}
-use Rattle.kind_rules.proofs.Verdicts.{append_assoc}
-use Rattle.kind_rules.proofs.NumberNodes.{append_none}
+use Rattle.kind_rules.specs.FieldNames.{names_in, names_in_all, names_inside, names_of}
+use Rattle.kind_terms.specs.ViewLaws.{seen_sum, seen_star, drop_at, drop_end, item_at, item_end}
 
 in_nested : (t : ExprView) (us : List ExprView) → names_in (nested t us) ≡ names_in t ++ names_in_all (exprs_of us)
-in_nested t [] = sym (append_none (names_in t))
+in_nested t [] = sym (append-nil (names_in t))
 in_nested t (u ∷ us) = in_nested (plus t u) us ∙ append_assoc (names_in t) (names_in u) (names_in_all (exprs_of us))
 
 in_terms : (ts : List ExprView) → names_in (sum_of ts) ≡ names_in_all (exprs_of ts)
@@ -45,7 +44,7 @@ all_step es i e m n o h is gone more =
     ∙ gone
 
 pub all_end : (es : List Expr) (i : ℕ) (m o : List Word) → length es ≤ i → m ++ names_in_all (exprs (drop i es)) ≡ o → m ≡ o
-all_end es i m o h gone = sym (append_none m) ∙ sym (ap (λ x. m ++ names_in_all x) (drop_end es i h)) ∙ gone
+all_end es i m o h gone = sym (append-nil m) ∙ sym (ap (λ x. m ++ names_in_all x) (drop_end es i h)) ∙ gone
 
 pub of_step : (is : List Item) (i : ℕ) (it : Item) (m n o k : List Word) → i < length is → it ≡ get_or is i it
     → m ++ names_of (items (drop i is)) ≡ o → k ≡ m ++ field_names (item it) → n ≡ k ++ names_inside (item it)
@@ -57,7 +56,7 @@ of_step is i it m n o k h at gone name more =
     ∙ gone
 
 pub of_end : (is : List Item) (i : ℕ) (m o : List Word) → length is ≤ i → m ++ names_of (items (drop i is)) ≡ o → m ≡ o
-of_end is i m o h gone = sym (append_none m) ∙ sym (ap (λ x. m ++ names_of x) (item_end is i h)) ∙ gone
+of_end is i m o h gone = sym (append-nil m) ∙ sym (ap (λ x. m ++ names_of x) (item_end is i h)) ∙ gone
 
 pub ok_in_sum : {E : Type 0} (r : Result (Unit {0}) E) (m n : List Word) (e : Expr) (ts us : List Expr) → e ≡ Sum ts → us ≡ ts
     → OnOk r (n ≡ m ++ names_in_all (exprs us)) → OnOk r (n ≡ m ++ names_in (expr e))

@@ -8,7 +8,7 @@ use Rattle.tlb_syntax.specs.View.{expr, exprs}
 use Rattle.tlb_syntax.specs.Tree.{ExprView, plus, nested}
 use Rattle.kind_rules.specs.Dues.{operand}
 use Rattle.kind_rules.specs.Numbers.{is_other_basic}
-use Rattle.kind_rules.proofs.Forms.{seen_sum, seen_bits, seen_below, seen_up_to}
+use Rattle.kind_terms.specs.ViewLaws.{seen_sum, seen_bits, seen_below, seen_up_to}
 
 -- a sum is no `~x`
 operand_of_nested : (t u : ExprView) (us : List ExprView) → operand (nested (plus t u) us) ≡ nested (plus t u) us

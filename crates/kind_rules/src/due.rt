@@ -1,7 +1,7 @@
 //! What is due where an expression stands.
 ghost use Rattle.std.specs.Prelude.{◌≡◌, map, option_map};
 ghost use Rattle.kind_rules.specs.Dues.{a_number, a_type, an_output};
-ghost use Rattle.kind_rules.specs.Nodes.{under};
+ghost use Rattle.kind_declarations.specs.Nodes.{under};
 ghost use Rattle.kind_rules.specs.Views.{due_by};
 
 use bit_slice::Name;

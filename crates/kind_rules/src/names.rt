@@ -2,7 +2,7 @@
 ghost use Rattle.std.specs.Prelude.{◌≡◌, ◌++◌, map, OnOk};
 ghost use Rattle.tlb_syntax.specs.View.{expr, exprs, field_type, item as item_view, items};
 ghost use Rattle.kind_terms.specs.Scopes.{field_names};
-ghost use Rattle.kind_rules.specs.Nodes.{names_in, names_in_all, names_in_type, names_inside, names_of};
+ghost use Rattle.kind_rules.specs.FieldNames.{names_in, names_in_all, names_in_type, names_inside, names_of};
 
 use bit_slice::Name;
 use kind_terms::field_name;

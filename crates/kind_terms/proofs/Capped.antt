@@ -10,7 +10,7 @@ use Rattle.tlb_syntax.specs.declared.tree.Expr.{Expr}
 use Rattle.tlb_syntax.specs.Tree.{ExprView, plus, nested, sum_of}
 use Rattle.tlb_syntax.specs.View.{expr}
 use Rattle.tlb_syntax.specs.declared.tree.Expr.TheVariants.{Star}
-use Rattle.kind_terms.proofs.NestedSums.{expr_of_star, expr_of_sum}
+use Rattle.kind_terms.specs.SumLaws.{expr_of_star, expr_of_sum}
 use Rattle.kind_terms.specs.Closed.{closed, exact_product, is_zero}
 
 pub capped_sum : (k a b : ℕ) → min k (min k a + min k b) ≡ min k (a + b)

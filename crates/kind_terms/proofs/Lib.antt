@@ -1,4 +1,3 @@
-pub mod NestedSums
 pub mod ParamKinds
 pub mod PlainNumbers
 pub mod Founds

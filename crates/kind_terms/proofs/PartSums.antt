@@ -15,7 +15,7 @@ use Rattle.kind_terms.specs.Params.{bare_name}
 use Rattle.kind_terms.specs.Forms.{is_out, out_name, parts, parts_of_all}
 use Rattle.kind_terms.specs.Outs.{Outs, nothing, one, several, joined, outs_of, summary}
 use Rattle.kind_terms.specs.Sought.{Sides, cancels, holds_out, is_named, only_out_name, sides, unknown_of, uses}
-use Rattle.kind_terms.proofs.NestedSums.{expr_of_name, expr_of_star, expr_of_sum}
+use Rattle.kind_terms.specs.SumLaws.{expr_of_name, expr_of_star, expr_of_sum}
 
 -- ---- sums
 

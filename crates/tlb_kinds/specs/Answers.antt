@@ -4,7 +4,7 @@ use Rattle.tlb_syntax.specs.declared.tree.Schema.{Schema}
 use Rattle.tlb_syntax.specs.Tree.{SchemaView}
 use Rattle.tlb_syntax.specs.View.{schema}
 use Rattle.kind_terms.specs.Dictionaries.{without_dictionaries}
-use Rattle.kind_rules.specs.Faults.{first}
+use Rattle.kind_declarations.specs.Faults.{first}
 use Rattle.tlb_kinds.specs.declared.error.KindError.{KindError}
 use Rattle.tlb_kinds.specs.declared.error.KindError.TheVariants.{NoMemory}
 use Rattle.tlb_kinds.specs.Refusals.{refusals, IsKinded}

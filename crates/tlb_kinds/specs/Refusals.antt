@@ -3,8 +3,8 @@
 use Rattle.std.specs.Prelude.{ℕ, zero, suc, ◌≡◌, List, [], ◌∷◌, ◌++◌, Option, Some, None}
 use Rattle.tlb_syntax.specs.Tree.{SchemaView}
 use Rattle.kind_terms.specs.Dictionaries.{without_dictionaries}
-use Rattle.kind_rules.specs.Nodes.{heading_nodes, constructor_nodes}
-use Rattle.kind_rules.specs.Faults.{first}
+use Rattle.kind_declarations.specs.Nodes.{heading_nodes, constructor_nodes}
+use Rattle.kind_declarations.specs.Faults.{first}
 use Rattle.tlb_guard.specs.Cycles.{Place, first_unguarded}
 use Rattle.tlb_kinds.specs.declared.error.KindError.{KindError}
 use Rattle.tlb_kinds.specs.declared.error.KindError.TheVariants.{Unguarded}

@@ -4,13 +4,14 @@ use Rattle.tlb_syntax.specs.Tree.{ItemList, ConstructorView, SchemaView, no_item
 use Rattle.kind_terms.specs.declared.part.Part.{Part}
 use Rattle.kind_terms.specs.Dictionaries.{of_type}
 use Rattle.kind_terms.specs.Words.{Word}
-use Rattle.kind_rules.specs.declared.error.Cause.{Cause}
-use Rattle.kind_rules.specs.declared.error.Cause.TheVariants.{Reserved, UnknownType, UnknownName, Arity, KindMismatch, OutputUnderRef, NotLinear, TwiceNamed, Undetermined, TooWide}
-use Rattle.kind_rules.specs.Headings.{Heading}
-use Rattle.kind_rules.specs.Nodes.{Place, path_at, first_place, next_place, Judged}
-use Rattle.kind_rules.specs.Faults.{FaultAt, faults}
-use Rattle.kind_rules.specs.declared.shown.Shown.{Shown}
-use Rattle.kind_rules.specs.Views.{part_by}
+use Rattle.kind_declarations.specs.declared.error.Cause.{Cause}
+use Rattle.kind_declarations.specs.declared.error.Cause.TheVariants.{Reserved, UnknownType, UnknownName, Arity, KindMismatch, OutputUnderRef, NotLinear, TwiceNamed, Undetermined, TooWide}
+use Rattle.kind_declarations.specs.Headings.{Heading}
+use Rattle.kind_terms.specs.Positions.{Place, path_at, first_place, next_place}
+use Rattle.kind_declarations.specs.Nodes.{Judged}
+use Rattle.kind_declarations.specs.Faults.{FaultAt, faults}
+use Rattle.kind_terms.specs.declared.shown.Shown.{Shown}
+use Rattle.kind_terms.specs.Views.{part_by}
 use Rattle.tlb_kinds.specs.declared.spot.Spot.{Spot}
 use Rattle.tlb_kinds.specs.declared.error.KindError.{KindError}
 use Rattle.tlb_kinds.specs.declared.error.KindError.TheVariants as errors

@@ -3,9 +3,9 @@ ghost use Rattle.std.specs.Prelude.{◌≡◌, ◌≢◌, ◌+◌, ◌≤◌, Er
 ghost use Rattle.tlb_syntax.specs.Limits.{AreConstructors, IsWithinLimits};
 ghost use Rattle.tlb_syntax.specs.View.{constructor as constructor_view, schema as schema_view};
 ghost use Rattle.kind_terms.specs.Dictionaries.{without_dictionaries as without_dictionaries_of};
-ghost use Rattle.kind_rules.specs.Faults.{Judges};
-ghost use Rattle.kind_rules.specs.Nodes.{Judged};
-ghost use Rattle.kind_rules.specs.Views.{part_by};
+ghost use Rattle.kind_declarations.specs.Faults.{Judges};
+ghost use Rattle.kind_declarations.specs.Nodes.{Judged};
+ghost use Rattle.kind_terms.specs.Views.{part_by};
 ghost use Rattle.tlb_kinds.specs.Answers.{Finds, IsFirst, IsJudged, IsPassed, IsRefused};
 ghost use Rattle.tlb_kinds.specs.Refusals.{IsKinded, first_refusal, of_contents, of_guard, of_headings, refusals_within};
 ghost use Rattle.tlb_kinds.specs.Spots.{heading, refusals_at};
@@ -13,9 +13,8 @@ ghost use Rattle.tlb_kinds.specs.declared.error.KindError.{KindError as Refused}
 
 use crate::error::{KindError, refusal_for};
 use crate::places::{item_spot, spot};
-use kind_declarations::{judge_constructor, judge_heading};
-use kind_rules::{Fault, Shown};
-use kind_terms::{Types, is_dictionary};
+use kind_declarations::{Fault, judge_constructor, judge_heading};
+use kind_terms::{Shown, Types, is_dictionary};
 use sqlite_items::Items;
 use std::alloc::Global;
 use std::marker::Model;

@@ -3,7 +3,7 @@ ghost use Rattle.std.specs.Prelude.{◌≡◌};
 ghost use Rattle.tlb_kinds.specs.Spots.{refusal as refusal_of};
 
 use crate::spot::Spot;
-use kind_rules::Cause;
+use kind_declarations::Cause;
 use std::alloc::AllocError;
 use thiserror::Error;
 use tlb_memory::NoMemory;

@@ -2,14 +2,13 @@
 ghost use Rattle.std.specs.Prelude.{◌≡◌, ◌+◌, ◌++◌, ◌<◌, ◌≤◌, IfOk, [], codes, decimal, length, map, option_map};
 ghost use Rattle.tlb_syntax.specs.View.{constructor as constructor_view, items as items_view};
 ghost use Rattle.kind_terms.specs.Dictionaries.{of_type};
-ghost use Rattle.kind_rules.specs.Nodes.{blank_name as name_of_blank, first_place};
-ghost use Rattle.kind_rules.specs.Views.{part_by};
+ghost use Rattle.kind_terms.specs.Positions.{blank_name as name_of_blank, first_place};
+ghost use Rattle.kind_terms.specs.Views.{part_by};
 ghost use Rattle.tlb_kinds.specs.Spots.{heading, item_spot as spot_of_item, parts_by, path_to, shown_name, spot as spot_of};
 
 use crate::spot::{FieldPath, Spot};
 use bit_slice::Name;
-use kind_rules::{Shown, is_blank, show_item};
-use kind_terms::Part;
+use kind_terms::{Part, Shown, is_blank, show_item};
 use sqlite_items::Items;
 use std::alloc::Global;
 use tlb_memory::NoMemory;

@@ -5,12 +5,13 @@ use Rattle.tlb_syntax.specs.Limits.{AreExprs}
 use Rattle.tlb_syntax.specs.Tree.{check, implicit, star, when, when_bit}
 use Rattle.tlb_syntax.specs.View.{constructor, expr, exprs, field_type, item, items}
 use Rattle.kind_declarations.specs.EndingViews.{endings_at, place_at}
-use Rattle.kind_rules.specs.Faults.{verdict}
-use Rattle.kind_rules.specs.Nodes.{arg_endings, expr_endings, first_place, is_blank, next_place, record_endings, type_endings}
-use Rattle.kind_rules.specs.Views.{part_by}
+use Rattle.kind_declarations.specs.Faults.{verdict}
+use Rattle.kind_declarations.specs.Nodes.{arg_endings, expr_endings, record_endings, type_endings}
+use Rattle.kind_terms.specs.Positions.{first_place, is_blank, next_place}
+use Rattle.kind_terms.specs.Views.{part_by}
 use Rattle.kind_declarations.proofs.RecordEnds.{args_end, args_turn, count_of_items, endings_of_terms, expr_is_sized, item_is_sized, items_end, items_turn, known_at_last, never_known, no_parts, one_more_at_most, sized_terms}
-use Rattle.kind_rules.proofs.JudgedParts.{both_pass, part_stops}
-use Rattle.kind_rules.proofs.Verdicts.{judged_from, passed_verdict, verdict_none}
+use Rattle.kind_declarations.proofs.JudgedParts.{both_pass, part_stops}
+use Rattle.kind_declarations.proofs.Verdicts.{judged_from, passed_verdict, verdict_none}
 use Rattle.kind_declarations.proofs.endings.+ending.Goals as goal
 
 -- ---- expressions

@@ -1,9 +1,10 @@
 use Rattle.std.proofs.Common.{◌≡◌, ◌≤◌, ◌+◌, map, drop}
 use Rattle.tlb_syntax.specs.View.{constructor, exprs, items}
 use Rattle.kind_declarations.specs.EndingViews.{place_at}
-use Rattle.kind_rules.specs.Faults.{verdict}
-use Rattle.kind_rules.specs.Nodes.{arg_endings, first_place, record_endings}
-use Rattle.kind_rules.specs.Views.{part_by}
+use Rattle.kind_declarations.specs.Faults.{verdict}
+use Rattle.kind_declarations.specs.Nodes.{arg_endings, record_endings}
+use Rattle.kind_terms.specs.Positions.{first_place}
+use Rattle.kind_terms.specs.Views.{part_by}
 use Rattle.kind_declarations.proofs.endings.+ending.Given as goal
 
 abbrev pub invariant-endings_in_all-loop-e : goal.invariant-endings_in_all-loop-e

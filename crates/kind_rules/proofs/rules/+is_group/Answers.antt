@@ -1,5 +1,5 @@
 use Rattle.std.proofs.Common.{refl, false}
-use Rattle.kind_terms.proofs.NestedSums.{two_terms}
+use Rattle.kind_terms.specs.SumLaws.{two_terms}
 use Rattle.kind_rules.specs.Records.{is_group}
 use Rattle.kind_rules.proofs.rules.+is_group.Goals as goal
 

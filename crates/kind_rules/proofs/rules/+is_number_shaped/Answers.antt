@@ -1,5 +1,5 @@
 use Rattle.std.proofs.Common.{refl, true}
-use Rattle.kind_terms.proofs.NestedSums.{two_terms}
+use Rattle.kind_terms.specs.SumLaws.{two_terms}
 use Rattle.kind_rules.specs.Numbers.{is_number_shaped}
 use Rattle.kind_rules.proofs.rules.+is_number_shaped.Goals as goal
 

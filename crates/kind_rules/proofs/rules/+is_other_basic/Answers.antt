@@ -1,9 +1,9 @@
 use Rattle.std.proofs.Common.{◌∙◌, refl, ap, sym, false, not}
 use Rattle.std.specs.Prelude.{option_map, ◌==◌}
 use Rattle.kind_terms.specs.Views.{named_by}
-use Rattle.kind_terms.proofs.NestedSums.{one_term, no_terms, two_terms}
+use Rattle.kind_terms.specs.SumLaws.{one_term, no_terms, two_terms}
 use Rattle.kind_rules.specs.Numbers.{is_other_basic, takes_other_basic}
-use Rattle.kind_rules.proofs.Forms.{count_seen, seen_named}
+use Rattle.kind_terms.specs.ViewLaws.{count_seen, seen_named}
 use Rattle.kind_rules.proofs.SumForms.{other_basic_of_numbers}
 use Rattle.kind_rules.proofs.rules.+is_other_basic.Goals as goal
 

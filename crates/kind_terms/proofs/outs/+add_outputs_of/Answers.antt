@@ -2,7 +2,7 @@ use Rattle.std.proofs.Common.{◌∙◌, ◌++◌, [], ap, map, refl, sym}
 use Rattle.std.proofs.lemmas.List.{append-nil}
 use Rattle.tlb_syntax.specs.View.{constructor}
 use Rattle.kind_terms.specs.Scopes.{outputs_of}
-use Rattle.kind_terms.proofs.NestedSums.{two_terms}
+use Rattle.kind_terms.specs.SumLaws.{two_terms}
 use Rattle.kind_terms.proofs.outs.+add_outputs_of.Goals as goal
 
 pub returns-in-len2-up-clause-names : goal.returns-in-len2-up-clause-names

@@ -2,7 +2,7 @@ use Rattle.std.proofs.Common.{◌≢◌, ◌∙◌, [], refl, ap, arith}
 use Rattle.std.specs.Prelude.{None}
 use Rattle.std.proofs.lemmas.Grind.{common_steps}
 use Rattle.kind_terms.specs.Params.{bare_name}
-use Rattle.kind_terms.proofs.NestedSums.{applied, one_term, no_terms, two_terms}
+use Rattle.kind_terms.specs.SumLaws.{applied, one_term, no_terms, two_terms}
 use Rattle.kind_terms.proofs.shape.+bare_name.Goals as goal
 
 pub returns-else-is_empty : goal.returns-else-is_empty

@@ -1,6 +1,6 @@
 use Rattle.std.proofs.Common.{◌∙◌, refl, ap, false}
 use Rattle.kind_terms.specs.Params.{is_literal}
-use Rattle.kind_terms.proofs.NestedSums.{one_term, no_terms, two_terms}
+use Rattle.kind_terms.specs.SumLaws.{one_term, no_terms, two_terms}
 use Rattle.kind_terms.proofs.shape.+is_literal.Goals as goal
 
 pub returns-in-empty : goal.returns-in-empty

@@ -1,7 +1,7 @@
 use Rattle.std.proofs.Common.{◌∙◌, refl, ap}
 use Rattle.std.specs.Prelude.{None}
 use Rattle.kind_terms.specs.Forms.{out_name}
-use Rattle.kind_terms.proofs.NestedSums.{one_term, no_terms, two_terms}
+use Rattle.kind_terms.specs.SumLaws.{one_term, no_terms, two_terms}
 use Rattle.kind_terms.proofs.shape.+out_name.Goals as goal
 
 pub returns-in-empty : goal.returns-in-empty

@@ -1,4 +1,4 @@
-use Rattle.kind_terms.proofs.NestedSums.{three_terms}
+use Rattle.kind_terms.specs.SumLaws.{three_terms}
 use Rattle.kind_terms.proofs.shape.+variable_of.Goals as goal
 
 pub returns-in-len3-up : goal.returns-in-len3-up

@@ -1,6 +1,6 @@
 use Rattle.std.proofs.Common.{◌≡◌, ◌≤◌, ◌+◌, ◌-◌, [], drop}
 use Rattle.tlb_syntax.specs.View.{items}
-use Rattle.kind_rules.specs.Nodes.{first_place}
+use Rattle.kind_terms.specs.Positions.{first_place}
 use Rattle.tlb_kinds.specs.Spots.{path_to}
 use Rattle.tlb_kinds.proofs.places.shown_at.Given as goal
 

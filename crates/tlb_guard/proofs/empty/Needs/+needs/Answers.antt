@@ -1,7 +1,7 @@
 use Rattle.std.proofs.Common.{◌∙◌, sym, ap, refl, true}
 use Rattle.std.specs.Prelude.{◌&&◌}
 use Rattle.std.specs.List.{list_all}
-use Rattle.kind_terms.proofs.NestedSums.{two_terms}
+use Rattle.kind_terms.specs.SumLaws.{two_terms}
 use Rattle.tlb_guard.specs.Empty.{may_be_empty}
 use Rattle.tlb_guard.specs.Numbering.{types_in, views}
 use Rattle.tlb_guard.specs.Scoping.{names}

@@ -2,7 +2,7 @@ use Rattle.std.proofs.Common.{◌≡◌, ◌∙◌, ◌+◌, List, drop, sym, ap
 use Rattle.std.specs.Prelude.{Some}
 use Rattle.std.specs.Borrow.{Bor}
 use Rattle.tlb_syntax.specs.declared.tree.Constructor.{Constructor}
-use Rattle.kind_terms.proofs.NestedSums.{two_terms}
+use Rattle.kind_terms.specs.SumLaws.{two_terms}
 use Rattle.tlb_syntax.specs.View.{expr, exprs}
 use Rattle.tlb_guard.specs.declared.front.Leads.{Leads}
 use Rattle.tlb_guard.specs.Empty.{is_variable, may_be_empty}

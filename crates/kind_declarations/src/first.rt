@@ -1,0 +1,124 @@
+//! The first cause for which an expression is refused.
+ghost use Rattle.std.specs.Prelude.{◌≡◌, ◌&&◌, ◌||◌, not, option_map};
+ghost use Rattle.tlb_syntax.specs.View.{expr};
+ghost use Rattle.kind_terms.specs.Forms.{out_name as out_name_of};
+ghost use Rattle.kind_declarations.specs.Faults.{causes, first};
+ghost use Rattle.kind_declarations.specs.Nodes.{a_use};
+ghost use Rattle.kind_rules.specs.Known.{is_known_twice as is_known_already, is_no_unknown as is_no_unknown_name, is_other_out_at, is_used_unknown as is_used_unknown_by, is_variable_due as is_variable_due_by};
+ghost use Rattle.kind_rules.specs.Numbers.{is_product as is_product_form, is_product_at};
+ghost use Rattle.kind_rules.specs.Views.{due_by};
+ghost use Rattle.kind_declarations.specs.Views.{scope_by, use_by};
+
+use crate::error::Cause;
+use crate::scope::Scope;
+use bit_slice::Name;
+use kind_rules::{
+    Due, Wanted,
+    arg_count, is_given, is_mismatch, is_number, is_other_out, is_output_under_ref, is_too_wide,
+    is_type_due, is_type_variable, is_unknown_name, is_unknown_type, takes_others, used,
+};
+use kind_terms::{bare_name, out_name};
+use tlb_syntax::Expr;
+
+impl<'a, 't> Scope<'a, 't> {
+    fn is_product(&self, e: &Expr) -> bool
+        ensures { result ≡ is_product_form (scope_by self.now) (expr e.now) }
+    {
+        match e {
+            Expr::Star(left, right) => self.holds_variable(left.get())
+                && self.holds_variable(right.get()),
+            Expr::Sum(terms) => match terms.as_slice() {
+                [] => false,
+                [only] => self.is_product(only),
+                [_, _, ..] => false,
+            },
+            _ => false,
+        }
+    }
+
+    fn is_product_in_place(&self, due: Due<'_>, e: &Expr) -> bool
+        ensures { result ≡ is_product_at (due_by due.entry) (scope_by self.now) (expr e.now) }
+    {
+        match due.wanted {
+            Wanted::Number(_) => self.is_product(e),
+            Wanted::Output | Wanted::TypeAt(_) => false,
+        }
+    }
+
+    fn is_not_linear(&self, due: Due<'_>, e: &Expr) -> bool
+        ensures { result
+            ≡ (is_product_at (due_by due.entry) (scope_by self.now) (expr e.now) || is_other_out_at (due_by due.entry) (expr e.now)) }
+    {
+        self.is_product_in_place(due, e) || is_other_out(due, e)
+    }
+
+    // Whether the name is a variable of what is due.
+    fn is_variable_due(&self, due: Due<'_>, name: &Name) -> bool
+        ensures { result ≡ is_variable_due_by (due_by due.entry) (scope_by self.now) name.now }
+    {
+        match due.wanted {
+            Wanted::Number(_) => is_number(self.meaning_of(name)),
+            Wanted::Output => false,
+            Wanted::TypeAt(_) => is_type_variable(self.meaning_of(name)),
+        }
+    }
+
+    fn is_used_unknown(&self, due: Due<'_>, e: &Expr) -> bool
+        ensures { result ≡ is_used_unknown_by (use_by self.now (due_by due.entry) (expr e.now)) }
+    {
+        match bare_name(e) {
+            None => false,
+            Some(name) => self.is_variable_due(due, name) && !self.is_known(name),
+        }
+    }
+
+    // Whether the x of `~x` is a number variable that is no longer to become known.
+    fn is_no_unknown(&self, due: Due<'_>, name: &Name) -> bool
+        ensures { result ≡ is_no_unknown_name (due_by due.entry) (scope_by self.now) (Some name.now) }
+    {
+        is_number(self.meaning_of(name)) && (!self.is_own_unknown(name) || is_given(due, name))
+    }
+
+    fn is_known_twice(&self, due: Due<'_>, e: &Expr) -> bool
+        ensures { result ≡ is_known_already (use_by self.now (due_by due.entry) (expr e.now)) }
+    {
+        if is_type_due(due) {
+            return false;
+        }
+        match out_name(e) {
+            None => false,
+            Some(name) => self.is_no_unknown(due, name),
+        }
+    }
+
+    /// The first cause for which an expression is refused where this is due.
+    pub fn first_cause(&self, due: Due<'_>, e: &Expr) -> Option<Cause>
+        ensures { result ≡ first (causes (a_use (use_by self.now (due_by due.entry) (expr e.now)))) }
+    {
+        let at = used(due, e);
+        let named = self.type_of(at);
+        let meaning = self.meaning_at(at);
+        let args = arg_count(at);
+        if is_unknown_type(due, named, args) {
+            Some(Cause::UnknownType)
+        } else if is_unknown_name(due, named, args) {
+            Some(Cause::UnknownName)
+        } else if takes_others(named, args) {
+            Some(Cause::Arity)
+        } else if is_mismatch(due, named, meaning, e, at) {
+            Some(Cause::KindMismatch)
+        } else if is_output_under_ref(due, named) {
+            Some(Cause::OutputUnderRef)
+        } else if self.is_not_linear(due, e) {
+            Some(Cause::NotLinear)
+        } else if self.is_known_twice(due, e) {
+            Some(Cause::TwiceNamed)
+        } else if self.is_used_unknown(due, e) {
+            Some(Cause::Undetermined)
+        } else if is_too_wide(due, named, e) {
+            Some(Cause::TooWide)
+        } else {
+            None
+        }
+    }
+}
