@@ -17,7 +17,7 @@ use Rattle.kind_declarations.specs.declared.scope.Scope.{Scope as State}
 use Rattle.kind_terms.specs.declared.shown.Shown.{Shown}
 use Rattle.kind_terms.specs.declared.shown.Shown.TheVariants as parts
 use Rattle.kind_declarations.specs.Nodes.{Judged, constructor_nodes, output_nodes, record_and_outputs, record_endings, record_nodes}
-use Rattle.kind_terms.specs.Positions.{first_place}
+use Rattle.kind_terms.specs.Positions.{first_position}
 use Rattle.kind_declarations.specs.Faults.{Judges, verdict}
 use Rattle.kind_declarations.specs.Views.{Follows, all_by, first_by, path_by, scope_by, scope_of, words}
 use Rattle.kind_terms.specs.Views.{part_by}
@@ -62,14 +62,14 @@ all_outputs s t c list ps q p r same params pushed follows scope passed j =
 
 -- ---- at the beginning
 
-no_entries : (types : SchemaView) (known : List Word)
+no_bindings : (types : SchemaView) (known : List Word)
     → scope_of types [] 0 known ≡ record { types = types; around = []; own = []; known = known }
 unfolding scope_of
-no_entries types known = refl
+no_bindings types known = refl
 
 nodes_from : ConstructorView → List Part → Scope → List Word → List Judged
 nodes_from c path scope fields =
-    record_nodes c.items (record { place = first_place path; scope = scope; fields = fields; inner = [] })
+    record_nodes c.items (record { place = first_position path; scope = scope; fields = fields; inner = [] })
     ++ output_nodes c.params (record { path = path ++ places.Result ∷ []; scope = at_end scope c.items; fields = [] })
 
 all_from : (s : State) (c : ConstructorView) → all_by s c ≡ nodes_from c (path_by s) (scope_by s) (words s.fields)
@@ -81,38 +81,38 @@ all_here : (types : SchemaView) (c : ConstructorView)
 unfolding nodes_from
 all_here types c = refl
 
-pub all_first : (s : State) (types : SchemaView) (c : ConstructorView) → map constructor s.types.now ≡ types → s.path ≡ [] → s.entries ≡ []
+pub all_first : (s : State) (types : SchemaView) (c : ConstructorView) → map constructor s.types.now ≡ types → s.path ≡ [] → s.bindings ≡ []
     → s.around ≡ 0 → words s.known ≡ inputs c.params → s.fields ≡ [] → all_by s c ≡ record_and_outputs types c
-all_first s types c same path entries around known fields =
+all_first s types c same path bindings around known fields =
     all_from s c
     ∙ ap (λ p. nodes_from c (map part_by p) (scope_by s) (words s.fields)) path
     ∙ ap (λ f. nodes_from c [] (scope_by s) (words f)) fields
-    ∙ ap (λ t. nodes_from c [] (scope_of t s.entries s.around (words s.known)) []) same
-    ∙ ap (λ e. nodes_from c [] (scope_of types e s.around (words s.known)) []) entries
+    ∙ ap (λ t. nodes_from c [] (scope_of t s.bindings s.around (words s.known)) []) same
+    ∙ ap (λ e. nodes_from c [] (scope_of types e s.around (words s.known)) []) bindings
     ∙ ap (λ a. nodes_from c [] (scope_of types [] a (words s.known)) []) around
     ∙ ap (λ k. nodes_from c [] (scope_of types [] 0 k) []) known
-    ∙ ap (λ x. nodes_from c [] x []) (no_entries types (inputs c.params))
+    ∙ ap (λ x. nodes_from c [] x []) (no_bindings types (inputs c.params))
     ∙ all_here types c
 
 pub all_judged : (s : State) (types : SchemaView) (c : ConstructorView) (p q : List Part) (r : Result (Unit {0}) Fault)
-    → map constructor s.types.now ≡ types → s.path ≡ [] → s.entries ≡ []
+    → map constructor s.types.now ≡ types → s.path ≡ [] → s.bindings ≡ []
     → s.around ≡ 0 → words s.known ≡ inputs c.params → s.fields ≡ [] → p ≡ q
     → Judges (all_by s c) p r → Judges (record_and_outputs types c) q r
-all_judged s types c p q r same path entries around known fields there j =
+all_judged s types c p q r same path bindings around known fields there j =
     subst (λ x. Judges (record_and_outputs types c) x r) there
-    (judged_from _ _ p r (ap verdict (all_first s types c same path entries around known fields)) j)
+    (judged_from _ _ p r (ap verdict (all_first s types c same path bindings around known fields)) j)
 
 -- ---- the whole constructor
 
 pub endings_judged : (types : SchemaView) (c : Constructor) (list : List Item) (q : List Shown) (known : List Word) (p : List Part)
     (r : Result (Unit {0}) Fault) → list ≡ c.items → q ≡ [] → known ≡ inputs (exprs c.params)
     → verdict (record_and_outputs types (constructor c)) ≡ None
-    → Judges (record_endings (items list) types (first_place (map part_by q)) (known ++ made_known types (items list))) p r
+    → Judges (record_endings (items list) types (first_position (map part_by q)) (known ++ made_known types (items list))) p r
     → Judges (constructor_nodes types (constructor c)) p r
 endings_judged types c list q known p r same path inputs_are passed j =
     passed_then (record_and_outputs types (constructor c)) _ p r passed
     (judged_from _ _ p r
-    (ap (λ x. verdict (record_endings (items x) types (first_place (map part_by q)) (known ++ made_known types (items x)))) same
-    ∙ ap (λ x. verdict (record_endings (items c.items) types (first_place (map part_by x)) (known ++ made_known types (items c.items)))) path
-    ∙ ap (λ x. verdict (record_endings (items c.items) types (first_place []) (x ++ made_known types (items c.items)))) inputs_are)
+    (ap (λ x. verdict (record_endings (items x) types (first_position (map part_by q)) (known ++ made_known types (items x)))) same
+    ∙ ap (λ x. verdict (record_endings (items c.items) types (first_position (map part_by x)) (known ++ made_known types (items c.items)))) path
+    ∙ ap (λ x. verdict (record_endings (items c.items) types (first_position []) (x ++ made_known types (items c.items)))) inputs_are)
     j)

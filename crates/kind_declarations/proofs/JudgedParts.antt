@@ -20,7 +20,7 @@ pub node_stops : (path : List Part) (node : Node) (ks : List Judged) (c : Cause)
     → verdict (judged path node ∷ ks) ≡ Some (fault_at path c)
 node_stops path node ks c h = verdict_node path node ks ∙ ap (λ x. or_else (fault_of path x) (verdict ks)) h
 
--- nodes that are those of two parts: the first has a cause, or memory was wanted
+-- nodes that are those of two parts: the first has a cause, or out of memory
 pub part_stops : (whole js ks : List Judged) (path : List Part) (result : Result (Unit {0}) Fault) (f : Fault) → whole ≡ js ++ ks
     → IsErrAnd result (λ e. e ≡ f) → Judges js path (Err f) → Judges whole path result
 part_stops whole js ks path result f e is h =

@@ -4,8 +4,8 @@ pub mod FieldNodes
 pub mod NumberNodes
 pub mod OutputNodes
 pub mod RecordNodes
-pub mod Seen
-pub mod Holding
+pub mod ScopeViews
+pub mod VariableParts
 pub mod SumNodes
 pub mod TypeNodes
 pub mod ConstructorNodes

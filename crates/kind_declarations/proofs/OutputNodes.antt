@@ -11,14 +11,14 @@ use Rattle.kind_terms.specs.Words.{Word}
 use Rattle.kind_terms.specs.Scopes.{Scope}
 use Rattle.kind_declarations.specs.declared.error.Fault.{Fault}
 use Rattle.kind_terms.specs.Params.{greatest}
-use Rattle.kind_rules.specs.Dues.{a_number}
-use Rattle.kind_declarations.specs.Nodes.{At, Judged, expr_nodes, number_due, output_nodes, use_at}
+use Rattle.kind_rules.specs.ExpectedKinds.{a_number}
+use Rattle.kind_declarations.specs.Nodes.{ItemContext, Judged, expr_nodes, expected_number, output_nodes, use_at}
 use Rattle.kind_declarations.specs.Faults.{Judges, verdict}
 use Rattle.kind_terms.specs.ViewLaws.{seen_lit, seen_named, seen_nat32, seen_bits, seen_below, seen_up_to, seen_star, seen_ref, seen_group, drop_at, drop_end}
-use Rattle.kind_declarations.proofs.NumberNodes.{append_none, arg_none, none_due}
+use Rattle.kind_declarations.proofs.NumberNodes.{append_none, arg_none, none_expected}
 use Rattle.kind_declarations.proofs.Verdicts.{judged_from, passed_verdict, refused_then, verdict_none}
 
-abbrev one : ExprView → At → List Judged
+abbrev one : ExprView → ItemContext → List Judged
 one v a = output_nodes (an_expr v no_exprs) a
 
 abbrev pub IsNoOut : Expr → Type 0
@@ -27,10 +27,10 @@ IsNoOut e =
     ⊎ (((es : List Expr) × e ≡ Below es) ⊎ (((es : List Expr) × e ≡ UpTo es) ⊎ (((x : Expr) × (y : Expr) × e ≡ Star x y)
     ⊎ (((f : Expr) × e ≡ Ref f) ⊎ ((is : List Item) × e ≡ Group is))))))))
 
-along : (e : Expr) (v : ExprView) (a : At) → expr e ≡ v → one v a ≡ [] → verdict (one (expr e) a) ≡ None
+along : (e : Expr) (v : ExprView) (a : ItemContext) → expr e ≡ v → one v a ≡ [] → verdict (one (expr e) a) ≡ None
 along e v a seen none = ap (λ w. verdict (one w a)) seen ∙ ap verdict none ∙ verdict_none
 
-pub no_out : (e : Expr) (a : At) → IsNoOut e → verdict (output_nodes (an_expr (expr e) no_exprs) a) ≡ None
+pub no_out : (e : Expr) (a : ItemContext) → IsNoOut e → verdict (output_nodes (an_expr (expr e) no_exprs) a) ≡ None
 no_out e a (inl h) = along e _ a (seen_lit e h.0 h.1) refl
 no_out e a (inr (inl h)) = along e _ a (seen_named e h.0 h.1 h.2) refl
 no_out e a (inr (inr (inl h))) = along e _ a (seen_nat32 e h) refl
@@ -41,12 +41,12 @@ no_out e a (inr (inr (inr (inr (inr (inr (inl h))))))) = along e _ a (seen_star 
 no_out e a (inr (inr (inr (inr (inr (inr (inr (inl h)))))))) = along e _ a (seen_ref e h.0 h.1) refl
 no_out e a (inr (inr (inr (inr (inr (inr (inr (inr h)))))))) = along e _ a (seen_group e h.0 h.1) refl
 
-pub same_output : (o e : Expr) (a : At) (p : List Part) (r : Result (Unit {0}) Fault) → expr o ≡ expr e
+pub same_output : (o e : Expr) (a : ItemContext) (p : List Part) (r : Result (Unit {0}) Fault) → expr o ≡ expr e
     → Judges (output_nodes (an_expr (expr o) no_exprs) a) p r → Judges (output_nodes (an_expr (expr e) no_exprs) a) p r
 same_output o e a p r same j = judged_from _ _ p r (ap (λ v. verdict (one v a)) same) j
 
 -- one more output
-pub output_split : (v : ExprView) (es : ExprList) (a : At)
+pub output_split : (v : ExprView) (es : ExprList) (a : ItemContext)
     → output_nodes (an_expr v es) a ≡ output_nodes (an_expr v no_exprs) a ++ output_nodes es a
 output_split (lit n) es a = refl
 output_split (named x fs) es a = refl
@@ -56,13 +56,13 @@ output_split (below fs) es a = refl
 output_split (up_to fs) es a = refl
 output_split (plus x y) es a = refl
 output_split (star x y) es a = refl
-output_split (out e) es a = ap (λ r. r ++ output_nodes es a) (sym (append_none (expr_nodes e a number_due)))
+output_split (out e) es a = ap (λ r. r ++ output_nodes es a) (sym (append_none (expr_nodes e a expected_number)))
 output_split (ref e) es a = refl
 output_split (group is) es a = refl
 
--- ---- outputs in a row, those before i gone through
+-- ---- outputs in a row, those before i seen so far
 
-module _ (es : List Expr) (i : ℕ) (a : At) (gone : verdict (output_nodes (exprs (drop i es)) a) ≡ verdict (output_nodes (exprs es) a)) where
+module _ (es : List Expr) (i : ℕ) (a : ItemContext) (gone : verdict (output_nodes (exprs (drop i es)) a) ≡ verdict (output_nodes (exprs es) a)) where
   step : (e : Expr) → i < length es → e ≡ get_or es i e
       → output_nodes (exprs (drop i es)) a ≡ output_nodes (an_expr (expr e) no_exprs) a ++ output_nodes (exprs (drop (i + 1) es)) a
   step e h is = ap (λ x. output_nodes x a) (drop_at es i e h is) ∙ output_split (expr e) (exprs (drop (i + 1) es)) a
@@ -83,7 +83,7 @@ module _ (es : List Expr) (i : ℕ) (a : At) (gone : verdict (output_nodes (expr
 -- ---- a number does not depend on the fields around it
 
 module _ (p : List Part) (s : Scope) (f g : List Word) where
-  abbrev with : List Word → At
+  abbrev with : List Word → ItemContext
   with fs = record { path = p; scope = s; fields = fs }
 
   number_alike : (e : ExprView) (n : ℕ) (q : Option Word)
@@ -106,7 +106,7 @@ module _ (p : List Part) (s : Scope) (f g : List Word) where
       ∙ ap (λ r. use_at (with f) (Some (a_number n q)) (star x y) ++ (expr_nodes x (with g) (Some (a_number greatest q)) ++ r)) (number_alike y greatest q)
   number_alike (out e) n q = refl
   number_alike (ref e) n q =
-      ap (λ r. use_at (with f) (Some (a_number n q)) (ref e) ++ r) (none_due e (with f) ∙ sym (none_due e (with g)))
+      ap (λ r. use_at (with f) (Some (a_number n q)) (ref e) ++ r) (none_expected e (with f) ∙ sym (none_expected e (with g)))
   number_alike (group is) n q = refl
 
   output_alike : (v : ExprView) → output_nodes (an_expr v no_exprs) (with f) ≡ output_nodes (an_expr v no_exprs) (with g)

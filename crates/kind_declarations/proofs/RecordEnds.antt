@@ -17,7 +17,7 @@ use Rattle.kind_terms.specs.declared.shown.Shown.{Shown}
 use Rattle.kind_declarations.specs.EndingViews.{endings_at}
 use Rattle.kind_declarations.specs.Faults.{fault_at, first, verdict}
 use Rattle.kind_rules.specs.Known.{Ending, is_never_known}
-use Rattle.kind_terms.specs.Positions.{Place, next_place, path_at}
+use Rattle.kind_terms.specs.Positions.{ItemPosition, next_position, path_at}
 use Rattle.kind_declarations.specs.Nodes.{an_ending, arg_endings, expr_endings, ending_at, item_endings, judged, record_endings}
 use Rattle.kind_terms.specs.Views.{part_by}
 use Rattle.kind_declarations.proofs.JudgedParts.{node_passes, node_stops}
@@ -87,16 +87,16 @@ args_end es k types path h = at_drop_all (λ (x : List Expr). verdict (arg_endin
 
 -- ---- items one by one
 
-pub items_turn : (is : List Item) (k : ℕ) (i : Item) (types : SchemaView) (p : Place) (known : List Word) → k < length is → i ≡ get_or is k i
+pub items_turn : (is : List Item) (k : ℕ) (i : Item) (types : SchemaView) (p : ItemPosition) (known : List Word) → k < length is → i ≡ get_or is k i
     → record_endings (items (drop k is)) types p known
-    ≡ endings_at (item i) types p known ++ record_endings (items (drop (k + 1) is)) types (next_place p (item i)) known
+    ≡ endings_at (item i) types p known ++ record_endings (items (drop (k + 1) is)) types (next_position p (item i)) known
 items_turn is k i types p known within at =
     at_drop_more (λ (x : List Item). record_endings (items x) types p known) is k i within
     ∙ ap (λ x. record_endings (items (x ∷ drop (k + 1) is)) types p known) (sym at)
     ∙ sym (append_assoc (ending_at (path_at p (item i)) known (item i)) (item_endings (item i) types (path_at p (item i)))
-    (record_endings (items (drop (k + 1) is)) types (next_place p (item i)) known))
+    (record_endings (items (drop (k + 1) is)) types (next_position p (item i)) known))
 
-pub items_end : (is : List Item) (k : ℕ) (types : SchemaView) (p : Place) (known : List Word) → length is ≤ k
+pub items_end : (is : List Item) (k : ℕ) (types : SchemaView) (p : ItemPosition) (known : List Word) → length is ≤ k
     → verdict (record_endings (items (drop k is)) types p known) ≡ None
 items_end is k types p known h = at_drop_all (λ (x : List Item). verdict (record_endings (items x) types p known)) is k h ∙ verdict_none
 

@@ -13,8 +13,8 @@ use Rattle.kind_terms.specs.Words.{Word}
 use Rattle.kind_declarations.specs.declared.error.Cause.TheVariants.{TooWide}
 use Rattle.kind_declarations.specs.declared.error.Fault.{Fault}
 use Rattle.kind_declarations.specs.declared.error.Fault.TheVariants.{Refused, NoMemory}
-use Rattle.kind_rules.specs.Dues.{a_number}
-use Rattle.kind_declarations.specs.Nodes.{At, a_use, expr_nodes}
+use Rattle.kind_rules.specs.ExpectedKinds.{a_number}
+use Rattle.kind_declarations.specs.Nodes.{ItemContext, a_use, expr_nodes}
 use Rattle.kind_declarations.specs.Faults.{FaultAt, Judges, causes, fault_at, first, verdict}
 use Rattle.kind_declarations.specs.Parts.{number_nodes}
 use Rattle.kind_rules.specs.Sums.{is_past_total, is_sum_past}
@@ -26,21 +26,21 @@ first_if true x = refl
 first_if false x = refl
 
 cause_of_plus : (s : Scope) (n : ℕ) (q : Option Word) (x y : ExprView)
-    → first (causes (a_use (record { scope = s; due = a_number n q; at = plus x y })))
+    → first (causes (a_use (record { scope = s; expected = a_number n q; at = plus x y })))
     ≡ (if exceeds n (closed (plus x y)) then Some TooWide else None)
 cause_of_plus s n q x y = first_if (exceeds n (closed (plus x y))) TooWide
 
 cause_of_zero : (s : Scope) (n : ℕ) (q : Option Word)
-    → first (causes (a_use (record { scope = s; due = a_number n q; at = lit 0 }))) ≡ None
+    → first (causes (a_use (record { scope = s; expected = a_number n q; at = lit 0 }))) ≡ None
 cause_of_zero s n q = first_if (nat_lt n 0) TooWide ∙ ap (λ b. if b then Some TooWide else None) (le-ltb n 0 (omega arith))
 
-pub zero_passes : (a : At) (n : ℕ) (q : Option Word) → verdict (expr_nodes (lit 0) a (Some (a_number n q))) ≡ None
+pub zero_passes : (a : ItemContext) (n : ℕ) (q : Option Word) → verdict (expr_nodes (lit 0) a (Some (a_number n q))) ≡ None
 zero_passes a n q =
-    verdict_node a.path (a_use (record { scope = a.scope; due = a_number n q; at = lit 0 })) []
+    verdict_node a.path (a_use (record { scope = a.scope; expected = a_number n q; at = lit 0 })) []
     ∙ ap (λ x. or_else (fault_of a.path x) (verdict [])) (cause_of_zero a.scope n q)
     ∙ verdict_none
 
--- the fault of a sum at the path, or what is found behind
+-- the fault of a sum at the path, or what is found after
 abbrev pub wide_or : List Part → Bool → Option FaultAt → Option FaultAt
 wide_or p true x = Some (fault_at p TooWide)
 wide_or p false x = x
@@ -56,28 +56,28 @@ wide_twice p true false x = refl
 wide_twice p false true x = refl
 wide_twice p false false x = refl
 
-module _ (a : At) (q : Option Word) where
+module _ (a : ItemContext) (q : Option Word) where
   plus_verdict : (n : ℕ) (x y : ExprView)
       → verdict (expr_nodes (plus x y) a (Some (a_number n q)))
       ≡ wide_or a.path (exceeds n (closed (plus x y)))
       (verdict (expr_nodes x a (Some (a_number greatest q)) ++ expr_nodes y a (Some (a_number greatest q))))
   plus_verdict n x y =
       let rest = expr_nodes x a (Some (a_number greatest q)) ++ expr_nodes y a (Some (a_number greatest q)) in
-      verdict_node a.path (a_use (record { scope = a.scope; due = a_number n q; at = plus x y })) rest
+      verdict_node a.path (a_use (record { scope = a.scope; expected = a_number n q; at = plus x y })) rest
       ∙ ap (λ c. or_else (fault_of a.path c) (verdict rest)) (cause_of_plus a.scope n q x y)
       ∙ wide_first a.path (exceeds n (closed (plus x y))) (verdict rest)
 
-  -- the nodes behind a sum of two terms at the front of a longer sum
-  behind_plus : (x y : ExprView) (us : List ExprView)
+  -- the nodes after a sum of two terms at the beginning of a longer sum
+  after_plus : (x y : ExprView) (us : List ExprView)
       → verdict (expr_nodes (plus x y) a (Some (a_number greatest q)) ++ number_nodes (exprs_of us) a q)
       ≡ wide_or a.path (exceeds greatest (closed (plus x y)))
       (verdict (expr_nodes x a (Some (a_number greatest q)) ++ (expr_nodes y a (Some (a_number greatest q)) ++ number_nodes (exprs_of us) a q)))
-  behind_plus x y us =
+  after_plus x y us =
       let first_nodes = expr_nodes x a (Some (a_number greatest q)) in
       let second_nodes = expr_nodes y a (Some (a_number greatest q)) in
       let more = number_nodes (exprs_of us) a q in
-      verdict_node a.path (a_use (record { scope = a.scope; due = a_number greatest q; at = plus x y })) ((first_nodes ++ second_nodes) ++ more)
-      ∙ ap (λ js. or_else (fault_of a.path (first (causes (a_use (record { scope = a.scope; due = a_number greatest q; at = plus x y }))))) (verdict js)) (append_assoc first_nodes second_nodes more)
+      verdict_node a.path (a_use (record { scope = a.scope; expected = a_number greatest q; at = plus x y })) ((first_nodes ++ second_nodes) ++ more)
+      ∙ ap (λ js. or_else (fault_of a.path (first (causes (a_use (record { scope = a.scope; expected = a_number greatest q; at = plus x y }))))) (verdict js)) (append_assoc first_nodes second_nodes more)
       ∙ ap (λ c. or_else (fault_of a.path c) (verdict (first_nodes ++ (second_nodes ++ more)))) (cause_of_plus a.scope greatest q x y)
       ∙ wide_first a.path (exceeds greatest (closed (plus x y))) (verdict (first_nodes ++ (second_nodes ++ more)))
 
@@ -91,7 +91,7 @@ module _ (a : At) (q : Option Word) where
       (sym (append_none (expr_nodes y a (Some (a_number greatest q)))))
   nested_verdict n x y (v ∷ vs) =
       nested_verdict n (plus x y) v vs
-      ∙ ap (wide_or a.path (is_past_total n (closed (plus (plus x y) v)) vs)) (behind_plus x y (v ∷ vs))
+      ∙ ap (wide_or a.path (is_past_total n (closed (plus (plus x y) v)) vs)) (after_plus x y (v ∷ vs))
       ∙ wide_twice a.path (exceeds greatest (closed (plus x y))) (is_past_total n (closed (plus (plus x y) v)) vs)
       (verdict (expr_nodes x a (Some (a_number greatest q)) ++ (expr_nodes y a (Some (a_number greatest q)) ++ number_nodes (exprs_of (v ∷ vs)) a q)))
 
@@ -120,7 +120,7 @@ module _ (a : At) (q : Option Word) where
   sum_judged n ts b p (Err (Refused c)) h e t j = sum_within n ts b h e t ∙ j
   sum_judged n ts b p (Err NoMemory) h e t j = j
 
-pub no_terms_pass : (a : At) (n : ℕ) (q : Option Word) (ts : List Expr) → length ts < 1
+pub no_terms_pass : (a : ItemContext) (n : ℕ) (q : Option Word) (ts : List Expr) → length ts < 1
     → verdict (expr_nodes (sum_of (map expr ts)) a (Some (a_number n q))) ≡ None
 no_terms_pass a n q [] h = zero_passes a n q
 no_terms_pass a n q (t ∷ ts) h = absurd (omega arith)

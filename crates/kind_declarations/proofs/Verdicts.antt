@@ -1,4 +1,4 @@
--- Verdicts of several nodes, one behind the other.
+-- Verdicts of several nodes, one after the other.
 use Rattle.std.proofs.Common.{◌≡◌, ap, sym, ◌∙◌, refl, List, [], ◌∷◌, ◌++◌, map}
 use Rattle.std.specs.Result.{IsErrAnd}
 use Rattle.std.proofs.lemmas.Result.{err_from_is_err_and}

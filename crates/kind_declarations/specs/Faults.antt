@@ -5,7 +5,7 @@ use Rattle.kind_declarations.specs.declared.error.Cause.TheVariants.{Reserved, U
 use Rattle.kind_terms.specs.declared.part.Part.{Part}
 use Rattle.kind_declarations.specs.declared.error.Fault.{Fault}
 use Rattle.kind_declarations.specs.declared.error.Fault.TheVariants.{Refused, NoMemory}
-use Rattle.kind_rules.specs.Dues.{Use}
+use Rattle.kind_rules.specs.ExpectedKinds.{Use}
 use Rattle.kind_declarations.specs.Headings.{Heading, Param, is_reserved, is_constructor_twice, is_other_param, is_no_param, is_input_twice, lacks_params}
 use Rattle.kind_rules.specs.Names.{is_field_twice, is_unknown_type, is_unknown_name, is_other_arity, is_other_field_used}
 use Rattle.kind_rules.specs.Numbers.{is_product_of_variables, is_type_for_number, is_number_for_type, is_other_basic_arity}
@@ -85,7 +85,7 @@ undetermined_alone NotLinear test = false
 undetermined_alone TwiceNamed test = false
 undetermined_alone TooWide test = false
 
--- a type, a number or an output stands where another of them is due
+-- a type, a number or an output stands where another of them is expected
 abbrev pub is_mismatch : Use → Bool
 is_mismatch u =
     is_other_field_used u || is_type_for_number u || is_number_for_type u || is_other_basic_arity u
@@ -135,7 +135,7 @@ first (x ∷ xs) = Some x
 unfoldable pub verdict : List Judged → Option FaultAt
 verdict js = first (faults js)
 
--- Judging these nodes finds nothing, or their first cause, with the path to it; or memory is wanted.
+-- Judging these nodes finds nothing, or their first cause, with the path to it; or out of memory.
 abbrev pub Judges : List Judged → List Part → Result (Unit {0}) Fault → Type 0
 Judges js path (Ok done) = verdict js ≡ None
 Judges js path (Err (Refused c)) = verdict js ≡ Some (fault_at path c)

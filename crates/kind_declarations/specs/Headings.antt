@@ -4,7 +4,7 @@ use Rattle.std.specs.List.{list_any}
 use Rattle.tlb_syntax.specs.Tree.{ExprView, ExprList, ConstructorView, SchemaView}
 use Rattle.kind_terms.specs.Words.{Word, is_among, is_built_in, x_alone}
 use Rattle.kind_terms.specs.Dictionaries.{is_dictionary, is_allowed}
-use Rattle.kind_terms.specs.declared.kind.Kind.{Kind}
+use Rattle.kind_terms.specs.declared.kind.TermKind.{TermKind}
 use Rattle.kind_terms.specs.Params.{kind_of, has_kind, is_same_kind, variable_of, inputs}
 use Rattle.kind_terms.specs.Types.{count, first_kinds}
 
@@ -44,15 +44,15 @@ pub record Param : Type 0 where
   pub at : ExprView
 
 -- the parameters of the type, where an earlier declaration fixes them
-abbrev pub fixed : Heading → Option (List Kind)
+abbrev pub fixed : Heading → Option (List TermKind)
 fixed r = first_kinds r.earlier
 
 -- a parameter that has a kind, and not this one; any is one too many where there is none
-abbrev pub differs : Option Kind → Kind → Bool
+abbrev pub differs : Option TermKind → TermKind → Bool
 differs None k = true
 differs (Some first) k = has_kind k && not (is_same_kind first k)
 
-abbrev pub differs_at : Option (List Kind) → ℕ → Kind → Bool
+abbrev pub differs_at : Option (List TermKind) → ℕ → TermKind → Bool
 differs_at None i k = false
 differs_at (Some ks) i k = differs (slice_get ks i) k
 
@@ -61,7 +61,7 @@ abbrev pub is_other_param : Param → Bool
 is_other_param p = differs_at (fixed p.of) (count p.before) (kind_of p.of.this.items p.at)
 
 -- fewer parameters than the first declaration of the type has
-abbrev pub is_fewer : Option (List Kind) → ℕ → Bool
+abbrev pub is_fewer : Option (List TermKind) → ℕ → Bool
 is_fewer None n = false
 is_fewer (Some ks) n = nat_lt n (length ks)
 

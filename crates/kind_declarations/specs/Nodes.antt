@@ -3,17 +3,17 @@ use Rattle.std.specs.Prelude.{ℕ, ◌+◌, ◌==◌, List, [], ◌∷◌, ◌++
 use Rattle.tlb_syntax.specs.Tree.{ExprView, ExprList, ItemView, ItemList, TypeView, ConstructorView, SchemaView, lit, named, nat32, bits, below, up_to, plus, star, out, ref, group, no_exprs, an_expr, plain, when, when_bit, implicit, check, explicit, no_items, an_item}
 use Rattle.kind_terms.specs.declared.part.Part.{Part}
 use Rattle.kind_terms.specs.declared.part.Part.TheVariants as places
-use Rattle.kind_terms.specs.Positions.{Place, first_place, next_place, path_at}
+use Rattle.kind_terms.specs.Positions.{ItemPosition, first_position, next_position, path_at}
 use Rattle.kind_terms.specs.Words.{Word}
-use Rattle.kind_terms.specs.declared.kind.Kind.{Kind}
-use Rattle.kind_terms.specs.declared.kind.Kind.TheVariants.{NumberIn, TypeIn, NumberOut, NoKind}
+use Rattle.kind_terms.specs.declared.kind.TermKind.{TermKind}
+use Rattle.kind_terms.specs.declared.kind.TermKind.TheVariants.{NumberIn, TypeIn, NumberOut, NoKind}
 use Rattle.kind_terms.specs.Params.{greatest, inputs}
 use Rattle.kind_terms.specs.Types.{type_named, parameters, has_exprs}
 use Rattle.kind_terms.specs.Sought.{sought}
-use Rattle.kind_terms.specs.Scopes.{Scope, field_names, given_out, behind, at_end, inside, made_known}
-use Rattle.kind_rules.specs.declared.due.Stand.{Stand}
-use Rattle.kind_rules.specs.declared.due.Stand.TheVariants.{Whole, Conditional, FieldRef, UnderRef, Inner}
-use Rattle.kind_rules.specs.Dues.{Due, Use, a_number, an_output, a_type}
+use Rattle.kind_terms.specs.Scopes.{Scope, field_names, given_out, after, at_end, inside, made_known}
+use Rattle.kind_rules.specs.declared.expected.TypePosition.{TypePosition}
+use Rattle.kind_rules.specs.declared.expected.TypePosition.TheVariants.{Whole, Conditional, FieldRef, UnderRef, Inner}
+use Rattle.kind_rules.specs.ExpectedKinds.{Expected, Use, a_number, an_output, a_type}
 use Rattle.kind_declarations.specs.Headings.{Heading, Param}
 use Rattle.kind_rules.specs.Names.{Field}
 use Rattle.kind_rules.specs.FieldNames.{names_inside}
@@ -23,7 +23,7 @@ pub data Node : Type 0 where
   -- the names of a declaration
   a_heading : Heading → Node
   a_param : Param → Node
-  -- behind the last parameter
+  -- after the last parameter
   params_end : Heading → Node
   -- the name of a field
   a_field : Field → Node
@@ -42,8 +42,8 @@ judged p n = record { path = p; node = n }
 -- ---- positions
 
 -- An item of a record stands here.
-pub record Here : Type 0 where
-  pub place : Place
+pub record RecordContext : Type 0 where
+  pub place : ItemPosition
   pub scope : Scope
   -- the fields before it of the record and of those around it
   pub fields : List Word
@@ -51,98 +51,98 @@ pub record Here : Type 0 where
   pub inner : List Word
 
 -- an item, and the fields up to it of its record and of those around it
-pub record At : Type 0 where
+pub record ItemContext : Type 0 where
   pub path : List Part
   pub scope : Scope
   pub fields : List Word
 
-abbrev pub at : Here → ItemView → At
+abbrev pub at : RecordContext → ItemView → ItemContext
 at h i = record { path = path_at h.place i; scope = h.scope; fields = h.fields ++ field_names i }
 
 -- the first item of a record in the item
-abbrev pub first_inside : At → Here
-first_inside a = record { place = first_place a.path; scope = inside a.scope; fields = a.fields; inner = [] }
+abbrev pub first_inside : ItemContext → RecordContext
+first_inside a = record { place = first_position a.path; scope = inside a.scope; fields = a.fields; inner = [] }
 
 -- the next item
-abbrev pub next : Here → ItemView → Here
+abbrev pub next : RecordContext → ItemView → RecordContext
 next h i = record {
-  place = next_place h.place i;
-  scope = behind h.scope i;
+  place = next_position h.place i;
+  scope = after h.scope i;
   fields = h.fields ++ field_names i;
   inner = h.inner ++ names_inside i;
 }
 
 -- the items of a constructor, whose inputs are known from the start
-abbrev pub first : SchemaView → ConstructorView → Here
+abbrev pub first : SchemaView → ConstructorView → RecordContext
 first types c = record {
-  place = first_place [];
+  place = first_position [];
   scope = record { types = types; around = []; own = []; known = inputs c.params };
   fields = [];
   inner = [];
 }
 
--- ---- what is due in the parts of an expression; nothing, where the expression itself is refused
+-- ---- what is expected in the parts of an expression; nothing, where the expression itself is refused
 
-abbrev pub number_due : Option Due
-number_due = Some (a_number greatest None)
+abbrev pub expected_number : Option Expected
+expected_number = Some (a_number greatest None)
 
-abbrev pub sum_due : Option Due → Option Due
-sum_due None = None
-sum_due (Some (a_number n q)) = Some (a_number greatest q)
-sum_due (Some (an_output before)) = None
-sum_due (Some (a_type w)) = None
+abbrev pub expected_in_sum : Option Expected → Option Expected
+expected_in_sum None = None
+expected_in_sum (Some (a_number n q)) = Some (a_number greatest q)
+expected_in_sum (Some (an_output before)) = None
+expected_in_sum (Some (a_type w)) = None
 
 -- the factors of a product, or of a repetition
-abbrev pub left_due : Option Due → Option Due
-left_due None = None
-left_due (Some (a_number n q)) = Some (a_number greatest q)
-left_due (Some (an_output before)) = None
-left_due (Some (a_type w)) = number_due
+abbrev pub expected_at_left : Option Expected → Option Expected
+expected_at_left None = None
+expected_at_left (Some (a_number n q)) = Some (a_number greatest q)
+expected_at_left (Some (an_output before)) = None
+expected_at_left (Some (a_type w)) = expected_number
 
-abbrev pub right_due : Option Due → Option Due
-right_due None = None
-right_due (Some (a_number n q)) = Some (a_number greatest q)
-right_due (Some (an_output before)) = None
-right_due (Some (a_type w)) = Some (a_type Inner)
+abbrev pub expected_at_right : Option Expected → Option Expected
+expected_at_right None = None
+expected_at_right (Some (a_number n q)) = Some (a_number greatest q)
+expected_at_right (Some (an_output before)) = None
+expected_at_right (Some (a_type w)) = Some (a_type Inner)
 
-abbrev pub under : Stand → Stand
+abbrev pub under : TypePosition → TypePosition
 under Whole = FieldRef
 under Conditional = FieldRef
 under FieldRef = UnderRef
 under UnderRef = UnderRef
 under Inner = UnderRef
 
-abbrev pub ref_due : Option Due → Option Due
-ref_due None = None
-ref_due (Some (a_number n q)) = None
-ref_due (Some (an_output before)) = None
-ref_due (Some (a_type w)) = Some (a_type (under w))
+abbrev pub expected_under_ref : Option Expected → Option Expected
+expected_under_ref None = None
+expected_under_ref (Some (a_number n q)) = None
+expected_under_ref (Some (an_output before)) = None
+expected_under_ref (Some (a_type w)) = Some (a_type (under w))
 
-abbrev pub only_types : {X : Type 0} → Option Due → List X → List X
+abbrev pub only_types : {X : Type 0} → Option Expected → List X → List X
 only_types None xs = []
 only_types (Some (a_number n q)) xs = []
 only_types (Some (an_output before)) xs = []
 only_types (Some (a_type w)) xs = xs
 
-abbrev pub kind_due : Kind → List Word → Option Due
-kind_due (NumberIn n) before = Some (a_number n None)
-kind_due TypeIn before = Some (a_type Inner)
-kind_due NumberOut before = Some (an_output before)
-kind_due NoKind before = None
+abbrev pub expected_argument : TermKind → List Word → Option Expected
+expected_argument (NumberIn n) before = Some (a_number n None)
+expected_argument TypeIn before = Some (a_type Inner)
+expected_argument NumberOut before = Some (an_output before)
+expected_argument NoKind before = None
 
 -- ---- expressions, items and records
 
-abbrev pub use_at : At → Option Due → ExprView → List Judged
+abbrev pub use_at : ItemContext → Option Expected → ExprView → List Judged
 use_at a None e = []
-use_at a (Some d) e = judged a.path (a_use (record { scope = a.scope; due = d; at = e })) ∷ []
+use_at a (Some d) e = judged a.path (a_use (record { scope = a.scope; expected = d; at = e })) ∷ []
 
--- the name of an item on the path, behind these fields
+-- the name of an item on the path, after these fields
 abbrev pub name_at : List Part → List Word → Option Word → List Judged
 name_at path others None = []
 name_at path others (Some x) = judged path (a_field (record { name = x; others = others })) ∷ []
 
 abbrev mutual
-  pub expr_nodes : ExprView → At → Option Due → List Judged
+  pub expr_nodes : ExprView → ItemContext → Option Expected → List Judged
   expr_nodes (lit n) a d = use_at a d (lit n)
   expr_nodes (named x es) a d =
       use_at a d (named x es)
@@ -151,33 +151,33 @@ abbrev mutual
   expr_nodes (bits es) a d = use_at a d (bits es) ++ arg_nodes es a (only_types d (NumberIn 32 ∷ [])) []
   expr_nodes (below es) a d = use_at a d (below es) ++ arg_nodes es a (only_types d (NumberIn greatest ∷ [])) []
   expr_nodes (up_to es) a d = use_at a d (up_to es) ++ arg_nodes es a (only_types d (NumberIn greatest ∷ [])) []
-  expr_nodes (plus x y) a d = use_at a d (plus x y) ++ (expr_nodes x a (sum_due d) ++ expr_nodes y a (sum_due d))
-  expr_nodes (star x y) a d = use_at a d (star x y) ++ (expr_nodes x a (left_due d) ++ expr_nodes y a (right_due d))
+  expr_nodes (plus x y) a d = use_at a d (plus x y) ++ (expr_nodes x a (expected_in_sum d) ++ expr_nodes y a (expected_in_sum d))
+  expr_nodes (star x y) a d = use_at a d (star x y) ++ (expr_nodes x a (expected_at_left d) ++ expr_nodes y a (expected_at_right d))
   expr_nodes (out e) a d = use_at a d (out e)
-  expr_nodes (ref e) a d = use_at a d (ref e) ++ expr_nodes e a (ref_due d)
+  expr_nodes (ref e) a d = use_at a d (ref e) ++ expr_nodes e a (expected_under_ref d)
   expr_nodes (group is) a d = use_at a d (group is) ++ only_types d (record_nodes is (first_inside a))
 
-  -- arguments at the places of these parameters, behind these outputs
-  pub arg_nodes : ExprList → At → List Kind → List Word → List Judged
+  -- arguments at the places of these parameters, after these outputs
+  pub arg_nodes : ExprList → ItemContext → List TermKind → List Word → List Judged
   arg_nodes no_exprs a ks before = []
   arg_nodes (an_expr e es) a [] before = []
   arg_nodes (an_expr e es) a (k ∷ ks) before =
-      expr_nodes e a (kind_due k before) ++ arg_nodes es a ks (before ++ given_out k e)
+      expr_nodes e a (expected_argument k before) ++ arg_nodes es a ks (before ++ given_out k e)
 
-  pub type_nodes : TypeView → At → List Judged
+  pub type_nodes : TypeView → ItemContext → List Judged
   type_nodes (plain e) a = expr_nodes e a (Some (a_type Whole))
-  type_nodes (when c e) a = expr_nodes c a number_due ++ expr_nodes e a (Some (a_type Conditional))
-  type_nodes (when_bit c k e) a = expr_nodes c a number_due ++ expr_nodes e a (Some (a_type Conditional))
+  type_nodes (when c e) a = expr_nodes c a expected_number ++ expr_nodes e a (Some (a_type Conditional))
+  type_nodes (when_bit c k e) a = expr_nodes c a expected_number ++ expr_nodes e a (Some (a_type Conditional))
 
-  -- of an item that stands there, behind these fields
-  pub item_nodes : ItemView → At → List Word → List Judged
+  -- of an item that stands there, after these fields
+  pub item_nodes : ItemView → ItemContext → List Word → List Judged
   item_nodes (implicit x k) a others = name_at a.path others (Some x)
   item_nodes (check x op y) a others =
       expr_nodes x a (Some (a_number greatest (sought x op y)))
       ++ expr_nodes y a (Some (a_number greatest (sought x op y)))
   item_nodes (explicit x t) a others = name_at a.path others x ++ type_nodes t a
 
-  pub record_nodes : ItemList → Here → List Judged
+  pub record_nodes : ItemList → RecordContext → List Judged
   record_nodes no_items h = []
   record_nodes (an_item i is) h = item_nodes i (at h i) (h.fields ++ h.inner) ++ record_nodes is (next h i)
 
@@ -201,7 +201,7 @@ abbrev mutual
   expr_endings (star x y) types path = expr_endings x types path ++ expr_endings y types path
   expr_endings (out e) types path = expr_endings e types path
   expr_endings (ref e) types path = expr_endings e types path
-  expr_endings (group is) types path = record_endings is types (first_place path) (made_known types is)
+  expr_endings (group is) types path = record_endings is types (first_position path) (made_known types is)
 
   pub arg_endings : ExprList → SchemaView → List Part → List Judged
   arg_endings no_exprs types path = []
@@ -219,11 +219,11 @@ abbrev mutual
   item_endings (explicit x t) types path = type_endings t types path
 
   -- of a record at whose end these of its variables are known
-  pub record_endings : ItemList → SchemaView → Place → List Word → List Judged
+  pub record_endings : ItemList → SchemaView → ItemPosition → List Word → List Judged
   record_endings no_items types p known = []
   record_endings (an_item i is) types p known =
       ending_at (path_at p i) known i
-      ++ (item_endings i types (path_at p i) ++ record_endings is types (next_place p i) known)
+      ++ (item_endings i types (path_at p i) ++ record_endings is types (next_position p i) known)
 
 -- ---- declarations
 
@@ -240,15 +240,15 @@ param_nodes r before no_exprs = []
 param_nodes r before (an_expr e es) =
     judged result_path (a_param (record { of = r; before = before; at = e })) ∷ param_nodes r (joined before e) es
 
--- the result of a declaration: its names, its parameters, and what is behind them
+-- the result of a declaration: its names, its parameters, and what is after them
 abbrev pub heading_nodes : Heading → List Judged
 heading_nodes r =
     judged result_path (a_heading r) ∷ (param_nodes r no_exprs r.this.params ++ judged result_path (params_end r) ∷ [])
 
 -- the numbers of outputs
-abbrev pub output_nodes : ExprList → At → List Judged
+abbrev pub output_nodes : ExprList → ItemContext → List Judged
 output_nodes no_exprs a = []
-output_nodes (an_expr (out e) es) a = expr_nodes e a number_due ++ output_nodes es a
+output_nodes (an_expr (out e) es) a = expr_nodes e a expected_number ++ output_nodes es a
 output_nodes (an_expr (lit n) es) a = output_nodes es a
 output_nodes (an_expr (named x fs) es) a = output_nodes es a
 output_nodes (an_expr nat32 es) a = output_nodes es a
@@ -261,7 +261,7 @@ output_nodes (an_expr (ref e) es) a = output_nodes es a
 output_nodes (an_expr (group is) es) a = output_nodes es a
 
 -- what the result sees
-abbrev pub at_result : SchemaView → ConstructorView → At
+abbrev pub at_result : SchemaView → ConstructorView → ItemContext
 at_result types c = record { path = result_path; scope = at_end (first types c).scope c.items; fields = [] }
 
 -- its items, then its outputs
@@ -272,4 +272,4 @@ record_and_outputs types c = record_nodes c.items (first types c) ++ output_node
 abbrev pub constructor_nodes : SchemaView → ConstructorView → List Judged
 constructor_nodes types c =
     record_and_outputs types c
-    ++ record_endings c.items types (first_place []) (inputs c.params ++ made_known types c.items)
+    ++ record_endings c.items types (first_position []) (inputs c.params ++ made_known types c.items)

@@ -14,7 +14,7 @@ use sqlite_items::Items;
 use std::alloc::Global;
 use tlb_syntax::Constructor;
 
-/// The items of a constructor, then its outputs, then its implicit fields once more, behind all declarations of types. On a
+/// The items of a constructor, then its outputs, then its implicit fields once more, after all declarations of types. On a
 /// refusal the path leads to the item at fault.
 pub fn judge_constructor<'a>(
     alloc: Global,

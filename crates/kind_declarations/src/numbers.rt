@@ -1,45 +1,45 @@
-//! Numbers and outputs, judged where they are due.
+//! Numbers and outputs, judged where they are expected.
 ghost use Rattle.std.specs.Prelude.{◌≡◌, map, option_map, Some};
 ghost use Rattle.tlb_syntax.specs.View.{expr, exprs};
 ghost use Rattle.tlb_syntax.specs.Tree.{sum_of};
-ghost use Rattle.kind_rules.specs.Dues.{a_number, an_output};
+ghost use Rattle.kind_rules.specs.ExpectedKinds.{a_number, an_output};
 ghost use Rattle.kind_declarations.specs.Faults.{Judges};
 ghost use Rattle.kind_declarations.specs.Nodes.{expr_nodes, use_at};
 ghost use Rattle.kind_declarations.specs.Parts.{number_nodes};
-ghost use Rattle.kind_declarations.specs.Views.{at_by};
-ghost use Rattle.kind_rules.specs.Views.{due_by};
+ghost use Rattle.kind_declarations.specs.Views.{item_context};
+ghost use Rattle.kind_rules.specs.Views.{expected_by};
 ghost use Rattle.kind_terms.specs.Views.{part_by};
 
 use crate::error::{Cause, Fault};
 use crate::scope::Scope;
 use bit_slice::Name;
-use kind_rules::{Due, is_sum_beyond};
+use kind_rules::{Expected, is_sum_beyond};
 use kind_terms::GREATEST;
 use tlb_syntax::Expr;
 
 impl<'a, 't> Scope<'a, 't> {
     /// An expression by itself, without its parts.
-    pub fn judge_use(&self, e: &Expr, due: Due<'_>) -> Result<(), Fault>
-        ensures { Judges (use_at (at_by self.now) (Some (due_by due.entry)) (expr e.now)) (map part_by self.now.path) result }
+    pub fn judge_use(&self, e: &Expr, expected: Expected<'_>) -> Result<(), Fault>
+        ensures { Judges (use_at (item_context self.now) (Some (expected_by expected.entry)) (expr e.now)) (map part_by self.now.path) result }
     {
-        match self.first_cause(due, e) {
+        match self.first_cause(expected, e) {
             None => Ok(()),
             Some(cause) => Err(Fault::Refused(cause)),
         }
     }
 
     // A number by itself, without its parts.
-    #[tactic(auto, using(crate::proofs::NumberNodes::same_due))]
+    #[tactic(auto, using(crate::proofs::NumberNodes::same_expected))]
     fn judge_number_alone(&self, e: &Expr, most: u32, sought: Option<&Name>) -> Result<(), Fault>
-        ensures { Judges (use_at (at_by self.now) (Some (a_number most (option_map (λ x. x.now) sought.entry))) (expr e.now)) (map part_by self.now.path) result }
+        ensures { Judges (use_at (item_context self.now) (Some (a_number most (option_map (λ x. x.now) sought.entry))) (expr e.now)) (map part_by self.now.path) result }
     {
-        self.judge_use(e, Due::number(most, sought))
+        self.judge_use(e, Expected::number(most, sought))
     }
 
-    /// An expression where a number is due, in an equation that seeks this variable or elsewhere.
+    /// An expression where a number is expected, in an equation that seeks this variable or elsewhere.
     #[cycle(number)]
     pub fn judge_number(&self, e: &Expr, most: u32, sought: Option<&Name>) -> Result<(), Fault>
-        ensures { Judges (expr_nodes (expr e.now) (at_by self.now) (Some (a_number most (option_map (λ x. x.now) sought.entry)))) (map part_by self.now.path) result }
+        ensures { Judges (expr_nodes (expr e.now) (item_context self.now) (Some (a_number most (option_map (λ x. x.now) sought.entry)))) (map part_by self.now.path) result }
     {
         match e {
             Expr::Sum(terms) => self.judge_sum(terms.as_slice(), most, sought),
@@ -62,7 +62,7 @@ impl<'a, 't> Scope<'a, 't> {
 
     #[cycle(number)]
     fn judge_sum(&self, terms: &[Expr], most: u32, sought: Option<&Name>) -> Result<(), Fault>
-        ensures { Judges (expr_nodes (sum_of (map expr terms.now)) (at_by self.now) (Some (a_number most (option_map (λ x. x.now) sought.entry)))) (map part_by self.now.path) result }
+        ensures { Judges (expr_nodes (sum_of (map expr terms.now)) (item_context self.now) (Some (a_number most (option_map (λ x. x.now) sought.entry)))) (map part_by self.now.path) result }
     {
         match terms {
             [] => Ok(()),
@@ -78,7 +78,7 @@ impl<'a, 't> Scope<'a, 't> {
 
     #[cycle(number)]
     fn judge_terms(&self, terms: &[Expr], sought: Option<&Name>) -> Result<(), Fault>
-        ensures { Judges (number_nodes (exprs terms.now) (at_by self.now) (option_map (λ x. x.now) sought.entry)) (map part_by self.now.path) result }
+        ensures { Judges (number_nodes (exprs terms.now) (item_context self.now) (option_map (λ x. x.now) sought.entry)) (map part_by self.now.path) result }
     {
         for term in terms {
             self.judge_number(term, GREATEST, sought)?;
@@ -86,11 +86,11 @@ impl<'a, 't> Scope<'a, 't> {
         Ok(())
     }
 
-    /// An expression at an output place, behind outputs of the same type.
-    #[tactic(auto, using(crate::proofs::NumberNodes::same_due))]
+    /// An expression at an output place, after outputs of the same type.
+    #[tactic(auto, using(crate::proofs::NumberNodes::same_expected))]
     pub fn judge_output(&self, e: &Expr, before: &[&Name]) -> Result<(), Fault>
-        ensures { Judges (expr_nodes (expr e.now) (at_by self.now) (Some (an_output (map (λ x. x.now) before.now)))) (map part_by self.now.path) result }
+        ensures { Judges (expr_nodes (expr e.now) (item_context self.now) (Some (an_output (map (λ x. x.now) before.now)))) (map part_by self.now.path) result }
     {
-        self.judge_use(e, Due::output(before))
+        self.judge_use(e, Expected::output(before))
     }
 }

@@ -5,7 +5,7 @@ ghost use Rattle.tlb_syntax.specs.Tree.{an_expr, no_exprs};
 ghost use Rattle.tlb_syntax.specs.View.{constructor as constructor_view, expr, exprs};
 ghost use Rattle.kind_declarations.specs.Faults.{Judges};
 ghost use Rattle.kind_declarations.specs.Nodes.{output_nodes, record_and_outputs};
-ghost use Rattle.kind_declarations.specs.Views.{all_by, at_by, path_by};
+ghost use Rattle.kind_declarations.specs.Views.{all_by, item_context, path_by};
 ghost use Rattle.kind_terms.specs.Views.{part_by};
 
 use crate::error::Fault;
@@ -18,7 +18,7 @@ use tlb_syntax::{Constructor, Expr};
 impl<'a, 't> Scope<'a, 't> {
     // A parameter of a result: the number of an output.
     fn judge_param(&self, param: &Expr) -> Result<(), Fault>
-        ensures { Judges (output_nodes (an_expr (expr param.now) no_exprs) (at_by self.now)) (path_by self.now) result }
+        ensures { Judges (output_nodes (an_expr (expr param.now) no_exprs) (item_context self.now)) (path_by self.now) result }
     {
         match param {
             Expr::Out(number) => self.judge_number(number.get(), GREATEST, None),
@@ -41,7 +41,7 @@ impl<'a, 't> Scope<'a, 't> {
 
     // The outputs of a result.
     fn judge_outputs(&self, params: &[Expr]) -> Result<(), Fault>
-        ensures { Judges (output_nodes (exprs params.now) (at_by self.now)) (path_by self.now) result }
+        ensures { Judges (output_nodes (exprs params.now) (item_context self.now)) (path_by self.now) result }
     {
         for param in params {
             self.judge_param(param)?;
@@ -51,7 +51,7 @@ impl<'a, 't> Scope<'a, 't> {
 
     // The items of a constructor, and its outputs.
     fn judge_all(&mut self, constructor: &'a Constructor) -> Result<(), Fault>
-        requires around { self.old.around ≤ length self.old.entries }
+        requires around { self.old.around ≤ length self.old.bindings }
         requires limits { IsConstructor (constructor_view constructor.now) }
         ensures judged { Judges (all_by self.old (constructor_view constructor.now)) (path_by self.new) result }
         ensures kept { OnOk result (self.new.path ≡ self.old.path) }
@@ -64,7 +64,7 @@ impl<'a, 't> Scope<'a, 't> {
     }
 }
 
-/// The items of a constructor, and its outputs, behind all declarations of types. On a refusal the path leads to the item
+/// The items of a constructor, and its outputs, after all declarations of types. On a refusal the path leads to the item
 /// at fault, and else it is empty.
 pub fn judge_record<'a, 't>(
     alloc: Global,

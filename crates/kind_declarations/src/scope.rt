@@ -7,12 +7,12 @@ ghost use Rattle.kind_terms.specs.Params.{bare_name as bare_name_of};
 ghost use Rattle.kind_terms.specs.Scopes.{in_scope, is_implicit_number, is_known as is_known_in, is_own_unknown as is_own_unknown_in, meaning_of as meaning_of_name};
 ghost use Rattle.kind_terms.specs.Types.{type_named};
 ghost use Rattle.kind_terms.specs.Views.{named_by};
-ghost use Rattle.kind_rules.specs.Dues.{as_type, type_unless, meaning_by};
+ghost use Rattle.kind_rules.specs.ExpectedKinds.{as_type, type_unless, meaning_by};
 ghost use Rattle.kind_rules.specs.Numbers.{is_variable_in, holds_variable as holds_variable_in};
 ghost use Rattle.kind_declarations.specs.Views.{scope_by};
 
 use bit_slice::Name;
-use kind_terms::{Entry, Meaning, Shown, TypeNamed, Types, bare_name, is_among, meaning_in};
+use kind_terms::{Binding, Meaning, Shown, TypeNamed, Types, bare_name, is_among, meaning_in};
 use sqlite_items::Items;
 use std::alloc::Global;
 use tlb_syntax::Expr;
@@ -24,7 +24,7 @@ pub struct Scope<'a, 't> {
     pub types: &'t Types<'a>,
     pub path: Items<Shown<'a>>,
     /// The names in scope, those of the records around first.
-    pub entries: Items<Entry<'a>>,
+    pub bindings: Items<Binding<'a>>,
     /// How many of them are of the records around.
     pub around: usize,
     pub known: Items<&'a Name>,
@@ -41,13 +41,13 @@ fn is_implicit(meaning: Option<Meaning>) -> bool
 impl<'a, 't> Scope<'a, 't> {
     /// The first item of a constructor, of which the inputs are known from the start.
     pub fn new(alloc: Global, types: &'t Types<'a>, inputs: Items<&'a Name>) -> Scope<'a, 't>
-        ensures { result ≡ record { alloc = alloc; types = types.entry; path = []; entries = []; around = 0; known = inputs.entry; fields = [] } }
+        ensures { result ≡ record { alloc = alloc; types = types.entry; path = []; bindings = []; around = 0; known = inputs.entry; fields = [] } }
     {
         Scope {
             alloc,
             types,
             path: Items::new(alloc),
-            entries: Items::new(alloc),
+            bindings: Items::new(alloc),
             around: 0,
             known: inputs,
             fields: Items::new(alloc),
@@ -55,11 +55,11 @@ impl<'a, 't> Scope<'a, 't> {
     }
 
     /// What a name stands for, if it is in scope.
-    #[tactic(auto, using(crate::proofs::Seen::meaning_of_seen))]
+    #[tactic(auto, using(crate::proofs::ScopeViews::meaning_of_seen))]
     pub fn meaning_of(&self, name: &Name) -> Option<Meaning>
         ensures { result ≡ meaning_of_name (scope_by self.now) name.now }
     {
-        meaning_in(self.entries.as_slice(), name)
+        meaning_in(self.bindings.as_slice(), name)
     }
 
     #[tactic(auto, unfolding(crate::specs::Views::scope_of))]
@@ -70,19 +70,19 @@ impl<'a, 't> Scope<'a, 't> {
     }
 
     // The names in scope of the record itself.
-    fn own(&self) -> &[Entry<'a>]
-        ensures { result.now ≡ drop self.now.around self.now.entries }
+    fn own(&self) -> &[Binding<'a>]
+        ensures { result.now ≡ drop self.now.around self.now.bindings }
     {
-        let entries = self.entries.as_slice();
-        if self.around <= entries.len() {
-            &entries[self.around..]
+        let bindings = self.bindings.as_slice();
+        if self.around <= bindings.len() {
+            &bindings[self.around..]
         } else {
             &[]
         }
     }
 
     /// Whether the name is an implicit number of the same record that is not known.
-    #[tactic(auto, using(crate::proofs::Seen::own_seen))]
+    #[tactic(auto, using(crate::proofs::ScopeViews::own_seen))]
     pub fn is_own_unknown(&self, name: &Name) -> bool
         ensures { result ≡ is_own_unknown_in (scope_by self.now) name.now }
     {
@@ -100,7 +100,7 @@ impl<'a, 't> Scope<'a, 't> {
     }
 
     // The type that a name is used as, with arguments or without.
-    #[tactic(auto, using(crate::proofs::Seen::types_seen))]
+    #[tactic(auto, using(crate::proofs::ScopeViews::types_seen))]
     fn type_named(&self, name: &Name, has_arguments: bool) -> Option<TypeNamed<'t>>
         ensures { option_map named_by result
             ≡ type_unless (not has_arguments && in_scope (scope_by self.now) name.now) (type_named (scope_by self.now).types name.now has_arguments) }

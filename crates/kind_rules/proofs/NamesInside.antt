@@ -24,15 +24,15 @@ pub in_sum : (e : Expr) (ts us : List Expr) → e ≡ Sum ts → us ≡ ts → n
 in_sum e ts us is same =
     ap (λ x. names_in_all (exprs x)) same ∙ sym (in_terms (map expr ts)) ∙ sym (ap names_in (seen_sum e ts is))
 
--- the names of two parts, one behind the other
-pub behind_both : (m n o xs ys : List Word) → n ≡ m ++ xs → o ≡ n ++ ys → o ≡ m ++ (xs ++ ys)
-behind_both m n o xs ys h k = k ∙ ap (λ z. z ++ ys) h ∙ append_assoc m xs ys
+-- the names of two parts, one after the other
+pub after_both : (m n o xs ys : List Word) → n ≡ m ++ xs → o ≡ n ++ ys → o ≡ m ++ (xs ++ ys)
+after_both m n o xs ys h k = k ∙ ap (λ z. z ++ ys) h ∙ append_assoc m xs ys
 
 pub in_star : (e x y l r : Expr) (m n o : List Word) → e ≡ Star x y → l ≡ x → r ≡ y
     → n ≡ m ++ names_in (expr l) → o ≡ n ++ names_in (expr r) → o ≡ m ++ names_in (expr e)
 in_star e x y l r m n o is left right h k =
     let same : e ≡ Star l r = is ∙ ap (λ z. Star z y) (sym left) ∙ ap (λ z. Star l z) (sym right) in
-    behind_both m n o (names_in (expr l)) (names_in (expr r)) h k ∙ sym (ap (λ v. m ++ names_in v) (seen_star e l r same))
+    after_both m n o (names_in (expr l)) (names_in (expr r)) h k ∙ sym (ap (λ v. m ++ names_in v) (seen_star e l r same))
 
 pub all_step : (es : List Expr) (i : ℕ) (e : Expr) (m n o : List Word) → i < length es → e ≡ get_or es i e
     → m ++ names_in_all (exprs (drop i es)) ≡ o → n ≡ m ++ names_in (expr e)
@@ -50,7 +50,7 @@ pub of_step : (is : List Item) (i : ℕ) (it : Item) (m n o k : List Word) → i
     → m ++ names_of (items (drop i is)) ≡ o → k ≡ m ++ field_names (item it) → n ≡ k ++ names_inside (item it)
     → n ++ names_of (items (drop (i + 1) is)) ≡ o
 of_step is i it m n o k h at gone name more =
-    ap (λ z. z ++ names_of (items (drop (i + 1) is))) (behind_both m k n (field_names (item it)) (names_inside (item it)) name more)
+    ap (λ z. z ++ names_of (items (drop (i + 1) is))) (after_both m k n (field_names (item it)) (names_inside (item it)) name more)
     ∙ append_assoc m (field_names (item it) ++ names_inside (item it)) (names_of (items (drop (i + 1) is)))
     ∙ sym (ap (λ x. m ++ names_of x) (item_at is i it h at))
     ∙ gone

@@ -6,7 +6,7 @@ use Rattle.tlb_syntax.specs.declared.tree.Expr.{Expr}
 use Rattle.tlb_syntax.specs.declared.tree.Expr.TheVariants.{Sum, Bits, Below, UpTo}
 use Rattle.tlb_syntax.specs.View.{expr, exprs}
 use Rattle.tlb_syntax.specs.Tree.{ExprView, plus, nested}
-use Rattle.kind_rules.specs.Dues.{operand}
+use Rattle.kind_rules.specs.ExpectedKinds.{operand}
 use Rattle.kind_rules.specs.Numbers.{is_other_basic}
 use Rattle.kind_terms.specs.ViewLaws.{seen_sum, seen_bits, seen_below, seen_up_to}
 

@@ -1,4 +1,4 @@
-pub mod Dues
+pub mod ExpectedKinds
 pub mod Names
 pub mod Numbers
 pub mod Widths

@@ -73,10 +73,10 @@ bare_name_of_args x (e ∷ es) n = refl
 -- a sum of one term stands for that term
 pub one_term : (e o : Expr) (ts us : List Expr) → e ≡ Sum ts → us ≡ ts → 1 ≤ length us → length us < 2 → o ≡ get_or us 0 o
     → expr o ≡ expr e
-one_term e o ts [] is same some few first = absurd (omega arith)
-one_term e o ts (u ∷ []) is same some few first =
+one_term e o ts [] is same some bounded first = absurd (omega arith)
+one_term e o ts (u ∷ []) is same some bounded first =
     ap expr first ∙ sym (ap expr (is ∙ ap Sum (sym same)) ∙ expr_of_sum (u ∷ []))
-one_term e o ts (u ∷ v ∷ us) is same some few first = absurd (omega arith)
+one_term e o ts (u ∷ v ∷ us) is same some bounded first = absurd (omega arith)
 
 pub no_terms : (e : Expr) (ts us : List Expr) → e ≡ Sum ts → us ≡ ts → length us < 1 → lit 0 ≡ expr e
 no_terms e ts [] is same none = sym (ap expr (is ∙ ap Sum (sym same)) ∙ expr_of_sum [])

@@ -9,7 +9,7 @@ ghost use Rattle.kind_terms.specs.Outs.{joined as join, outs_by, outs_of};
 ghost use Rattle.kind_terms.specs.Scopes.{all_given_out, given_out, makes_known, outputs_of, own_number, type_outputs};
 ghost use Rattle.kind_terms.specs.Sought.{can_be_sought as may_be_sought, cancels as is_cancelling, holds_out as has_out, sides, sought as sought_by, sought_in as sought_by_equation, unknown_of as unknown_by, uses};
 
-use crate::kind::Kind;
+use crate::kind::TermKind;
 use crate::numbers::closed;
 use crate::shape::{bare_name, is_field_of_numbers, out_name};
 use crate::types::Types;
@@ -219,23 +219,27 @@ pub fn sought<'a>(left: &'a Expr, op: Op, right: &'a Expr) -> Option<&'a Name>
 }
 
 // Adds the x of an argument `~x` at an output place.
-fn add_output<'a>(kind: Kind, arg: &'a Expr, known: &mut Items<&'a Name>) -> Result<(), AllocError>
+fn add_output<'a>(
+    kind: TermKind,
+    arg: &'a Expr,
+    known: &mut Items<&'a Name>,
+) -> Result<(), AllocError>
     ensures names { OnOk result (map (λ x. x.now) known.new ≡ map (λ x. x.now) known.old ++ given_out kind (expr arg.now)) }
     ensures kept { OnOk result (take (length known.old) known.new ≡ known.old) }
 {
     match kind {
-        Kind::NumberOut => match out_name(arg) {
+        TermKind::NumberOut => match out_name(arg) {
             Some(name) => known.push(name),
             None => Ok(()),
         },
-        Kind::NumberIn(_) => Ok(()),
-        Kind::TypeIn => Ok(()),
-        Kind::NoKind => Ok(()),
+        TermKind::NumberIn(_) => Ok(()),
+        TermKind::TypeIn => Ok(()),
+        TermKind::NoKind => Ok(()),
     }
 }
 
 fn add_outputs<'a>(
-    kinds: &[Kind],
+    kinds: &[TermKind],
     args: &'a [Expr],
     known: &mut Items<&'a Name>,
 ) -> Result<(), AllocError>

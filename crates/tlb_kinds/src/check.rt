@@ -54,7 +54,7 @@ impl Kinded {
     }
 }
 
-// The refusal of what is judged in a declaration behind these.
+// The refusal of what is judged in a declaration after these.
 fn refusal(
     alloc: Global,
     before: &[Constructor],
@@ -92,7 +92,7 @@ fn judge_headings(alloc: Global, constructors: &[Constructor]) -> Result<(), Kin
 }
 
 fn judge_contents(alloc: Global, constructors: &[Constructor]) -> Result<(), KindError>
-    requires few { length constructors.now ≤ 4096 }
+    requires bounded { length constructors.now ≤ 4096 }
     requires within { AreConstructors (map constructor_view constructors.now) }
     ensures { Finds (of_contents (map constructor_view constructors.now) [] (map constructor_view constructors.now)) result }
 {
@@ -108,7 +108,7 @@ fn judge_contents(alloc: Global, constructors: &[Constructor]) -> Result<(), Kin
 }
 
 fn judge_guard(alloc: Global, constructors: &[Constructor]) -> Result<(), KindError>
-    requires few { length constructors.now ≤ 4096 }
+    requires bounded { length constructors.now ≤ 4096 }
     requires within { AreConstructors (map constructor_view constructors.now) }
     ensures { Finds (of_guard (map constructor_view constructors.now)) result }
 {
@@ -144,7 +144,7 @@ fn without_dictionaries(schema: Schema) -> Schema
 
 // The refusals of a schema without declarations of dictionaries.
 fn judge_kept(alloc: Global, constructors: &[Constructor]) -> Result<(), KindError>
-    requires few { length constructors.now ≤ 4096 }
+    requires bounded { length constructors.now ≤ 4096 }
     requires within { AreConstructors (map constructor_view constructors.now) }
     ensures { Finds (refusals_within (map constructor_view constructors.now)) result }
 {
@@ -170,9 +170,9 @@ pub fn kind_check(alloc: Global, schema: Schema) -> Result<Kinded, KindError>
     requires { IsWithinLimits (schema_view schema) }
     // What is answered holds of the schema.
     ensures holds { IsJudged (schema_view schema) result }
-    // A schema without a refusal passes, unless memory is wanted.
+    // A schema without a refusal passes, unless out of memory.
     ensures passed { IsKinded (schema_view schema) → IsPassed (schema_view schema) result }
-    // The first refusal is answered, unless memory is wanted.
+    // The first refusal is answered, unless out of memory.
     ensures refused { (e : Refused) → first_refusal (schema_view schema) ≡ Some e → IsRefused e result }
 {
     match judge(alloc, schema) {

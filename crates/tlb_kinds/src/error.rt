@@ -17,9 +17,9 @@ pub enum KindError {
     UnknownName(Spot),
     #[error("the parameters are others than those of the type")]
     Arity(Spot),
-    #[error("a type, a number or an output stands where another of them is due")]
+    #[error("a type, a number or an output is_at_position where another of them is expected")]
     KindMismatch(Spot),
-    #[error("a type with outputs stands under ^")]
+    #[error("a type with outputs is_at_position under ^")]
     OutputUnderRef(Spot),
     #[error("a number is not linear")]
     NotLinear(Spot),

@@ -1,7 +1,7 @@
 use Rattle.std.proofs.Common.{◌∙◌, refl, ap, sym}
 use Rattle.kind_terms.specs.Types.{count}
 use Rattle.kind_terms.specs.SumLaws.{one_term, no_terms, two_terms}
-use Rattle.kind_rules.specs.Dues.{arguments}
+use Rattle.kind_rules.specs.ExpectedKinds.{arguments}
 use Rattle.kind_terms.specs.ViewLaws.{count_seen, seen_named}
 use Rattle.kind_rules.proofs.rules.+arg_count.Goals as goal
 

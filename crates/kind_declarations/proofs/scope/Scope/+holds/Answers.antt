@@ -1,6 +1,6 @@
 use Rattle.std.proofs.Common.{◌∙◌}
 use Rattle.kind_declarations.specs.Views.{scope_by}
-use Rattle.kind_declarations.proofs.Holding.{holds_in_sum}
+use Rattle.kind_declarations.proofs.VariableParts.{holds_in_sum}
 use Rattle.kind_declarations.proofs.scope.Scope.+holds.Goals as goal
 
 pub holds_variable-returns-in-Sum : goal.holds_variable-returns-in-Sum

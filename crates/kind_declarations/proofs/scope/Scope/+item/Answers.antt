@@ -5,11 +5,11 @@ use Rattle.kind_terms.specs.ViewLaws.{has_exprs_seen, seen_implicit, seen_check}
 use Rattle.tlb_syntax.specs.declared.tree.Expr.{the_lemmas}
 use Rattle.tlb_syntax.specs.View.{item, items}
 use Rattle.kind_terms.specs.Scopes.{field_names}
-use Rattle.kind_terms.specs.declared.kind.Kind.TheVariants.{NumberIn}
+use Rattle.kind_terms.specs.declared.kind.TermKind.TheVariants.{NumberIn}
 use Rattle.kind_declarations.specs.Faults.{verdict}
 use Rattle.kind_declarations.specs.Parts.{part_nodes}
-use Rattle.kind_declarations.specs.Views.{at_by, path_by, words}
-use Rattle.kind_declarations.proofs.RecordNodes.{args_end, args_end_kinds, args_passed, args_refused, around_follows, blanks_passed, count_of_items, inner_judged, ok_named_one, ok_named_none, ok_named_then, on_ok_always, no_name, one_name, explicit_refused, explicit_passed, check_refused, check_passed, follows_trans, is_expr_at, is_item_at, items_end, items_passed, items_refused, place_passed, scope_passed}
+use Rattle.kind_declarations.specs.Views.{item_context, path_by, words}
+use Rattle.kind_declarations.proofs.RecordNodes.{args_end, args_end_kinds, args_passed, args_refused, around_follows, unnamed_passed, count_of_items, inner_judged, ok_named_one, ok_named_none, ok_named_then, on_ok_always, no_name, one_name, explicit_refused, explicit_passed, check_refused, check_passed, follows_trans, is_expr_at, is_item_at, items_end, items_passed, items_refused, place_passed, scope_passed}
 use Rattle.kind_declarations.proofs.TypeNodes.{named_judged, no_kind, no_parts, same_parts, star_parts, type_split}
 use Rattle.kind_declarations.proofs.Verdicts.{judges_err, passed_then, refused_then, verdict_none}
 use Rattle.kind_declarations.proofs.scope.Scope.+item.Goals as goal
@@ -43,7 +43,7 @@ judge_parts-returns-in_ok-judge_number-in-Star-clause-judged t c =
 
 pub judge_parts-returns-in-Named-clause-judged : goal.judge_parts-returns-in-Named-clause-judged
 judge_parts-returns-in-Named-clause-judged t c =
-    named_judged _ _ _ _ (at_by c.args.self.now) c.args.stand _ _ _ _ c.in-Named.is c.as_slice-in-Named.ensures (has_exprs_seen _ _ c.is_empty.ensures)
+    named_judged _ _ _ _ (item_context c.args.self.now) c.args.position _ _ _ _ c.in-Named.is c.as_slice-in-Named.ensures (has_exprs_seen _ _ c.is_empty.ensures)
     c.parameters_of-kinds.ensures c.judge_args.ensures.judged
 
 pub judge_parts-returns-in-Lit-clause-judged : goal.judge_parts-returns-in-Lit-clause-judged
@@ -57,7 +57,7 @@ judge_parts-returns-in-Lit-3-clause-judged t c = no_parts _ _ _ c.in-Lit.is
 
 pub judge_parts-returns-in-empty-clause-judged : goal.judge_parts-returns-in-empty-clause-judged
 judge_parts-returns-in-empty-clause-judged t c =
-    sym (ap (λ v. verdict (part_nodes v (at_by c.args.self.now) c.args.stand)) (no_terms _ _ _ c.in-Sum.is c.as_slice.ensures c.in-empty.len_below))
+    sym (ap (λ v. verdict (part_nodes v (item_context c.args.self.now) c.args.position)) (no_terms _ _ _ c.in-Sum.is c.as_slice.ensures c.in-empty.len_below))
     ∙ verdict_none
 
 pub judge_parts-returns-in-len1-clause-judged : goal.judge_parts-returns-in-len1-clause-judged
@@ -67,7 +67,7 @@ judge_parts-returns-in-len1-clause-judged t c =
 
 pub judge_parts-returns-in-len2-up-clause-judged : goal.judge_parts-returns-in-len2-up-clause-judged
 judge_parts-returns-in-len2-up-clause-judged t c =
-    sym (ap verdict (two_terms (λ v. part_nodes v (at_by c.args.self.now) c.args.stand) [] (λ a b. refl) _ _ _ c.in-Sum.is c.as_slice.ensures c.in-len2-up.len_at_least))
+    sym (ap verdict (two_terms (λ v. part_nodes v (item_context c.args.self.now) c.args.position) [] (λ a b. refl) _ _ _ c.in-Sum.is c.as_slice.ensures c.in-len2-up.len_at_least))
     ∙ verdict_none
 
 pub judge_args-judge_arg-requires : goal.judge_args-judge_arg-requires
@@ -106,8 +106,8 @@ judge_items-judge_next-requires t c = (
     (
       is_item_at _ _ _ c.loop-item-test.true c.item-item.is c.requires.limits,
       (
-        omega (arith, count_of_items c.args.list.now, c.requires.few, c.loop-item.invariant.place),
-        omega (arith, count_of_items c.args.list.now, c.requires.few, c.loop-item.invariant.blanks),
+        omega (arith, count_of_items c.args.list.now, c.requires.bounded, c.loop-item.invariant.place),
+        omega (arith, count_of_items c.args.list.now, c.requires.bounded, c.loop-item.invariant.unnamed),
       ),
     ),
   ),
@@ -126,7 +126,7 @@ judge_items-loop-item-preserved t c =
       follows = follows_trans c.args.self.now c.loop-item.self c.judge_next.new.self inv.follows new.follows;
       around = around_follows c.loop-item.self c.judge_next.new.self new.follows inv.around;
       place = omega (arith, place_passed c.loop-item.self c.judge_next.new.self c.loop-item.row c.judge_next.new.row _ new.next, inv.place);
-      blanks = omega (arith, blanks_passed c.loop-item.self c.judge_next.new.self c.loop-item.row c.judge_next.new.row (item c.item-item.result) new.next, inv.blanks);
+      unnamed = omega (arith, unnamed_passed c.loop-item.self c.judge_next.new.self c.loop-item.row c.judge_next.new.row (item c.item-item.result) new.next, inv.unnamed);
       nodes = items_passed _ _ c.loop-item.self c.args.self.now c.loop-item.row _ c.loop-item-test.true c.item-item.is c.judge_next.new.self c.judge_next.new.row inv.nodes new.judged new.next;
       scope = scope_passed _ _ c.loop-item.self c.args.self.now c.loop-item.row _ c.loop-item-test.true c.item-item.is c.judge_next.new.self c.judge_next.new.row inv.scope new.next;
     }
@@ -136,10 +136,10 @@ judge_items-returns-clause-judged t c = items_end _ _ c.loop-item.self c.args.se
 
 pub judge_inner-returns-in_err-judge_items-clause-judged : goal.judge_inner-returns-in_err-judge_items-clause-judged
 judge_inner-returns-in_err-judge_items-clause-judged t c =
-    judges_err _ _ _ _ c.from_residual.ensures.1 (inner_judged c.args.self.now c.len-entries.result (items c.args.list.now) (path_by c.judge_items.new.self) (Err c.in_err-judge_items.field-0.0) c.len-entries.ensures c.in_err-judge_items.ensures.judged)
+    judges_err _ _ _ _ c.from_residual.ensures.1 (inner_judged c.args.self.now c.len-bindings.result (items c.args.list.now) (path_by c.judge_items.new.self) (Err c.in_err-judge_items.field-0.0) c.len-bindings.ensures c.in_err-judge_items.ensures.judged)
 
 pub judge_inner-returns-clause-judged : goal.judge_inner-returns-clause-judged
-judge_inner-returns-clause-judged t c = inner_judged c.args.self.now c.len-entries.result (items c.args.list.now) (path_by c.args.self.now) (Ok tt) c.len-entries.ensures c.in_ok-judge_items.ensures.judged
+judge_inner-returns-clause-judged t c = inner_judged c.args.self.now c.len-bindings.result (items c.args.list.now) (path_by c.args.self.now) (Ok tt) c.len-bindings.ensures c.in_ok-judge_items.ensures.judged
 
 pub judge_item-returns-in-Implicit-clause-kept : goal.judge_item-returns-in-Implicit-clause-kept
 judge_item-returns-in-Implicit-clause-kept t c =

@@ -3,7 +3,7 @@ use Rattle.std.specs.Prelude.{None}
 use Rattle.kind_terms.specs.SumLaws.{one_term, no_terms, two_terms}
 use Rattle.kind_terms.specs.Scopes.{in_scope}
 use Rattle.kind_terms.specs.Types.{type_named}
-use Rattle.kind_rules.specs.Dues.{as_type, type_unless}
+use Rattle.kind_rules.specs.ExpectedKinds.{as_type, type_unless}
 use Rattle.kind_terms.specs.ViewLaws.{has_exprs_seen, seen_named}
 use Rattle.kind_declarations.specs.Views.{scope_by}
 use Rattle.kind_declarations.proofs.scope.Scope.+type_of.Goals as goal

@@ -5,7 +5,7 @@ use Rattle.kind_terms.specs.SumLaws.{two_terms}
 use Rattle.tlb_guard.specs.Empty.{may_be_empty}
 use Rattle.tlb_guard.specs.Numbering.{types_in, views}
 use Rattle.tlb_guard.specs.Scoping.{names}
-use Rattle.tlb_guard.proofs.Needing.{swapped}
+use Rattle.tlb_guard.proofs.NeededTypes.{swapped}
 use Rattle.tlb_guard.proofs.empty.Needs.+needs.Goals as goal
 
 pub of_expr-returns-in_default-2-clause-needs : goal.of_expr-returns-in_default-2-clause-needs
