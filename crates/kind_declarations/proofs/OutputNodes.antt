@@ -41,10 +41,6 @@ no_out e a (inr (inr (inr (inr (inr (inr (inl h))))))) = along e _ a (seen_star 
 no_out e a (inr (inr (inr (inr (inr (inr (inr (inl h)))))))) = along e _ a (seen_ref e h.0 h.1) refl
 no_out e a (inr (inr (inr (inr (inr (inr (inr (inr h)))))))) = along e _ a (seen_group e h.0 h.1) refl
 
-pub same_output : (o e : Expr) (a : ItemContext) (p : List Part) (r : Result (Unit {0}) Fault) → expr o ≡ expr e
-    → Judges (output_nodes (an_expr (expr o) no_exprs) a) p r → Judges (output_nodes (an_expr (expr e) no_exprs) a) p r
-same_output o e a p r same j = judged_from _ _ p r (ap (λ v. verdict (one v a)) same) j
-
 -- one more output
 pub output_split : (v : ExprView) (es : ExprList) (a : ItemContext)
     → output_nodes (an_expr v es) a ≡ output_nodes (an_expr v no_exprs) a ++ output_nodes es a

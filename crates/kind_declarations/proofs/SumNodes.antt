@@ -3,7 +3,9 @@ use Rattle.std.proofs.Common.{◌≡◌, ◌≤◌, ◌<◌, ap, sym, ◌∙◌,
 use Rattle.std.specs.Prelude.{Option, Some, None, Result, Ok, Err, if◌then◌else◌, nat_lt}
 use Rattle.std.proofs.lemmas.Bool.{le-ltb}
 use Rattle.tlb_syntax.specs.declared.tree.Expr.{Expr}
+use Rattle.tlb_syntax.specs.declared.tree.Expr.TheVariants.{Sum}
 use Rattle.tlb_syntax.specs.View.{expr, exprs}
+use Rattle.kind_terms.specs.ViewLaws.{seen_sum}
 use Rattle.tlb_syntax.specs.Tree.{ExprView, lit, plus, exprs_of, nested, sum_of}
 use Rattle.kind_terms.specs.Closed.{closed, exceeds}
 use Rattle.kind_terms.specs.declared.part.Part.{Part}
@@ -19,7 +21,7 @@ use Rattle.kind_declarations.specs.Faults.{FaultAt, Judges, causes, fault_at, fi
 use Rattle.kind_declarations.specs.Parts.{number_nodes}
 use Rattle.kind_rules.specs.Sums.{is_past_total, is_sum_past}
 use Rattle.kind_declarations.proofs.NumberNodes.{append_none}
-use Rattle.kind_declarations.proofs.Verdicts.{append_assoc, or_else, fault_of, verdict_node, verdict_none}
+use Rattle.kind_declarations.proofs.Verdicts.{append_assoc, or_else, fault_of, judged_from, verdict_node}
 
 first_if : {X : Type 0} (b : Bool) (x : X) → first (if b then x ∷ [] else []) ≡ (if b then Some x else None)
 first_if true x = refl
@@ -29,16 +31,6 @@ cause_of_plus : (s : Scope) (n : ℕ) (q : Option Word) (x y : ExprView)
     → first (causes (a_use (record { scope = s; expected = a_number n q; at = plus x y })))
     ≡ (if exceeds n (closed (plus x y)) then Some TooWide else None)
 cause_of_plus s n q x y = first_if (exceeds n (closed (plus x y))) TooWide
-
-cause_of_zero : (s : Scope) (n : ℕ) (q : Option Word)
-    → first (causes (a_use (record { scope = s; expected = a_number n q; at = lit 0 }))) ≡ None
-cause_of_zero s n q = first_if (nat_lt n 0) TooWide ∙ ap (λ b. if b then Some TooWide else None) (le-ltb n 0 (omega arith))
-
-pub zero_passes : (a : ItemContext) (n : ℕ) (q : Option Word) → verdict (expr_nodes (lit 0) a (Some (a_number n q))) ≡ None
-zero_passes a n q =
-    verdict_node a.path (a_use (record { scope = a.scope; expected = a_number n q; at = lit 0 })) []
-    ∙ ap (λ x. or_else (fault_of a.path x) (verdict [])) (cause_of_zero a.scope n q)
-    ∙ verdict_none
 
 -- the fault of a sum at the path, or what is found after
 abbrev pub wide_or : List Part → Bool → Option FaultAt → Option FaultAt
@@ -95,32 +87,25 @@ module _ (a : ItemContext) (q : Option Word) where
       ∙ wide_twice a.path (exceeds greatest (closed (plus x y))) (is_past_total n (closed (plus (plus x y) v)) vs)
       (verdict (expr_nodes x a (Some (a_number greatest q)) ++ (expr_nodes y a (Some (a_number greatest q)) ++ number_nodes (exprs_of (v ∷ vs)) a q)))
 
-  -- the verdict of a sum of two or more terms
-  pub sum_verdict : (n : ℕ) (ts : List Expr) → 2 ≤ length ts
-      → verdict (expr_nodes (sum_of (map expr ts)) a (Some (a_number n q)))
-      ≡ wide_or a.path (is_sum_past n (map expr ts)) (verdict (number_nodes (exprs ts) a q))
-  sum_verdict n [] h = absurd (omega arith)
-  sum_verdict n (t ∷ []) h = absurd (omega arith)
-  sum_verdict n (t ∷ u ∷ us) h = nested_verdict n (expr t) (expr u) (map expr us)
+  seen_verdict : (n : ℕ) (e x y : Expr) (es : List Expr) → e ≡ Sum x y es
+      → verdict (expr_nodes (expr e) a (Some (a_number n q)))
+      ≡ wide_or a.path (is_sum_past n (expr x) (expr y) (map expr es))
+      (verdict (expr_nodes (expr x) a (Some (a_number greatest q)) ++ (expr_nodes (expr y) a (Some (a_number greatest q)) ++ number_nodes (exprs es) a q)))
+  seen_verdict n e x y es is =
+      ap (λ v. verdict (expr_nodes v a (Some (a_number n q)))) (seen_sum e x y es is) ∙ nested_verdict n (expr x) (expr y) (map expr es)
 
-  pub sum_past : (n : ℕ) (ts : List Expr) (b : Bool) → 2 ≤ length ts → b ≡ is_sum_past n (map expr ts) → b ≡ true
-      → verdict (expr_nodes (sum_of (map expr ts)) a (Some (a_number n q))) ≡ Some (fault_at a.path TooWide)
-  sum_past n ts b h e t =
-      sum_verdict n ts h ∙ ap (λ c. wide_or a.path c (verdict (number_nodes (exprs ts) a q))) (sym e ∙ t)
+  pub sum_past : (n : ℕ) (e x y : Expr) (es : List Expr) (b : Bool) → e ≡ Sum x y es
+      → b ≡ is_sum_past n (expr x) (expr y) (map expr es) → b ≡ true
+      → verdict (expr_nodes (expr e) a (Some (a_number n q))) ≡ Some (fault_at a.path TooWide)
+  sum_past n e x y es b is past t =
+      seen_verdict n e x y es is
+      ∙ ap (λ c. wide_or a.path c (verdict (expr_nodes (expr x) a (Some (a_number greatest q)) ++ (expr_nodes (expr y) a (Some (a_number greatest q)) ++ number_nodes (exprs es) a q)))) (sym past ∙ t)
 
-  sum_within : (n : ℕ) (ts : List Expr) (b : Bool) → 2 ≤ length ts → b ≡ is_sum_past n (map expr ts) → b ≡ false
-      → verdict (expr_nodes (sum_of (map expr ts)) a (Some (a_number n q))) ≡ verdict (number_nodes (exprs ts) a q)
-  sum_within n ts b h e t =
-      sum_verdict n ts h ∙ ap (λ c. wide_or a.path c (verdict (number_nodes (exprs ts) a q))) (sym e ∙ t)
-
-  pub sum_judged : (n : ℕ) (ts : List Expr) (b : Bool) (p : List Part) (r : Result (Unit {0}) Fault)
-      → 2 ≤ length ts → b ≡ is_sum_past n (map expr ts) → b ≡ false
-      → Judges (number_nodes (exprs ts) a q) p r → Judges (expr_nodes (sum_of (map expr ts)) a (Some (a_number n q))) p r
-  sum_judged n ts b p (Ok u) h e t j = sum_within n ts b h e t ∙ j
-  sum_judged n ts b p (Err (Refused c)) h e t j = sum_within n ts b h e t ∙ j
-  sum_judged n ts b p (Err NoMemory) h e t j = j
-
-pub no_terms_pass : (a : ItemContext) (n : ℕ) (q : Option Word) (ts : List Expr) → length ts < 1
-    → verdict (expr_nodes (sum_of (map expr ts)) a (Some (a_number n q))) ≡ None
-no_terms_pass a n q [] h = zero_passes a n q
-no_terms_pass a n q (t ∷ ts) h = absurd (omega arith)
+  pub sum_judged : (n : ℕ) (e x y : Expr) (es : List Expr) (b : Bool) (p : List Part) (r : Result (Unit {0}) Fault) → e ≡ Sum x y es
+      → b ≡ is_sum_past n (expr x) (expr y) (map expr es) → b ≡ false
+      → Judges (expr_nodes (expr x) a (Some (a_number greatest q)) ++ (expr_nodes (expr y) a (Some (a_number greatest q)) ++ number_nodes (exprs es) a q)) p r
+      → Judges (expr_nodes (expr e) a (Some (a_number n q))) p r
+  sum_judged n e x y es b p r is past t j =
+      let rest = expr_nodes (expr x) a (Some (a_number greatest q)) ++ (expr_nodes (expr y) a (Some (a_number greatest q)) ++ number_nodes (exprs es) a q) in
+      judged_from _ _ p r
+      (sym (seen_verdict n e x y es is ∙ ap (λ c. wide_or a.path c (verdict rest)) (sym past ∙ t))) j

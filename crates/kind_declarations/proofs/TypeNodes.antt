@@ -63,10 +63,6 @@ no_parts e a w (inl h) = ap (λ v. verdict (part_nodes v a w)) (seen_lit e h.0 h
 no_parts e a w (inr (inl h)) = ap (λ v. verdict (part_nodes v a w)) (seen_nat32 e h) ∙ verdict_none
 no_parts e a w (inr (inr h)) = ap (λ v. verdict (part_nodes v a w)) (seen_out e h.0 h.1) ∙ verdict_none
 
-pub same_parts : (o e : Expr) (a : ItemContext) (w : TypePosition) (p : List Part) (r : Result (Unit {0}) Fault) → expr o ≡ expr e
-    → Judges (part_nodes (expr o) a w) p r → Judges (part_nodes (expr e) a w) p r
-same_parts o e a w p r same j = judged_from _ _ p r (ap (λ v. verdict (part_nodes v a w)) same) j
-
 pub named_judged : (e : Expr) (x : Word) (es us : List Expr) (a : ItemContext) (w : TypePosition) (b : Bool) (ks : List TermKind)
     (p : List Part) (r : Result (Unit {0}) Fault)
     → e ≡ Named x es → us ≡ es → b ≡ has_exprs (exprs es) → ks ≡ parameters (type_named a.scope.types x b)

@@ -19,8 +19,8 @@ or_false : (a : Bool) → (a || false) ≡ a
 or_false true = refl
 or_false false = refl
 
--- a test that neither a sum nor a number passes
-module _ (p : ExprView → Bool) (sums : (a b : ExprView) → p (plus a b) ≡ false) (zero : p (lit 0) ≡ false) where
+-- a test that no sum passes
+module _ (p : ExprView → Bool) (sums : (a b : ExprView) → p (plus a b) ≡ false) where
   any_in_plus : (a b : ExprView) → list_any p (parts (plus a b)) ≡ (list_any p (parts a) || list_any p (parts b))
   any_in_plus a b = ap (λ x. x || list_any p (parts a ++ parts b)) (sums a b) ∙ list_any-append p (parts a) (parts b)
 
@@ -37,14 +37,11 @@ module _ (p : ExprView → Bool) (sums : (a b : ExprView) → p (plus a b) ≡ f
       ∙ or_assoc (list_any p (parts t)) (list_any p (parts u)) (list_any p (parts_of_all (exprs_of us)))
       ∙ ap (λ x. list_any p (parts t) || x) (sym (any_in_all u (exprs_of us)))
 
-  -- it is passed in the sum of some terms where it is in one of them
-  pub any_in_sum : (ts : List ExprView) → list_any p (parts (sum_of ts)) ≡ list_any p (parts_of_all (exprs_of ts))
-  any_in_sum [] = ap (λ x. x || false) zero
-  any_in_sum (t ∷ ts) = any_in_nested t ts ∙ sym (any_in_all t (exprs_of ts))
-
-pub holds_in_sum : (s : Scope) (e : Expr) (ts us : List Expr) → e ≡ Sum ts → us ≡ ts
-    → list_any (is_variable_in s) (parts_of_all (exprs us)) ≡ holds_variable s (expr e)
-holds_in_sum s e ts us is same =
-    ap (λ xs. list_any (is_variable_in s) (parts_of_all (exprs xs))) same
-    ∙ sym (any_in_sum (is_variable_in s) (λ a b. refl) refl (map expr ts))
-    ∙ sym (ap (holds_variable s) (seen_sum e ts is))
+pub holds_in_sum : (s : Scope) (e a b : Expr) (es : List Expr) → e ≡ Sum a b es
+    → ((holds_variable s (expr a) || holds_variable s (expr b)) || list_any (is_variable_in s) (parts_of_all (exprs es)))
+    ≡ holds_variable s (expr e)
+holds_in_sum s e a b es is =
+    let p = is_variable_in s in
+    sym (ap (holds_variable s) (seen_sum e a b es is)
+    ∙ any_in_nested p (λ x y. refl) (plus (expr a) (expr b)) (map expr es)
+    ∙ ap (λ x. x || list_any p (parts_of_all (exprs es))) (any_in_plus p (λ x y. refl) (expr a) (expr b)))

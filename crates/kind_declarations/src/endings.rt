@@ -174,7 +174,11 @@ fn endings_in<'a>(
         Expr::Lit(_) | Expr::Nat32 => Ok(()),
         Expr::Named(_, args) | Expr::Bits(args) | Expr::Below(args) | Expr::UpTo(args) =>
             endings_in_all(alloc, types, args.as_slice(), path),
-        Expr::Sum(terms) => endings_in_all(alloc, types, terms.as_slice(), path),
+        Expr::Sum(first, second, more) => {
+            endings_in(alloc, types, first.get(), path)?;
+            endings_in(alloc, types, second.get(), path)?;
+            endings_in_all(alloc, types, more.as_slice(), path)
+        }
         Expr::Star(left, right) => {
             endings_in(alloc, types, left.get(), path)?;
             endings_in(alloc, types, right.get(), path)

@@ -96,11 +96,7 @@ impl<'a, 't> Scope<'a, 't> {
     {
         match e {
             Expr::Lit(_) | Expr::Nat32 | Expr::Out(_) => Ok(()),
-            Expr::Sum(terms) => match terms.as_slice() {
-                [] => Ok(()),
-                [only] => self.judge_parts(only, position),
-                [_, _, ..] => Ok(()),
-            },
+            Expr::Sum(_, _, _) => Ok(()),
             Expr::Named(name, args) => {
                 let kinds = self.parameters_of(name, !args.is_empty());
                 self.judge_args(args.as_slice(), kinds)

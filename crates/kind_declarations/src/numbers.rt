@@ -1,7 +1,6 @@
 //! Numbers and outputs, judged where they are expected.
 ghost use Rattle.std.specs.Prelude.{◌≡◌, map, option_map, Some};
 ghost use Rattle.tlb_syntax.specs.View.{expr, exprs};
-ghost use Rattle.tlb_syntax.specs.Tree.{sum_of};
 ghost use Rattle.kind_rules.specs.ExpectedKinds.{a_number, an_output};
 ghost use Rattle.kind_declarations.specs.Faults.{Judges};
 ghost use Rattle.kind_declarations.specs.Nodes.{expr_nodes, use_at};
@@ -42,7 +41,14 @@ impl<'a, 't> Scope<'a, 't> {
         ensures { Judges (expr_nodes (expr e.now) (item_context self.now) (Some (a_number most (option_map (λ x. x.now) sought.entry)))) (map part_by self.now.path) result }
     {
         match e {
-            Expr::Sum(terms) => self.judge_sum(terms.as_slice(), most, sought),
+            Expr::Sum(first, second, more) => {
+                if is_sum_beyond(first.get(), second.get(), more.as_slice(), most) {
+                    return Err(Fault::Refused(Cause::TooWide));
+                }
+                self.judge_number(first.get(), GREATEST, sought)?;
+                self.judge_number(second.get(), GREATEST, sought)?;
+                self.judge_terms(more.as_slice(), sought)
+            }
             Expr::Star(left, right) => {
                 self.judge_number_alone(e, most, sought)?;
                 self.judge_number(left.get(), GREATEST, sought)?;
@@ -57,22 +63,6 @@ impl<'a, 't> Scope<'a, 't> {
             | Expr::Out(_)
             | Expr::Ref(_)
             | Expr::Group(_) => self.judge_number_alone(e, most, sought),
-        }
-    }
-
-    #[cycle(number)]
-    fn judge_sum(&self, terms: &[Expr], most: u32, sought: Option<&Name>) -> Result<(), Fault>
-        ensures { Judges (expr_nodes (sum_of (map expr terms.now)) (item_context self.now) (Some (a_number most (option_map (λ x. x.now) sought.entry)))) (map part_by self.now.path) result }
-    {
-        match terms {
-            [] => Ok(()),
-            [only] => self.judge_number(only, most, sought),
-            [_, _, ..] => {
-                if is_sum_beyond(terms, most) {
-                    return Err(Fault::Refused(Cause::TooWide));
-                }
-                self.judge_terms(terms, sought)
-            }
         }
     }
 

@@ -22,11 +22,7 @@ impl<'a, 't> Scope<'a, 't> {
     {
         match param {
             Expr::Out(number) => self.judge_number(number.get(), GREATEST, None),
-            Expr::Sum(terms) => match terms.as_slice() {
-                [] => Ok(()),
-                [only] => self.judge_param(only),
-                [_, _, ..] => Ok(()),
-            },
+            Expr::Sum(_, _, _) => Ok(()),
             Expr::Lit(_)
             | Expr::Named(_, _)
             | Expr::Nat32

@@ -117,11 +117,7 @@ impl<'a, 't> Scope<'a, 't> {
     {
         match e {
             Expr::Named(name, args) => self.type_named(name, !args.is_empty()),
-            Expr::Sum(terms) => match terms.as_slice() {
-                [] => None,
-                [only] => self.type_of(only),
-                [_, _, ..] => None,
-            },
+            Expr::Sum(_, _, _) => None,
             _ => None,
         }
     }
@@ -147,7 +143,11 @@ impl<'a, 't> Scope<'a, 't> {
             Expr::Bits(args) | Expr::Below(args) | Expr::UpTo(args) => self.hold_variable(
                 args.as_slice(),
             ),
-            Expr::Sum(terms) => self.hold_variable(terms.as_slice()),
+            Expr::Sum(first, second, more) => {
+                self.holds_variable(first.get())
+                    || self.holds_variable(second.get())
+                    || self.hold_variable(more.as_slice())
+            }
             Expr::Star(left, right) => self.holds_variable(left.get())
                 || self.holds_variable(right.get()),
             Expr::Out(inner) | Expr::Ref(inner) => self.holds_variable(inner.get()),

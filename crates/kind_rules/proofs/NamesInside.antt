@@ -16,13 +16,9 @@ in_nested : (t : ExprView) (us : List ExprView) → names_in (nested t us) ≡ n
 in_nested t [] = sym (append-nil (names_in t))
 in_nested t (u ∷ us) = in_nested (plus t u) us ∙ append_assoc (names_in t) (names_in u) (names_in_all (exprs_of us))
 
-in_terms : (ts : List ExprView) → names_in (sum_of ts) ≡ names_in_all (exprs_of ts)
-in_terms [] = refl
-in_terms (t ∷ ts) = in_nested t ts
-
-pub in_sum : (e : Expr) (ts us : List Expr) → e ≡ Sum ts → us ≡ ts → names_in_all (exprs us) ≡ names_in (expr e)
-in_sum e ts us is same =
-    ap (λ x. names_in_all (exprs x)) same ∙ sym (in_terms (map expr ts)) ∙ sym (ap names_in (seen_sum e ts is))
+in_sum : (e a b : Expr) (es : List Expr) → e ≡ Sum a b es
+    → names_in (expr e) ≡ (names_in (expr a) ++ names_in (expr b)) ++ names_in_all (exprs es)
+in_sum e a b es is = ap names_in (seen_sum e a b es is) ∙ in_nested (plus (expr a) (expr b)) (map expr es)
 
 -- the names of two parts, one after the other
 pub after_both : (m n o xs ys : List Word) → n ≡ m ++ xs → o ≡ n ++ ys → o ≡ m ++ (xs ++ ys)
@@ -58,10 +54,17 @@ of_step is i it m n o k h at gone name more =
 pub of_end : (is : List Item) (i : ℕ) (m o : List Word) → length is ≤ i → m ++ names_of (items (drop i is)) ≡ o → m ≡ o
 of_end is i m o h gone = sym (append-nil m) ∙ sym (ap (λ x. m ++ names_of x) (item_end is i h)) ∙ gone
 
-pub ok_in_sum : {E : Type 0} (r : Result (Unit {0}) E) (m n : List Word) (e : Expr) (ts us : List Expr) → e ≡ Sum ts → us ≡ ts
-    → OnOk r (n ≡ m ++ names_in_all (exprs us)) → OnOk r (n ≡ m ++ names_in (expr e))
-ok_in_sum (Ok u) m n e ts us is same h = h ∙ ap (λ z. m ++ z) (in_sum e ts us is same)
-ok_in_sum (Err x) m n e ts us is same h = h
+three_parts : (m n o p A B C : List Word) → n ≡ m ++ A → o ≡ n ++ B → p ≡ o ++ C → p ≡ m ++ ((A ++ B) ++ C)
+three_parts m n o p A B C h k l = l ∙ ap (λ z. z ++ C) (after_both m n o A B h k) ∙ append_assoc m (A ++ B) C
+
+pub ok_in_sum : {E : Type 0} (s : Result (Unit {0}) E) (m n o p : List Word) (e a b x y : Expr) (es us : List Expr)
+    → e ≡ Sum a b es → x ≡ a → y ≡ b → us ≡ es → n ≡ m ++ names_in (expr x) → o ≡ n ++ names_in (expr y)
+    → OnOk s (p ≡ o ++ names_in_all (exprs us)) → OnOk s (p ≡ m ++ names_in (expr e))
+ok_in_sum (Ok u) m n o p e a b x y es us is left right rest h k l =
+    let same : e ≡ Sum x y us = is ∙ ap (λ z. Sum z b es) (sym left) ∙ ap (λ z. Sum x z es) (sym right) ∙ ap (Sum x y) (sym rest) in
+    three_parts m n o p (names_in (expr x)) (names_in (expr y)) (names_in_all (exprs us)) h k l
+    ∙ sym (ap (λ v. m ++ v) (in_sum e x y us same))
+ok_in_sum (Err z) m n o p e a b x y es us is left right rest h k l = l
 
 pub ok_in_star : {E : Type 0} (s : Result (Unit {0}) E) (m n o : List Word) (e x y l r : Expr) → e ≡ Star x y → l ≡ x → r ≡ y
     → n ≡ m ++ names_in (expr l) → OnOk s (o ≡ n ++ names_in (expr r)) → OnOk s (o ≡ m ++ names_in (expr e))

@@ -15,12 +15,10 @@ operand_of_nested : (t u : ExprView) (us : List ExprView) → operand (nested (p
 operand_of_nested t u [] = refl
 operand_of_nested t u (v ∷ vs) = operand_of_nested (plus t u) v vs
 
-pub operand_of_sum : (e : Expr) (ts us : List Expr) → e ≡ Sum ts → us ≡ ts → 1 < length us → expr e ≡ operand (expr e)
-operand_of_sum e ts [] is same n = absurd (omega arith)
-operand_of_sum e ts (t ∷ []) is same n = absurd (omega arith)
-operand_of_sum e ts (t ∷ u ∷ us) is same n =
-    let seen = seen_sum e (t ∷ u ∷ us) (is ∙ ap Sum (sym same)) in
-    seen ∙ sym (operand_of_nested (expr t) (expr u) (map expr us)) ∙ ap operand (sym seen)
+pub operand_of_sum : (e a b : Expr) (es : List Expr) → e ≡ Sum a b es → expr e ≡ operand (expr e)
+operand_of_sum e a b es is =
+    let seen = seen_sum e a b es is in
+    seen ∙ sym (operand_of_nested (expr a) (expr b) (map expr es)) ∙ ap operand (sym seen)
 
 pub other_basic_of_numbers : (n : Option TypeNamed) (e : Expr) (es : List Expr)
     → (e ≡ Bits es) ⊎ ((e ≡ Below es) ⊎ (e ≡ UpTo es))

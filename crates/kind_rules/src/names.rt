@@ -31,7 +31,11 @@ fn add_names_in<'a>(e: &'a Expr, names: &mut Items<&'a Name>) -> Result<(), Allo
             args.as_slice(),
             names,
         ),
-        Expr::Sum(terms) => add_names_in_all(terms.as_slice(), names),
+        Expr::Sum(first, second, more) => {
+            add_names_in(first.get(), names)?;
+            add_names_in(second.get(), names)?;
+            add_names_in_all(more.as_slice(), names)
+        }
         Expr::Star(left, right) => {
             add_names_in(left.get(), names)?;
             add_names_in(right.get(), names)

@@ -55,11 +55,7 @@ fn operand(e: &Expr) -> &Expr
                 e
             }
         }
-        Expr::Sum(terms) => match terms.as_slice() {
-            [] => e,
-            [only] => operand(only),
-            [_, _, ..] => e,
-        },
+        Expr::Sum(_, _, _) => e,
         _ => e,
     }
 }
@@ -70,11 +66,7 @@ pub fn arg_count(e: &Expr) -> usize
 {
     match e {
         Expr::Named(_, args) => args.len(),
-        Expr::Sum(terms) => match terms.as_slice() {
-            [] => 0,
-            [only] => arg_count(only),
-            [_, _, ..] => 0,
-        },
+        Expr::Sum(_, _, _) => 0,
         _ => 0,
     }
 }
@@ -166,11 +158,7 @@ fn is_type_shaped(e: &Expr) -> bool
         | Expr::UpTo(_)
         | Expr::Ref(_)
         | Expr::Group(_) => true,
-        Expr::Sum(terms) => match terms.as_slice() {
-            [] => false,
-            [only] => is_type_shaped(only),
-            [_, _, ..] => false,
-        },
+        Expr::Sum(_, _, _) => false,
         _ => false,
     }
 }
@@ -181,11 +169,7 @@ fn is_number_shaped(e: &Expr) -> bool
 {
     match e {
         Expr::Lit(_) | Expr::Out(_) => true,
-        Expr::Sum(terms) => match terms.as_slice() {
-            [] => true,
-            [only] => is_number_shaped(only),
-            [_, _, ..] => true,
-        },
+        Expr::Sum(_, _, _) => true,
         _ => false,
     }
 }
@@ -195,11 +179,7 @@ fn is_group(e: &Expr) -> bool
 {
     match e {
         Expr::Group(_) => true,
-        Expr::Sum(terms) => match terms.as_slice() {
-            [] => false,
-            [only] => is_group(only),
-            [_, _, ..] => false,
-        },
+        Expr::Sum(_, _, _) => false,
         _ => false,
     }
 }
@@ -211,11 +191,7 @@ fn is_other_basic(named: Named<'_>, e: &Expr) -> bool
     match e {
         Expr::Bits(args) | Expr::Below(args) | Expr::UpTo(args) => args.len() != 1,
         Expr::Named(_, args) => takes_other_basic(named, args.len()),
-        Expr::Sum(terms) => match terms.as_slice() {
-            [] => false,
-            [only] => is_other_basic(named, only),
-            [_, _, ..] => false,
-        },
+        Expr::Sum(_, _, _) => false,
         _ => false,
     }
 }

@@ -40,9 +40,10 @@ pub seen_up_to : (e : Expr) (es : List Expr) → e ≡ UpTo es → expr e ≡ up
 seen_up_to e es is =
     ap expr (is ∙ sym (rolls-UpTo es)) ∙ fold-roll-Expr ExprView TypeView ItemView expr_step type_step item_step (open_forms.UpTo es)
 
-pub seen_sum : (e : Expr) (es : List Expr) → e ≡ Sum es → expr e ≡ sum_of (map expr es)
-seen_sum e es is =
-    ap expr (is ∙ sym (rolls-Sum es)) ∙ fold-roll-Expr ExprView TypeView ItemView expr_step type_step item_step (open_forms.Sum es)
+pub seen_sum : (e a b : Expr) (es : List Expr) → e ≡ Sum a b es → expr e ≡ sum_of (expr a) (expr b) (map expr es)
+seen_sum e a b es is =
+    ap expr (is ∙ sym (rolls-Sum a b es))
+    ∙ fold-roll-Expr ExprView TypeView ItemView expr_step type_step item_step (open_forms.Sum a b es)
 
 pub seen_star : (e : Expr) (a b : Expr) → e ≡ Star a b → expr e ≡ star (expr a) (expr b)
 seen_star e a b is =

@@ -73,10 +73,7 @@ impl<'s, 'a> Needs<'s, 'a> {
             Expr::Bits(args) | Expr::UpTo(args) => Ok(!is_at_least(1, args.as_slice())),
             Expr::Below(args) => Ok(!is_at_least(2, args.as_slice())),
             Expr::Group(list) => self.of_group(list.as_slice()),
-            Expr::Sum(terms) => match terms.as_slice() {
-                [only] => self.of_expr(only),
-                _ => Ok(true),
-            },
+            Expr::Sum(_, _, _) => Ok(true),
             Expr::Lit(_) | Expr::Star(_, _) | Expr::Out(_) => Ok(true),
         }
     }

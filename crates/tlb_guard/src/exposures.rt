@@ -104,10 +104,7 @@ impl<'s, 'a> Exposures<'s, 'a> {
                 self.of_expr(repeated.get())?;
                 Ok(true)
             }
-            Expr::Sum(terms) => match terms.as_slice() {
-                [only] => self.of_expr(only),
-                _ => Ok(true),
-            },
+            Expr::Sum(_, _, _) => Ok(true),
             Expr::Lit(_) | Expr::Out(_) => Ok(true),
         }
     }

@@ -19,17 +19,13 @@ pub fn is_variable(scope: &[&Name], name: &Name, args: &[Expr]) -> bool
     args.is_empty() && is_among(scope, name)
 }
 
-// The number that is written out. A sum of one term stands for that term.
+// The number that is written out.
 fn literal(e: &Expr) -> Option<u32>
     ensures { result ≡ literal_of (expr e.now) }
 {
     match e {
         Expr::Lit(number) => Some(*number),
-        Expr::Sum(terms) => match terms.as_slice() {
-            [] => Some(0),
-            [only] => literal(only),
-            [_, _, ..] => None,
-        },
+        Expr::Sum(_, _, _) => None,
         _ => None,
     }
 }

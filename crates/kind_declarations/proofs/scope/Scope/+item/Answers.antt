@@ -1,6 +1,6 @@
 use Rattle.std.proofs.Common.{◌∙◌, [], ap, sym, refl, arith, rules}
 use Rattle.std.specs.Prelude.{Err, Ok}
-use Rattle.kind_terms.specs.SumLaws.{one_term, no_terms, two_terms}
+use Rattle.kind_terms.specs.SumLaws.{of_sum}
 use Rattle.kind_terms.specs.ViewLaws.{has_exprs_seen, seen_implicit, seen_check}
 use Rattle.tlb_syntax.specs.declared.tree.Expr.{the_lemmas}
 use Rattle.tlb_syntax.specs.View.{item, items}
@@ -10,7 +10,7 @@ use Rattle.kind_declarations.specs.Faults.{verdict}
 use Rattle.kind_declarations.specs.Parts.{part_nodes}
 use Rattle.kind_declarations.specs.Views.{item_context, path_by, words}
 use Rattle.kind_declarations.proofs.RecordNodes.{args_end, args_end_kinds, args_passed, args_refused, around_follows, unnamed_passed, count_of_items, inner_judged, ok_named_one, ok_named_none, ok_named_then, on_ok_always, no_name, one_name, explicit_refused, explicit_passed, check_refused, check_passed, follows_trans, is_expr_at, is_item_at, items_end, items_passed, items_refused, place_passed, scope_passed}
-use Rattle.kind_declarations.proofs.TypeNodes.{named_judged, no_kind, no_parts, same_parts, star_parts, type_split}
+use Rattle.kind_declarations.proofs.TypeNodes.{named_judged, no_kind, no_parts, star_parts, type_split}
 use Rattle.kind_declarations.proofs.Verdicts.{judges_err, passed_then, refused_then, verdict_none}
 use Rattle.kind_declarations.proofs.scope.Scope.+item.Goals as goal
 
@@ -55,19 +55,9 @@ judge_parts-returns-in-Lit-2-clause-judged t c = no_parts _ _ _ c.in-Lit.is
 pub judge_parts-returns-in-Lit-3-clause-judged : goal.judge_parts-returns-in-Lit-3-clause-judged
 judge_parts-returns-in-Lit-3-clause-judged t c = no_parts _ _ _ c.in-Lit.is
 
-pub judge_parts-returns-in-empty-clause-judged : goal.judge_parts-returns-in-empty-clause-judged
-judge_parts-returns-in-empty-clause-judged t c =
-    sym (ap (λ v. verdict (part_nodes v (item_context c.args.self.now) c.args.position)) (no_terms _ _ _ c.in-Sum.is c.as_slice.ensures c.in-empty.len_below))
-    ∙ verdict_none
-
-pub judge_parts-returns-in-len1-clause-judged : goal.judge_parts-returns-in-len1-clause-judged
-judge_parts-returns-in-len1-clause-judged t c =
-    same_parts _ _ _ _ _ _ (one_term _ _ _ _ c.in-Sum.is c.as_slice.ensures c.in-len1.len_at_least c.in-len1.len_below c.only-item.is)
-    c.judge_parts.ensures.judged
-
-pub judge_parts-returns-in-len2-up-clause-judged : goal.judge_parts-returns-in-len2-up-clause-judged
-judge_parts-returns-in-len2-up-clause-judged t c =
-    sym (ap verdict (two_terms (λ v. part_nodes v (item_context c.args.self.now) c.args.position) [] (λ a b. refl) _ _ _ c.in-Sum.is c.as_slice.ensures c.in-len2-up.len_at_least))
+pub judge_parts-returns-in-Sum-clause-judged : goal.judge_parts-returns-in-Sum-clause-judged
+judge_parts-returns-in-Sum-clause-judged t c =
+    sym (ap verdict (of_sum (λ v. part_nodes v (item_context c.args.self.now) c.args.position) [] (λ a b. refl) _ _ _ _ c.in-Sum.is))
     ∙ verdict_none
 
 pub judge_args-judge_arg-requires : goal.judge_args-judge_arg-requires

@@ -1,7 +1,7 @@
 use Rattle.std.proofs.Common.{refl}
 use Rattle.kind_declarations.proofs.NumberNodes.{leaf_nodes, star_nodes, terms_end, terms_passed, terms_refused}
 use Rattle.std.specs.Prelude.{Err}
-use Rattle.kind_declarations.proofs.SumNodes.{no_terms_pass, sum_past, sum_judged}
+use Rattle.kind_declarations.proofs.SumNodes.{sum_past, sum_judged}
 use Rattle.kind_declarations.proofs.Verdicts.{judges_err, passed_then, refused_then}
 use Rattle.kind_declarations.proofs.scope.Scope.+number.Goals as goal
 
@@ -25,16 +25,17 @@ judge_number-returns-in_ok-judge_number-in-Star t c =
     (passed_then _ _ _ _ c.in_ok-judge_number_alone-in-Star.ensures
     (passed_then _ _ _ _ c.in_ok-judge_number-in-Star.ensures c.judge_number-in-Star.ensures))
 
-pub judge_sum-returns-in-empty : goal.judge_sum-returns-in-empty
-judge_sum-returns-in-empty t c = no_terms_pass _ _ _ c.args.terms.now c.in-empty.len_below
+pub judge_number-returns-then-is_sum_beyond : goal.judge_number-returns-then-is_sum_beyond
+judge_number-returns-then-is_sum_beyond t c = ?
 
-pub judge_sum-returns-then-is_sum_beyond : goal.judge_sum-returns-then-is_sum_beyond
-judge_sum-returns-then-is_sum_beyond t c =
-    sum_past _ _ _ _ _ c.in-len2-up.len_at_least c.is_sum_beyond.ensures c.if-is_sum_beyond.true
+pub judge_number-returns-in_err-judge_number-in-Sum : goal.judge_number-returns-in_err-judge_number-in-Sum
+judge_number-returns-in_err-judge_number-in-Sum t c = ?
 
-pub judge_sum-returns-else-is_sum_beyond : goal.judge_sum-returns-else-is_sum_beyond
-judge_sum-returns-else-is_sum_beyond t c =
-    sum_judged _ _ _ _ _ _ _ c.in-len2-up.len_at_least c.is_sum_beyond.ensures c.if-is_sum_beyond.false c.judge_terms.ensures
+pub judge_number-returns-in_err-judge_number-in-Sum-2 : goal.judge_number-returns-in_err-judge_number-in-Sum-2
+judge_number-returns-in_err-judge_number-in-Sum-2 t c = ?
+
+pub judge_number-returns-in_ok-judge_number-in-Sum-2 : goal.judge_number-returns-in_ok-judge_number-in-Sum-2
+judge_number-returns-in_ok-judge_number-in-Sum-2 t c = ?
 
 pub judge_terms-returns-in_err-judge_number : goal.judge_terms-returns-in_err-judge_number
 judge_terms-returns-in_err-judge_number t c =
