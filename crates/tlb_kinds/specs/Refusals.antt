@@ -5,7 +5,7 @@ use Rattle.tlb_syntax.specs.Tree.{ConstructorView, SchemaView}
 use Rattle.kind_terms.specs.Dictionaries.{without_dictionaries}
 use Rattle.kind_declarations.specs.Nodes.{heading_nodes, constructor_nodes}
 use Rattle.kind_declarations.specs.Faults.{first}
-use Rattle.tlb_guard.specs.Cycles.{ItemPosition, first_unguarded}
+use Rattle.tlb_guard.specs.Cycles.{ItemIndex, first_unguarded}
 use Rattle.tlb_kinds.specs.declared.error.KindError.{KindError}
 use Rattle.tlb_kinds.specs.declared.error.KindError.TheVariants.{Unguarded}
 use Rattle.tlb_kinds.specs.Spots.{heading, refusals_at, item_spot}
@@ -28,7 +28,7 @@ unguarded_at before [] n item = []
 unguarded_at before (c ∷ cs) zero item = Unguarded (item_spot (heading before c) item) ∷ []
 unguarded_at before (c ∷ cs) (suc n) item = unguarded_at (before ++ c ∷ []) cs n item
 
-abbrev pub of_place : SchemaView → Option ItemPosition → List KindError
+abbrev pub of_place : SchemaView → Option ItemIndex → List KindError
 of_place s None = []
 of_place s (Some p) = unguarded_at [] s p.constructor p.item
 

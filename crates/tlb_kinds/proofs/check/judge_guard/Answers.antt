@@ -2,7 +2,7 @@ use Rattle.std.proofs.Common.{◌≡◌, ◌<◌, ◌∙◌, [], Some, ap, sym, 
 use Rattle.std.specs.Prelude.{option_map}
 use Rattle.std.proofs.lemmas.List.{length-map, take-map, get_or-map}
 use Rattle.tlb_syntax.specs.View.{constructor}
-use Rattle.tlb_guard.specs.Edges.{place_by}
+use Rattle.tlb_guard.specs.Edges.{index_by}
 use Rattle.tlb_kinds.specs.declared.error.KindError.TheVariants.{Unguarded}
 use Rattle.tlb_kinds.specs.Refusals.{of_place, of_guard, unguarded_at}
 use Rattle.kind_declarations.specs.Faults.{first}
@@ -21,7 +21,7 @@ returns-then-index-constructors c =
     let xs = c.args.constructors.now in
     let u = c.in-Some.unguarded in
     let place : of_guard (map constructor xs) ≡ unguarded_at [] (map constructor xs) u.constructor u.item =
-    ap (of_place (map constructor xs)) (sym c.in_ok-unguarded.ensures ∙ ap (option_map place_by) c.in-Some.is) in
+    ap (of_place (map constructor xs)) (sym c.in_ok-unguarded.ensures ∙ ap (option_map index_by) c.in-Some.is) in
     let size = length-map xs constructor in
     place ∙ unguarded_nowhere (map constructor xs) [] u.constructor u.item (omega (arith, size, c.if-index-constructors.true))
 
@@ -31,7 +31,7 @@ returns c = λ other.
     let u = c.in-Some.unguarded in
     let this = c.index-constructors-index.result in
     let place : of_guard (map constructor xs) ≡ unguarded_at [] (map constructor xs) u.constructor u.item =
-    ap (of_place (map constructor xs)) (sym c.in_ok-unguarded.ensures ∙ ap (option_map place_by) c.in-Some.is) in
+    ap (of_place (map constructor xs)) (sym c.in_ok-unguarded.ensures ∙ ap (option_map index_by) c.in-Some.is) in
     let size = length-map xs constructor in
     let lt : u.constructor < length xs = omega (arith, c.if-index-constructors.false) in
     let there = unguarded_there (map constructor xs) [] (map constructor (take u.constructor xs)) u.constructor u.item (constructor this) (omega (arith, size, lt))
