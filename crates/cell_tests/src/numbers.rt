@@ -105,7 +105,10 @@ fn expressions_have_values_or_a_first_part_without_one(rt: HostRuntime) {
     let env = numbers(&rt, rt.alloc());
     for (words, value) in VALUES.iter() {
         let e = expression(&rt, rt.alloc(), words);
-        assert!(rt; evaluated(&e, &NatExpr::Sought(9), &env) == Some(*value), "at {words}");
+        assert!(rt;
+            evaluated(&e, &NatExpr::Sought(9), &env) == Some(*value),
+            "at {words}"
+        );
     }
 }
 

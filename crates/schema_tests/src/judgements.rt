@@ -22,18 +22,12 @@ static PASSED: [(&str, usize); 11] = [
         "unary_zero$0 = Unary ~0; unary_succ$1 {n:#} x:(Unary ~n) = Unary ~(n + 1);",
         2,
     ),
-    (
-        "hmn_leaf#_ {X:Type} value:X = HashmapNode 0 X; a = A;",
-        1,
-    ),
+    ("hmn_leaf#_ {X:Type} value:X = HashmapNode 0 X; a = A;", 1),
     (
         "hme_empty$0 {n:#} {X:Type} = HashmapE n X; hme_root$1 {n:#} {X:Type} root:^(Hashmap n X) = HashmapE n X;",
         0,
     ),
-    (
-        "a$_ x:(HashmapE 32 uint8) y:(Hashmap 1023 A) = A;",
-        1,
-    ),
+    ("a$_ x:(HashmapE 32 uint8) y:(Hashmap 1023 A) = A;", 1),
 ];
 
 fn kept(rt: &impl Abort, alloc: Global, text: &str) -> usize {
@@ -53,26 +47,14 @@ fn schemas_pass_without_their_lines_of_dictionaries(rt: HostRuntime) {
 // A schema, and the places of a constructor and of its item through which a type exposes itself.
 static CYCLES: [(&str, Option<(usize, usize)>); 9] = [
     ("a$_ x:T = T;", Some((0, 0))),
-    (
-        "p$_ {X:Type} v:X = P X; a$_ x:(P A) = A;",
-        Some((1, 0)),
-    ),
+    ("p$_ {X:Type} v:X = P X; a$_ x:(P A) = A;", Some((1, 0))),
     ("a$_ n:(#< 1) x:A = A;", Some((0, 1))),
     ("a$_ n:(uint (4 + 4)) x:A = A;", Some((0, 1))),
-    (
-        "a$_ x:B = A; b$_ y:C = B; c$_ z:A = C;",
-        Some((0, 0)),
-    ),
-    (
-        "a$_ x:B = A; b$_ y:C = B; c$_ z:C = C;",
-        Some((2, 0)),
-    ),
+    ("a$_ x:B = A; b$_ y:C = B; c$_ z:A = C;", Some((0, 0))),
+    ("a$_ x:B = A; b$_ y:C = B; c$_ z:C = C;", Some((2, 0))),
     ("e$_ = E; a$_ x:E y:E z:A = A;", Some((1, 2))),
     ("a$0 x:A = A;", None),
-    (
-        "p$_ {X:Type} n:# v:X = P X; a$_ x:(P A) = A;",
-        None,
-    ),
+    ("p$_ {X:Type} n:# v:X = P X; a$_ x:(P A) = A;", None),
 ];
 
 fn first_cycle(rt: &impl Abort, alloc: Global, text: &str) -> Option<(usize, usize)> {

@@ -136,5 +136,7 @@ fn a_sum_of_500_000_terms_is_read_and_shown(rt: HostRuntime) {
     let text = show(rt.alloc(), &found).expect(&rt, "memory");
     // 499,999 opening parentheses, a term, and 499,999 times ` + 1)`
     assert!(rt; text.len() == 2_999_995);
-    assert!(rt; text.as_slice().starts_with(b"((((((((") && text.as_slice().ends_with(b" + 1) + 1)"));
+    assert!(rt;
+        text.as_slice().starts_with(b"((((((((") && text.as_slice().ends_with(b" + 1) + 1)")
+    );
 }

@@ -71,7 +71,10 @@ fn tokens_have_their_kinds_and_places(rt: HostRuntime) {
     for (text, letters) in TOKENS.iter() {
         assert!(rt; text.len() <= 1_048_576 && text.len() == letters.len());
         let found = tokens(rt.alloc(), text.as_bytes()).expect(&rt, "tokens");
-        assert!(rt; have_letters(found.as_slice(), letters.as_bytes()), "at {text}");
+        assert!(rt;
+            have_letters(found.as_slice(), letters.as_bytes()),
+            "at {text}"
+        );
     }
 }
 
@@ -127,7 +130,10 @@ fn stands_for(alloc: Global, text: &[u8], lexeme: Lexeme<'_>) -> bool
 fn symbols_are_told_apart(rt: HostRuntime) {
     for (text, sign) in SIGNS.iter() {
         assert!(rt; text.len() <= 1_048_576 && sign.text() == text.as_bytes());
-        assert!(rt; stands_for(rt.alloc(), text.as_bytes(), Lexeme::Sign(*sign)), "at {text}");
+        assert!(rt;
+            stands_for(rt.alloc(), text.as_bytes(), Lexeme::Sign(*sign)),
+            "at {text}"
+        );
     }
 }
 
@@ -146,7 +152,10 @@ static NUMBERS: [(&str, Option<u32>); 8] = [
 fn numbers_are_below_two_to_the_32(rt: HostRuntime) {
     for (text, number) in NUMBERS.iter() {
         assert!(rt; text.len() <= 1_048_576);
-        assert!(rt; stands_for(rt.alloc(), text.as_bytes(), Lexeme::Number(*number)), "at {text}");
+        assert!(rt;
+            stands_for(rt.alloc(), text.as_bytes(), Lexeme::Number(*number)),
+            "at {text}"
+        );
     }
 }
 

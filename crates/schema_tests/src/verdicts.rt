@@ -53,7 +53,10 @@ static SCHEMAS: [&str; 25] = [
 #[test]
 fn written_schemas_are_taken(rt: HostRuntime) {
     for text in SCHEMAS.iter() {
-        assert!(rt; schema_verdict(&rt, rt.alloc(), text.as_bytes()).is_none(), "at {text}");
+        assert!(rt;
+            schema_verdict(&rt, rt.alloc(), text.as_bytes()).is_none(),
+            "at {text}"
+        );
     }
 }
 
@@ -73,7 +76,10 @@ static WORDS: [&str; 10] = [
 #[test]
 fn written_type_words_are_taken(rt: HostRuntime) {
     for word in WORDS.iter() {
-        assert!(rt; word_verdict(&rt, rt.alloc(), word.as_bytes()).is_none(), "at {word}");
+        assert!(rt;
+            word_verdict(&rt, rt.alloc(), word.as_bytes()).is_none(),
+            "at {word}"
+        );
     }
 }
 
@@ -126,21 +132,12 @@ fn joined(rt: &impl Abort, alloc: Global, parts: Parts) -> Vec<u8> {
 
 // Brackets and terms by the hundred thousand; 256 declarations of one type and one more.
 static LONG: [(Parts, Option<(Cause, u32)>); 6] = [
-    (
-        &[("a x:", 1), ("(", 500_000)],
-        Some((Cause::DeepType, 67)),
-    ),
-    (
-        &[("a x:", 1), ("^", 500_000)],
-        Some((Cause::DeepType, 67)),
-    ),
+    (&[("a x:", 1), ("(", 500_000)], Some((Cause::DeepType, 67))),
+    (&[("a x:", 1), ("^", 500_000)], Some((Cause::DeepType, 67))),
     (&[("a", 1), ("[", 500_000)], Some((Cause::DeepType, 65))),
     (&[("a (x", 1), ("+x", 500_000), (")=T;", 1)], None),
     (&[("a = T;", 256)], None),
-    (
-        &[("a = T;", 257)],
-        Some((Cause::TooManyConstructors, 1024)),
-    ),
+    (&[("a = T;", 257)], Some((Cause::TooManyConstructors, 1024))),
 ];
 
 #[test]
