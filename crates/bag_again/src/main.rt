@@ -1,5 +1,5 @@
-//! Reads the bag of a file, writes the bag of the tree that it holds, reads that one, and prints a line `LEVEL HASH DEPTH`
-//! for each level of the root cell. The last word is the name of the file.
+//! Reads the bag of a file, writes the bag of the tree that it holds, reads that one, and prints a line
+//! `LEVEL HASH DEPTH` for each level of the root cell. The last word is the name of the file.
 #![tactic(auto)]
 
 ghost use Rattle.bag_cells.specs.Bag.{BagHolds, BagRefused, IfAnswered};

@@ -25,7 +25,7 @@ number_at-written raw front rest from (suc w) v e p h =
     let b : slice_index raw (from + w) ≡ v % 256 = ap (λ (x : List ℕ). slice_index x (from + w)) g ∙ get_or_at (front ++ high) (v % 256) rest 0 (from + w) n in
     omega arith
 
--- what the header of a bag of n cells tells, with that content behind it
+-- what the header of a bag of n cells tells, with that content after it
 pub record HasFields (raw : List ℕ) (n : ℕ) (content : List ℕ) : Type 0 where
   pub magic : magic_differs raw ≡ false
   pub flags_are : slice_index raw 4 ≡ width_of n

@@ -15,7 +15,7 @@ use Rattle.cell_nodes.specs.GoodParts.{good-sound}
 use Rattle.bag_cells.specs.First.{first_before, last_before}
 use Rattle.bag_cells.specs.Form.{raw_of}
 use Rattle.bag_cells.specs.Header.{size, cells, root, data_start, data_end, header_refusal}
-use Rattle.bag_cells.specs.Cells.{ref_count, has_stored_hashes, told_mask, is_completed, last_byte, ref_at, cell_size, is_malformed, goes_back, refusal_at, cell_refusal, start, left_refusal}
+use Rattle.bag_cells.specs.Cells.{ref_count, has_stored_hashes, reported_mask, is_completed, last_byte, ref_at, cell_size, is_malformed, goes_back, refusal_at, cell_refusal, start, left_refusal}
 use Rattle.bag_cells.specs.Trees.{cell_bits, cell_kind, one, picked, node_of, node, trees, refusal_of, node_refusal, root_tree, sprawl_of, sprawl_refusal}
 use Rattle.bag_cells.specs.Bag.{refusal, BagHolds}
 use Rattle.bag_cells.specs.Known.{IsLater, IsCell}
@@ -31,14 +31,14 @@ use Rattle.bag_cells.proofs.Picks.{picked-more, trees-more, refusal_before}
 use Rattle.bag_cells.proofs.Places.{place-within}
 use Rattle.bag_cells.proofs.Posts.{ordered-post}
 use Rattle.bag_cells.proofs.Kept.{some-at, take-some, stands-at, place-reverse}
-use Rattle.bag_cells.proofs.Once.{at-place, behind-post, post-good}
+use Rattle.bag_cells.proofs.Once.{at-place, after-post, post-good}
 use Rattle.bag_cells.proofs.Widths.{width-bound, width-fits, one_le-width}
 use Rattle.bag_cells.proofs.Fields.{HasFields, HasEnds, fields, ends}
 use Rattle.bag_cells.proofs.Completed.{last-used}
 use Rattle.bag_cells.proofs.Reread.{IsPlaced, IsReread, reread, bits-reread, kind-reread, ref-reread, size-reread, length-cell}
 use Rattle.bag_cells.proofs.Lists.{within, at-reverse, reverse-at, place-front, place-before, written-split, length-written, length-few, few-post, last-post, some-post}
 
--- the cells of the tree stand behind the header
+-- the cells of the tree stand after the header
 pub record IsBag (raw : List ℕ) (t : Tree) : Type 0 where
   pub head : List ℕ
   pub bytes_are : raw ≡ head ++ flat_map (cell_bytes (size raw) (reverse (post t))) (reverse (post t))
@@ -119,7 +119,7 @@ child-before (t ∷ ts) us (suc j) c h k = child-before ts us j c h.1 k
 before-at : (t u c : Tree) (i j : ℕ) → slice_get (reverse (post t)) i ≡ Some u → slice_get (out-Tree u).children j ≡ Some c → stands (take (length (post t) - 1 - i) (post t)) c ≡ true
 before-at t u c i j h k =
     let n = length (post t) - 1 - i in
-    child-before (out-Tree u).children (take n (post t)) j c (behind-post t n u (at-reverse (post t) i u h)) k
+    child-before (out-Tree u).children (take n (post t)) j c (after-post t n u (at-reverse (post t) i u h)) k
 
 stands-front : (ts : List Tree) (k : ℕ) (c : Tree) → stands (take k ts) c ≡ true → stands ts c ≡ true
 stands-front [] zero c h = absurd (cc)
@@ -259,9 +259,9 @@ trees-at raw t (suc k) b l =
     ∙ ap (λ (x : List Tree). x ++ u ∷ []) before
     ∙ sym (take-some (post t) k u some.1)
 
-node-accepted : (i told : ℕ) (u : Tree) → told ≡ mask u → IsSound u → refusal_of i told (Some u) ≡ None
-node-accepted i told u e sound =
-    let same : (mask u == told) ≡ true = eq-eqb (mask u) told (sym e) in
+node-accepted : (i reported : ℕ) (u : Tree) → reported ≡ mask u → IsSound u → refusal_of i reported (Some u) ≡ None
+node-accepted i reported u e sound =
+    let same : (mask u == reported) ≡ true = eq-eqb (mask u) reported (sym e) in
     let deep : nat_lt 1024 (deepest u) ≡ false = le-ltb 1024 (deepest u) sound.shallow in
     rw (same, deep) refl
 
@@ -273,9 +273,9 @@ node-none raw t i b l =
     let u = some.0 in
     let r = reread-at raw t u i b some.1 in
     refusal_before raw i k (omega (arith, b.cells_are))
-    ∙ ap (λ (x : List Tree). refusal_of i (told_mask raw (start raw i)) (node raw (start raw i) x)) (trees-at raw t k b (omega (arith, b.cells_are)))
-    ∙ ap (λ (o : Option Tree). refusal_of i (told_mask raw (start raw i)) o) (node-at raw t u i b some.1)
-    ∙ node-accepted i (told_mask raw (start raw i)) u r.mask_is (sound-at t u i b.good some.1)
+    ∙ ap (λ (x : List Tree). refusal_of i (reported_mask raw (start raw i)) (node raw (start raw i) x)) (trees-at raw t k b (omega (arith, b.cells_are)))
+    ∙ ap (λ (o : Option Tree). refusal_of i (reported_mask raw (start raw i)) o) (node-at raw t u i b some.1)
+    ∙ node-accepted i (reported_mask raw (start raw i)) u r.mask_is (sound-at t u i b.good some.1)
 
 root-at : (raw : List ℕ) (t : Tree) → IsBag raw t → root_tree raw ≡ Some t
 root-at raw t b =

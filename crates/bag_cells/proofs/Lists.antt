@@ -1,4 +1,4 @@
--- Places in lists of trees, in a reversed list, and in lists that are written one behind the other.
+-- Places in lists of trees, in a reversed list, and in lists that are written one after the other.
 use Rattle.std.proofs.Common.{◌≡◌, ◌∙◌, ℕ, zero, suc, ◌+◌, ◌-◌, ◌*◌, ◌<◌, ◌≤◌, Bool, true, false, List, [], ◌∷◌, ◌++◌, length, map, take, drop, reverse, get_or, append_assoc, refl, ap, sym, subst, ⊎_elim, arith}
 use Rattle.std.specs.Prelude.{Option, Some, None, slice_get, not, cond}
 use Rattle.std.specs.List.{flat_map}
@@ -58,7 +58,7 @@ length-take-most (t ∷ ts) (suc k) = omega (arith, length-take-most ts k)
 pub place-before : (ts : List Tree) (k : ℕ) (t : Tree) → stands (take k ts) t ≡ true → place ts t < k
 place-before ts k t h = omega (arith, place-front ts k t h, place-within (take k ts) t h, length-take-most ts k)
 
--- ---- lists that are written one behind the other
+-- ---- lists that are written one after the other
 
 pub written-split : (f : Tree → List ℕ) (ts : List Tree) (i : ℕ) (t : Tree) → slice_get ts i ≡ Some t → flat_map f ts ≡ flat_map f (take i ts) ++ (f t ++ flat_map f (drop (suc i) ts))
 written-split f [] i t h = absurd (cc)

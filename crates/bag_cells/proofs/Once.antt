@@ -1,4 +1,4 @@
--- The list of distinct subtrees has each of them once, each behind its children.
+-- The list of distinct subtrees has each of them once, each after its children.
 use Rattle.std.proofs.Common.{◌≡◌, ◌∙◌, ℕ, zero, suc, ◌+◌, ◌<◌, ◌≤◌, Bool, true, false, List, [], ◌∷◌, ◌++◌, length, map, take, drop, take-append-drop, refl, ap, sym, subst, ⊎_elim, inl, inr, arith}
 use Rattle.std.specs.Prelude.{Option, Some, None, slice_get, ◌⊎◌, ◌||◌}
 use Rattle.std.proofs.lemmas.Bool.{cases_Bool, or_cases}
@@ -93,7 +93,7 @@ only-subtree t u i h = only-subtrees t u (stands-at (post t) i u h)
 pub once-post : (t u : Tree) (i j : ℕ) → slice_get (post t) i ≡ Some u → slice_get (post t) j ≡ Some u → i ≡ j
 once-post t u i j h k = once (post t) i j u (ordered-post t).distinct h k
 
--- ---- each behind its children
+-- ---- each after its children
 
 -- the children of each tree stand before it
 abbrev pub IsBehind : List Tree → Type 0
@@ -109,17 +109,17 @@ at-push (x ∷ xs) t u (suc i) h = ⊎_elim
     (λ (k : (t ≡ u) × (take i (xs ++ t ∷ []) ≡ xs)). inr (k.0, ap (λ (l : List Tree). x ∷ l) k.1))
     (at-push xs t u i h)
 
-behind-push : (seen : List Tree) (t : Tree) → IsBehind seen → AllStand seen (out-Tree t).children → IsBehind (seen ++ t ∷ [])
-behind-push seen t b h i u k = ⊎_elim
+after-push : (seen : List Tree) (t : Tree) → IsBehind seen → AllStand seen (out-Tree t).children → IsBehind (seen ++ t ∷ [])
+after-push seen t b h i u k = ⊎_elim
     (λ (l : (slice_get seen i ≡ Some u) × (take i (seen ++ t ∷ []) ≡ take i seen)).
     subst (λ (x : List Tree). AllStand x (out-Tree u).children) (sym l.1) (b i u l.0))
     (λ (l : (t ≡ u) × (take i (seen ++ t ∷ []) ≡ seen)).
     subst (λ (x : List Tree). AllStand x (out-Tree u).children) (sym l.1) (subst (λ (v : Tree). AllStand seen (out-Tree v).children) l.0 h))
     (at-push seen t u i k)
 
-behind-all : (seen ts : List Tree) → EachOf (λ t. (seen : List Tree) → IsOrdered seen → IsBehind seen → IsBehind (added seen t)) ts → IsOrdered seen → IsBehind seen → IsBehind (added_all seen ts)
-behind-all seen [] each o b = b
-behind-all seen (t ∷ ts) each o b = behind-all (added seen t) ts each.1 (ordered-added t seen o) (each.0 seen o b)
+after-all : (seen ts : List Tree) → EachOf (λ t. (seen : List Tree) → IsOrdered seen → IsBehind seen → IsBehind (added seen t)) ts → IsOrdered seen → IsBehind seen → IsBehind (added_all seen ts)
+after-all seen [] each o b = b
+after-all seen (t ∷ ts) each o b = after-all (added seen t) ts each.1 (ordered-added t seen o) (each.0 seen o b)
 
 behind_step : (t : Tree) → EachOf (λ u. (seen : List Tree) → IsOrdered seen → IsBehind seen → IsBehind (added seen u)) (out-Tree t).children
     → (seen : List Tree) → IsOrdered seen → IsBehind seen → IsBehind (added seen t)
@@ -127,20 +127,20 @@ behind_step t each seen o b = ⊎_elim
     (λ (h : stands seen t ≡ true). subst (λ (l : List Tree). IsBehind l) (sym (added-known seen t o.closed h)) b)
     (λ (h : stands seen t ≡ false).
     subst (λ (l : List Tree). IsBehind l) (sym (added-new seen t h))
-    (behind-push (added_all seen (out-Tree t).children) t (behind-all seen (out-Tree t).children each o b) (all_stand-added seen (out-Tree t).children)))
+    (after-push (added_all seen (out-Tree t).children) t (after-all seen (out-Tree t).children each o b) (all_stand-added seen (out-Tree t).children)))
     (cases_Bool (stands seen t))
 
-behind-added : (t : Tree) (seen : List Tree) → IsOrdered seen → IsBehind seen → IsBehind (added seen t)
-behind-added = tree_induction (λ t. (seen : List Tree) → IsOrdered seen → IsBehind seen → IsBehind (added seen t)) behind_step
+after-added : (t : Tree) (seen : List Tree) → IsOrdered seen → IsBehind seen → IsBehind (added seen t)
+after-added = tree_induction (λ t. (seen : List Tree) → IsOrdered seen → IsBehind seen → IsBehind (added seen t)) behind_step
 
-behind-empty : IsBehind []
-behind-empty i t h = absurd (cc)
+after-empty : IsBehind []
+after-empty i t h = absurd (cc)
 
 empty-closed : IsClosed []
 empty-closed t h = absurd (cc)
 
-pub behind-post : (t : Tree) → IsBehind (post t)
-behind-post t = subst (λ (l : List Tree). IsBehind l) (added-empty t) (behind-added t [] (record { closed = empty-closed; distinct = tt }) behind-empty)
+pub after-post : (t : Tree) → IsBehind (post t)
+after-post t = subst (λ (l : List Tree). IsBehind l) (added-empty t) (after-added t [] (record { closed = empty-closed; distinct = tt }) after-empty)
 
 -- ---- good trees
 

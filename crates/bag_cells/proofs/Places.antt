@@ -135,17 +135,17 @@ joined-joint seen xs [] = refl
 joined-joint seen xs (ys ∷ more) =
     ap (λ (l : List Tree). joined l more) (joint_more seen xs ys) ∙ joined-joint seen (xs ++ without xs ys) more
 
--- what is joined stands behind what stands already
-pub joined-behind : (seen : List Tree) (more : List (List Tree)) → joined seen more ≡ seen ++ without seen (joined [] more)
-joined-behind seen more = ap (λ (l : List Tree). joined l more) (sym (append-nil seen)) ∙ joined-joint seen [] more
+-- what is joined stands after what stands already
+pub joined-after : (seen : List Tree) (more : List (List Tree)) → joined seen more ≡ seen ++ without seen (joined [] more)
+joined-after seen more = ap (λ (l : List Tree). joined l more) (sym (append-nil seen)) ∙ joined-joint seen [] more
 
 pub stands-joined : (seen : List Tree) (more : List (List Tree)) (t : Tree) → stands seen t ≡ true → stands (joined seen more) t ≡ true
 stands-joined seen more t h =
-    ap (λ (l : List Tree). stands l t) (joined-behind seen more) ∙ stands-append seen (without seen (joined [] more)) t ∙ or_left _ _ h
+    ap (λ (l : List Tree). stands l t) (joined-after seen more) ∙ stands-append seen (without seen (joined [] more)) t ∙ or_left _ _ h
 
 pub place-joined : (seen : List Tree) (more : List (List Tree)) (t : Tree) → stands seen t ≡ true → place (joined seen more) t ≡ place seen t
 place-joined seen more t h =
-    ap (λ (l : List Tree). place l t) (joined-behind seen more) ∙ place-append_left seen (without seen (joined [] more)) t h
+    ap (λ (l : List Tree). place l t) (joined-after seen more) ∙ place-append_left seen (without seen (joined [] more)) t h
 
 -- a tree of the list that is added stands there
 pub stands-joint_new : (seen xs : List Tree) (t : Tree) → stands xs t ≡ true → stands (seen ++ without seen xs) t ≡ true

@@ -10,7 +10,7 @@ use Rattle.cell_nodes.specs.Equations.{unfolded-out, tree_of-out}
 use Rattle.bag_cells.specs.Post.{same, stands, place, without, joined, Listed, listed, listed_step, post}
 use Rattle.bag_cells.specs.Listing.{added, added_all, AllStand, IsClosed, IsDistinct, IsOrdered}
 use Rattle.bag_cells.proofs.Same.{EachOf, tree_induction, same-equal, same-itself}
-use Rattle.bag_cells.proofs.Places.{or_left, or_right, or_none, stands-append, stands-last, stands-only, stands-without, place-last, without-append, joined-behind, stands-joined, place-joined, stands-joint_new, stands-joint_cases, all_stand-more}
+use Rattle.bag_cells.proofs.Places.{or_left, or_right, or_none, stands-append, stands-last, stands-only, stands-without, place-last, without-append, joined-after, stands-joined, place-joined, stands-joint_new, stands-joint_cases, all_stand-more}
 
 -- ---- what the definition says
 
@@ -61,9 +61,9 @@ added-out seen t =
     ap (λ (l : List Tree). seen ++ without seen l) (post-out t)
     ∙ ap (λ (l : List Tree). seen ++ l) (without-append seen below (t ∷ []))
     ∙ sym (append_assoc seen (without seen below) (without seen (t ∷ [])))
-    ∙ ap (λ (l : List Tree). l ++ without seen (t ∷ [])) (sym (joined-behind seen (map post (out-Tree t).children)))
+    ∙ ap (λ (l : List Tree). l ++ without seen (t ∷ [])) (sym (joined-after seen (map post (out-Tree t).children)))
 
--- a tree that is not there comes behind its children
+-- a tree that is not there comes after its children
 pub added-new : (seen : List Tree) (t : Tree) → stands seen t ≡ false → added seen t ≡ added_all seen (out-Tree t).children ++ t ∷ []
 added-new seen t h = added-out seen t ∙ ap (λ (l : List Tree). added_all seen (out-Tree t).children ++ l) (without-only seen t false h)
 

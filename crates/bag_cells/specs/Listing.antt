@@ -3,7 +3,7 @@ use Rattle.std.specs.Prelude.{◌≡◌, ℕ, true, false, List, [], ◌∷◌, 
 use Rattle.cell_nodes.specs.declared.tree.Tree.{Tree, out-Tree}
 use Rattle.bag_cells.specs.Post.{stands, place, without, joined, post}
 
--- the list, and behind it the distinct subtrees of the tree that do not stand there yet
+-- the list, and after it the distinct subtrees of the tree that do not stand there yet
 abbrev pub added : List Tree → Tree → List Tree
 added seen t = seen ++ without seen (post t)
 
@@ -25,12 +25,12 @@ abbrev pub IsDistinct : List Tree → Type 0
 IsDistinct [] = Unit {0}
 IsDistinct (t ∷ ts) = (stands ts t ≡ false) × IsDistinct ts
 
--- a list of distinct trees, of which each stands behind its children
+-- a list of distinct trees, of which each stands after its children
 pub record IsOrdered (seen : List Tree) : Type 0 where
   pub closed : IsClosed seen
   pub distinct : IsDistinct seen
 
--- The tree can stand behind the list: it is not there and its children are, and the numbers are their places.
+-- The tree can stand after the list: it is not there and its children are, and the numbers are their places.
 pub record Follows (seen : List Tree) (t : Tree) (numbers : List ℕ) : Type 0 where
   pub is_new : stands seen t ≡ false
   pub children_stand : AllStand seen (out-Tree t).children

@@ -22,7 +22,8 @@ pub fn at_least_one()
     ensures { (file : List ℕ) → ((t : Tree) × BagHolds file t) ⊎ ((e : Refusal) × BagRefused file e) }
 {}
 
-/// A hexadecimal text of an odd length is told by its length, another by the place of its first byte that is no digit.
+/// A hexadecimal text of an odd length is reported by its length, another by the place of its first byte that is no
+/// digit.
 pub fn bad_hex_place()
     ensures { (text : List ℕ) (place : ℕ) → raw_of_hex text ≡ Err (refusals.BadHex place) → IsBadHex text place }
 {}

@@ -1,5 +1,6 @@
 //! The distinct cells of a tree, each with a number.
-ghost use Rattle.std.specs.Prelude.{◌≡◌, ◌<◌, ◌++◌, ◌∷◌, [], ◌↔◌, IsTrue, IfOk, IfSome, OnOk, OnErr, length, map, slice_get, slice_index_or, Some};
+ghost use Rattle.std.specs.Prelude.{◌≡◌, ◌<◌, ◌++◌, ◌∷◌, [], ◌↔◌, IsTrue, IfOk, IfSome, OnOk, OnErr, length, map};
+ghost use Rattle.std.specs.Prelude.{slice_get, slice_index_or, Some};
 ghost use Rattle.std.specs.Option.{option_copied};
 ghost use Rattle.cell_nodes.specs.declared.tree.Tree.{out-Tree};
 ghost use Rattle.bag_cells.specs.Post.{place, post};
@@ -16,11 +17,14 @@ use tlb_memory::NoMemory;
 fn may_be_same(a: &Cell, b: &Cell) -> bool
     ensures { (a.now ≡ b.now) → IsTrue result }
 {
-    a.hash(1) == b.hash(1)
+    a.hash(3) == b.hash(3)
 }
 
 fn same_content(a: &Cell, b: &Cell) -> bool
-    ensures { IsTrue result ↔ ((out-Tree a.now).kind ≡ (out-Tree b.now).kind) × ((out-Tree a.now).bits ≡ (out-Tree b.now).bits) }
+    ensures {
+        IsTrue result
+            ↔ ((out-Tree a.now).kind ≡ (out-Tree b.now).kind) × ((out-Tree a.now).bits ≡ (out-Tree b.now).bits)
+    }
 {
     a.kind() == b.kind() && a.bits().same(b.bits())
 }
@@ -58,7 +62,7 @@ struct Node {
     children: Items<usize>,
 }
 
-/// Distinct cells, each behind its children, seen as the list of their trees. The number of a cell is its place.
+/// Distinct cells, each after its children, seen as the list of their trees. The number of a cell is its place.
 #[derive(Drop)]
 pub(crate) struct Listing {
     nodes: Vec<Node>,
@@ -176,7 +180,7 @@ fn add(alloc: Global, listing: &mut Listing, cell: &Cell) -> Result<usize, NoMem
     Ok(number)
 }
 
-/// The same of the cells from the left. Their numbers are put behind `numbers`.
+/// The same of the cells from the left. Their numbers are put after `numbers`.
 #[tactic(auto, using(crate::proofs::Walks::walks))]
 #[cycle(list)]
 fn add_all(

@@ -1,12 +1,14 @@
 //! The bytes of the bag of a tree.
-ghost use Rattle.std.specs.Prelude.{◌≡◌, ◌≤◌, ◌<◌, ◌+◌, ◌-◌, ◌++◌, ◌∷◌, [], IfOk, IfSome, OnOk, slice_get, length, map, reverse};
+ghost use Rattle.std.specs.Prelude.{◌≡◌, ◌≤◌, ◌<◌, ◌+◌, ◌-◌, ◌++◌, ◌∷◌, [], IfOk, IfSome, OnOk, slice_get, length};
+ghost use Rattle.std.specs.Prelude.{map, reverse};
 ghost use Rattle.std.specs.List.{All, flat_map};
 ghost use Rattle.bit_slice.specs.Bits.{completed};
 ghost use Rattle.cell_nodes.specs.declared.tree.Tree.{out-Tree};
 ghost use Rattle.cell_nodes.specs.Tree.{is_exotic, unfolded};
 ghost use Rattle.bag_cells.specs.Bag.{BagHolds};
 ghost use Rattle.bag_cells.specs.Post.{place};
-ghost use Rattle.bag_cells.specs.Written.{number_bytes, width_of, descriptor_of, cell_bytes, cell_data, header_bytes, bag_over, bag_of};
+ghost use Rattle.bag_cells.specs.Written.{number_bytes, width_of, descriptor_of, cell_bytes, cell_data, header_bytes};
+ghost use Rattle.bag_cells.specs.Written.{bag_over, bag_of};
 
 use crate::post::{Listing, listing_of};
 use bit_slice::BitSlice;
@@ -57,7 +59,11 @@ fn push_completed(bytes: &mut Vec<u8>, bits: BitSlice<'_>) -> Result<(), NoMemor
 /// Adds the references to the cells of these numbers in post order.
 fn push_refs(bytes: &mut Vec<u8>, size: u8, cells: usize, numbers: &[usize]) -> Result<(), NoMemory>
     requires { All (λ n. n < cells) numbers.now }
-    ensures { OnOk result (bytes.new.items ≡ bytes.old.items ++ flat_map (number_bytes size) (map (λ n. cells - 1 - n) numbers.now)) }
+    ensures {
+        OnOk result
+            (bytes.new.items
+                ≡ bytes.old.items ++ flat_map (number_bytes size) (map (λ n. cells - 1 - n) numbers.now))
+    }
 {
     'refs: for number in numbers {
         push_number(bytes, size, cells - 1 - *number)?;
@@ -73,6 +79,7 @@ fn is_exotic(kind: Kind) -> bool
         Kind::Pruned => true,
         Kind::Library => true,
         Kind::Proof => true,
+        Kind::Update => true,
     }
 }
 
@@ -90,7 +97,11 @@ fn descriptor_of(cell: &Cell) -> (u8, u8)
 /// Adds cell `i` of the list.
 fn push_cell(bytes: &mut Vec<u8>, size: u8, listing: &Listing, i: usize) -> Result<(), NoMemory>
     requires { i < length listing.now }
-    ensures { OnOk result (IfSome (slice_get listing.now i) (λ t. bytes.new.items ≡ bytes.old.items ++ cell_bytes size (reverse listing.now) t)) }
+    ensures {
+        OnOk result
+            (IfSome (slice_get listing.now i)
+                (λ t. bytes.new.items ≡ bytes.old.items ++ cell_bytes size (reverse listing.now) t))
+    }
 {
     listing.ordered();
     let cell = listing.cell(i);
