@@ -1,4 +1,5 @@
 pub mod Parts
 pub mod Sums
 pub mod Bytes
-pub mod Told
+pub mod Known
+pub mod Steps

@@ -1,6 +1,10 @@
+pub mod Levels
 pub mod Layout
 pub mod Tree
 pub mod Equations
+pub mod LevelsLaws
+pub mod LayoutLaws
+pub mod MarksLaws
 pub mod Good
 pub mod GoodParts
 pub mod HiddenParts

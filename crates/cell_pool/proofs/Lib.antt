@@ -1,0 +1,4 @@
+pub mod Chains
+pub mod Kept
+pub mod Sought
+pub mod Interned

@@ -1,0 +1,11 @@
+//! Distinct cells, each with one number.
+#![tactic(auto)]
+
+mod id;
+mod intern;
+mod node;
+mod pool;
+
+pub use id::NodeId;
+pub use node::PoolNode;
+pub use pool::Pool;
