@@ -1,10 +1,15 @@
 //! Schemas and type words that are read, and their canonical texts, written by hand.
+ghost use Rattle.tlb_syntax.specs.Limits.{IsWithinLimits};
+ghost use Rattle.tlb_syntax.specs.View.{schema as schema_view};
+
 use std::alloc::Global;
 use std::process::Abort;
 use tlb_grammar::{Constructor, Expr, Schema, canonical, read_schema, read_type, show};
 
 /// The schema that a text writes.
-pub(crate) fn schema(rt: &impl Abort, alloc: Global, text: &str) -> Schema {
+pub(crate) fn schema(rt: &impl Abort, alloc: Global, text: &str) -> Schema
+    ensures { IsWithinLimits (schema_view result) }
+{
     assert!(rt; text.len() <= 1_048_576);
     read_schema(alloc, text.as_bytes()).expect(rt, "a schema")
 }
