@@ -1,1 +1,3 @@
+mod CellSteps
 mod Orders
+mod Lists

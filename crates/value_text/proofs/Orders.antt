@@ -1,7 +1,8 @@
 -- The order of bits, by places.
-use Rattle.std.proofs.Common.{◌≡◌, ◌≢◌, ◌<◌, ◌≤◌, ◌+◌, ℕ, suc, Bool, true, false, List, [], ◌∷◌, length, drop, refl, ap, sym, ◌∙◌, arith, nat_lt, slice_index, ◌==◌}
+use Rattle.std.proofs.Common.{◌≡◌, ◌≢◌, ◌<◌, ◌≤◌, ◌+◌, ℕ, suc, Bool, true, false, List, [], ◌∷◌, length, drop, refl, ap, sym, ◌∙◌, arith, nat_lt, slice_index, ◌==◌, min, ⊎_elim}
 use Rattle.std.proofs.Math.Seq.{drop-cons}
 use Rattle.std.proofs.lemmas.List.{drop_all, length-drop}
+use Rattle.std.proofs.lemmas.Bool.{cases_lt}
 use Rattle.std.proofs.lemmas.Bool.Decides.{nat_tests}
 use Rattle.value_text.specs.Text.{comes_before}
 
@@ -38,3 +39,15 @@ before-long xs ys i l = none-before (drop i xs) (drop i ys) (let e = length-drop
 pub before-short : (xs ys : List ℕ) (i : ℕ) → length xs ≤ i → i < length ys → comes_before (drop i xs) (drop i ys) ≡ true
 before-short xs ys i h k =
     all-before (drop i xs) (drop i ys) (let e = length-drop i xs in omega arith) (let e = length-drop i ys in omega arith)
+
+-- where one of the two ends, the lengths decide
+pub before-rest : (xs ys : List ℕ) (i m n : ℕ) → m ≡ length xs → n ≡ length ys → i ≤ length xs → i ≤ length ys → min (length xs) (length ys) ≤ i
+    → nat_lt m n ≡ comes_before (drop i xs) (drop i ys)
+before-rest xs ys i m n f g h k l = ⊎_elim
+    (λ (s : length xs < length ys).
+    let yes : nat_lt m n ≡ true = grind (arith, nat_tests) in
+    yes ∙ sym (before-short xs ys i (omega arith) (omega arith)))
+    (λ (s : length ys ≤ length xs).
+    let no : nat_lt m n ≡ false = grind (arith, nat_tests) in
+    no ∙ sym (before-long xs ys i (omega arith)))
+    (cases_lt (length xs) (length ys))

@@ -27,8 +27,11 @@ abbrev pub body : List ℕ → List (List Token) → List Token
 body bs refs = mark 40 ∷ bits bs ∷ more refs ++ mark 41 ∷ []
 
 -- an exotic cell has a '!'
+abbrev pub kind_mark : Kind → List Token
+kind_mark kind = if is_exotic kind then mark 33 ∷ [] else []
+
 abbrev pub cell_step : Kind → List ℕ → List (List Token) → List Token
-cell_step kind bs refs = if is_exotic kind then mark 33 ∷ body bs refs else body bs refs
+cell_step kind bs refs = kind_mark kind ++ body bs refs
 
 abbrev pub tree_step : Tree-F (List Token) → List Token
 tree_step t = cell_step t.kind t.bits t.children

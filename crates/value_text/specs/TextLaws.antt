@@ -54,12 +54,6 @@ put-some b c t u es fs f g =
     ∙ ap (λ w. t ++ w) (sym (written-append (separated_from b es) (separated_from (first_after b es) fs)))
     ∙ ap (λ w. t ++ written w) (sym (separated-append b es fs)))
 
--- tokens between two brackets
-pub put-between : (t u v w : List ℕ) (a z : ℕ) (es : List Token) → u ≡ t ++ a ∷ [] → v ≡ u ++ written es → w ≡ v ++ z ∷ []
-    → w ≡ t ++ written (mark a ∷ es ++ mark z ∷ [])
-put-between t u v w a z es f g h = rw (h, g, f) (simp (written-append, append_assoc) refl)
-
--- the same behind other tokens
-pub put-behind : (s t u v w : List ℕ) (a z : ℕ) (ds es : List Token) → t ≡ s ++ written ds → u ≡ t ++ a ∷ [] → v ≡ u ++ written es → w ≡ v ++ z ∷ []
-    → w ≡ s ++ written (ds ++ mark a ∷ es ++ mark z ∷ [])
-put-behind s t u v w a z ds es d f g h = rw (h, g, f, d) (simp (written-append, append_assoc) refl)
+-- some tokens behind others
+pub put-then : (t u v : List ℕ) (ds es : List Token) → u ≡ t ++ written ds → v ≡ u ++ written es → v ≡ t ++ written (ds ++ es)
+put-then t u v ds es f g = rw (g, f) (append_assoc t (written ds) (written es) ∙ ap (λ w. t ++ w) (sym (written-append ds es)))

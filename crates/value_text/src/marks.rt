@@ -1,9 +1,9 @@
 //! Tokens that are written one after another.
 ghost use Rattle.std.specs.Prelude.{◌≡◌, ◌++◌, [], ◌∷◌, OnOk, if◌then◌else◌};
 ghost use Rattle.value_text.specs.Text.{comes_before, name_of};
-ghost use Rattle.value_text.specs.Tokens.{bits, hidden, number, spelling, written};
+ghost use Rattle.value_text.specs.Tokens.{bits, hidden, mark, name, number, spelling, written};
 
-use bit_slice::{BitSlice, Name};
+use bit_slice::{BitSlice, BitString, Name};
 use std::alloc::Global;
 use tlb_memory::NoMemory;
 use typed_value::{Hidden, Number};
@@ -33,6 +33,24 @@ pub(crate) fn put_name(text: &mut Vec<u8>, name: &Option<Name>) -> Result<(), No
     if let Some(name) = name {
         text.extend_from_slice(name.text())?;
     }
+    Ok(())
+}
+
+/// A field's name and its colon.
+pub(crate) fn put_label(text: &mut Vec<u8>, label: &Name) -> Result<(), NoMemory>
+    ensures { OnOk result (text.new.items ≡ text.old.items ++ written (name label.now ∷ mark 58 ∷ [])) }
+{
+    text.extend_from_slice(label.text())?;
+    put_byte(text, b':')?;
+    Ok(())
+}
+
+/// A key and its colon.
+pub(crate) fn put_key(alloc: Global, text: &mut Vec<u8>, key: &BitString) -> Result<(), NoMemory>
+    ensures { OnOk result (text.new.items ≡ text.old.items ++ written (bits key.now ∷ mark 58 ∷ [])) }
+{
+    put_bits(alloc, text, key.slice())?;
+    put_byte(text, b':')?;
     Ok(())
 }
 

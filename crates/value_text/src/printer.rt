@@ -1,12 +1,15 @@
 //! Printing.
 ghost use Rattle.std.specs.Prelude.{◌≡◌, ◌++◌, [], ◌∷◌, ◌≤◌, IfOk, OnOk, length, map};
+ghost use Rattle.typed_value.specs.Values.{list_of, map_of, record_of, ref_to};
 ghost use Rattle.typed_value.specs.View.{names_in, pair_of, pairs_of, vals_in, vals_of, value};
 ghost use Rattle.value_text.specs.Text.{count_before, entries, fields, hidden_entry, items, separated, text_of, tokens};
 ghost use Rattle.value_text.specs.TextLaws.{first_after, separated_from};
 ghost use Rattle.value_text.specs.Tokens.{written};
 
 use crate::cells::{put_cell, put_rest};
-use crate::marks::{comes_before, put_bits, put_byte, put_comma, put_hidden, put_name, put_number};
+use crate::marks::{
+    comes_before, put_bits, put_byte, put_comma, put_hidden, put_key, put_label, put_name, put_number,
+};
 use bit_slice::{BitString, Name};
 use std::alloc::Global;
 use tlb_memory::NoMemory;
@@ -28,37 +31,71 @@ fn put_value(alloc: Global, text: &mut Vec<u8>, shown: &Value) -> Result<(), NoM
     match shown {
         Value::Number(number) => put_number(alloc, text, *number),
         Value::Bits(bits) => put_bits(alloc, text, bits.slice()),
-        Value::Record(record) => {
-            put_name(text, &record.name)?;
-            put_byte(text, b'{')?;
-            put_fields(alloc, text, record.fields.as_slice())?;
-            put_byte(text, b'}')?;
-            Ok(())
-        }
+        Value::Record(record) => put_record(alloc, text, &record.name, record.fields.as_slice()),
         Value::Absent => put_byte(text, b'~'),
-        Value::List(items) => {
-            put_byte(text, b'[')?;
-            put_items(alloc, text, items.as_slice())?;
-            put_byte(text, b']')?;
-            Ok(())
-        }
-        Value::Ref(inner) => {
-            put_byte(text, b'^')?;
-            put_value(alloc, text, inner.get())
-        }
+        Value::List(items) => put_list(alloc, text, items.as_slice()),
+        Value::Ref(inner) => put_ref(alloc, text, inner.get()),
         Value::Unknown(hidden) => put_hidden(alloc, text, hidden),
-        Value::Map(dict) => {
-            put_byte(text, b'<')?;
-            put_entries(alloc, text, dict.pairs.as_slice(), dict.unknown.as_slice())?;
-            put_byte(text, b'>')?;
-            Ok(())
-        }
+        Value::Map(dict) => put_map(alloc, text, dict.pairs.as_slice(), dict.unknown.as_slice()),
         Value::Raw(cell) => put_cell(alloc, text, cell),
-        Value::Rest(part) => {
-            put_byte(text, b'%')?;
-            put_rest(alloc, text, part)
-        }
+        Value::Rest(part) => put_rest(alloc, text, part),
     }
+}
+
+#[cycle(print)]
+fn put_record(
+    alloc: Global,
+    text: &mut Vec<u8>,
+    name: &Option<Name>,
+    shown: &[(Name, Value)],
+) -> Result<(), NoMemory>
+    ensures {
+        let fs = map pair_of shown.now in
+        OnOk result (text.new.items ≡ text.old.items ++ text_of (record_of name.now (names_in fs) (vals_in fs)))
+    }
+{
+    put_name(text, name)?;
+    put_byte(text, b'{')?;
+    put_fields(alloc, text, shown)?;
+    put_byte(text, b'}')?;
+    Ok(())
+}
+
+#[cycle(print)]
+fn put_list(alloc: Global, text: &mut Vec<u8>, shown: &[Value]) -> Result<(), NoMemory>
+    ensures { OnOk result (text.new.items ≡ text.old.items ++ text_of (list_of (vals_of (map value shown.now)))) }
+{
+    put_byte(text, b'[')?;
+    put_items(alloc, text, shown)?;
+    put_byte(text, b']')?;
+    Ok(())
+}
+
+#[cycle(print)]
+fn put_ref(alloc: Global, text: &mut Vec<u8>, inner: &Value) -> Result<(), NoMemory>
+    ensures { OnOk result (text.new.items ≡ text.old.items ++ text_of (ref_to tt (value inner.now))) }
+{
+    put_byte(text, b'^')?;
+    put_value(alloc, text, inner)?;
+    Ok(())
+}
+
+#[cycle(print)]
+fn put_map(
+    alloc: Global,
+    text: &mut Vec<u8>,
+    pairs: &[(BitString, Value)],
+    unknown: &[(BitString, Hidden)],
+) -> Result<(), NoMemory>
+    ensures {
+        let m = map_of tt (pairs_of (map pair_of pairs.now)) unknown.now in
+        OnOk result (text.new.items ≡ text.old.items ++ text_of m)
+    }
+{
+    put_byte(text, b'<')?;
+    put_entries(alloc, text, pairs, unknown)?;
+    put_byte(text, b'>')?;
+    Ok(())
 }
 
 #[cycle(print)]
@@ -86,8 +123,7 @@ fn put_fields(alloc: Global, text: &mut Vec<u8>, shown: &[(Name, Value)]) -> Res
     let mut is_first = true;
     'fields: for (name, inner) in shown {
         put_comma(text, is_first)?;
-        text.extend_from_slice(name.text())?;
-        put_byte(text, b':')?;
+        put_label(text, name)?;
         put_value(alloc, text, inner)?;
         is_first = false;
     }
@@ -112,8 +148,7 @@ fn put_entries(
         let (before, after) = left.split_at(count_before(left, key));
         is_first = put_unknown(alloc, text, is_first, before)?;
         put_comma(text, is_first)?;
-        put_bits(alloc, text, key.slice())?;
-        put_byte(text, b':')?;
+        put_key(alloc, text, key)?;
         put_value(alloc, text, inner)?;
         is_first = false;
         left = after;
