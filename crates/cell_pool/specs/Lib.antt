@@ -7,3 +7,4 @@ pub mod OnceLaws
 pub mod ReverseLaws
 pub mod GrowthLaws
 pub mod Nodes
+pub mod Visited

@@ -53,7 +53,7 @@ fn add_all(pool: &mut Pool, refs: RefSlice<'_>, numbers: &mut Vec<NodeId>) -> Re
     }
 }
 
-fn push_number(numbers: &mut Vec<NodeId>, number: NodeId) -> Result<(), NoMemory>
+pub(crate) fn push_number(numbers: &mut Vec<NodeId>, number: NodeId) -> Result<(), NoMemory>
     ensures { OnOk result (numbers.new.items ≡ numbers.old.items ++ number ∷ []) }
 {
     numbers.push(number).map_err(AllocError::from)?;

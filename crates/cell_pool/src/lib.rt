@@ -4,6 +4,7 @@
 mod id;
 mod intern;
 mod node;
+mod order;
 mod pool;
 
 pub use id::NodeId;

@@ -1,15 +1,16 @@
 //! Distinct cells, each with one number.
-ghost use Rattle.std.specs.Prelude.{take, ◌≡◌, ◌≤◌, ◌<◌, ◌+◌, ◌^◌, ◌++◌, ◌∷◌, [], false, length, map, slice_get, Some, IfOk, IfSome, OnOk, OnErr, MatchOption};
+ghost use Rattle.std.specs.Prelude.{reverse, take, ◌≡◌, ◌≤◌, ◌<◌, ◌+◌, ◌^◌, ◌++◌, ◌∷◌, [], false, length, map, slice_get, Some, IfOk, IfSome, OnOk, OnErr, MatchOption};
 ghost use Rattle.cell_nodes.specs.declared.tree.Tree.{out-Tree};
 ghost use Rattle.cell_nodes.specs.Good.{AllGood};
 ghost use Rattle.cell_nodes.specs.Tree.{unfolded};
-ghost use Rattle.cell_pool.specs.Post.{stands, place};
+ghost use Rattle.cell_pool.specs.Post.{stands, place, post};
 ghost use Rattle.cell_pool.specs.Listing.{added, AllStand, IsOrdered, IsPartly};
 ghost use Rattle.cell_pool.specs.Nodes.{node_tree, node_numbers, numbers_in, bucket, mark, AllSmall, Follows};
 
 use crate::id::NodeId;
 use crate::intern::add;
 use crate::node::PoolNode;
+use crate::order::order_of;
 use cell_nodes::Cell;
 use std::alloc::{AllocError, Global};
 use std::marker::Model;
@@ -120,6 +121,15 @@ impl Pool {
         ensures few { length self.new ≤ length self.old + unfolded cell.now }
     {
         add(self, cell)
+    }
+
+    /// The numbers of the distinct subtrees of the node's tree, in the reverse of the order in which a walk from left to
+    /// right completes them: the order of the cells of a bag.
+    pub fn order(&self, alloc: Global, root: NodeId) -> Result<Vec<NodeId>, NoMemory>
+        requires { root < length self.now }
+        ensures { IfOk result (λ v. IfSome (slice_get self.now root) (λ t. v.items ≡ map (place self.now) (reverse (post t)))) }
+    {
+        order_of(self, alloc, root)
     }
 
     pub(crate) fn alloc(&self) -> Global {
