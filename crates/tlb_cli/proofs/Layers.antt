@@ -24,7 +24,7 @@ use Rattle.tlb_edge.specs.Files.{Name}
 use Rattle.tlb_grammar.specs.Answer.{Refuses}
 use Rattle.tlb_grammar.specs.declared.error.GrammarError.{GrammarError}
 use Rattle.tlb_grammar.specs.declared.error.GrammarError.TheVariants as grammar
-use Rattle.kind_rules.specs.Faults.{first}
+use Rattle.kind_declarations.specs.Faults.{first}
 use Rattle.tlb_kinds.specs.Refusals.{refusals}
 use Rattle.tlb_kinds.specs.declared.error.KindError.{KindError}
 use Rattle.tlb_kinds.specs.declared.error.KindError.TheVariants as kinds

@@ -6,8 +6,8 @@ use Rattle.std.proofs.lemmas.Slice.Eq.{bytes_eq-Decides}
 use Rattle.tlb_syntax.specs.Tree.{ConstructorView, SchemaView}
 use Rattle.kind_terms.specs.Dictionaries.{is_dictionary, of_type, without_dictionaries}
 use Rattle.kind_terms.specs.Words.{Word}
-use Rattle.kind_rules.specs.Headings.{Heading}
-use Rattle.kind_rules.specs.Nodes.{heading_nodes}
+use Rattle.kind_declarations.specs.Headings.{Heading}
+use Rattle.kind_declarations.specs.Nodes.{heading_nodes}
 use Rattle.tlb_kinds.specs.Laws.{KindedStays, PassedOver}
 use Rattle.tlb_kinds.specs.Refusals.{of_headings, refusals_within, refusals}
 use Rattle.tlb_kinds.specs.Spots.{heading, refusals_at}

@@ -3,9 +3,9 @@ ghost use Rattle.std.specs.Prelude.{◌≡◌, ◌≢◌, ◌+◌, ◌≤◌, Er
 ghost use Rattle.tlb_syntax.specs.Limits.{AreConstructors, IsWithinLimits};
 ghost use Rattle.tlb_syntax.specs.View.{constructor as constructor_view, schema as schema_view};
 ghost use Rattle.kind_terms.specs.Dictionaries.{without_dictionaries as without_dictionaries_of};
-ghost use Rattle.kind_rules.specs.Faults.{Judges};
-ghost use Rattle.kind_rules.specs.Nodes.{Judged};
-ghost use Rattle.kind_rules.specs.Views.{part_by};
+ghost use Rattle.kind_declarations.specs.Faults.{Judges};
+ghost use Rattle.kind_declarations.specs.Nodes.{Judged};
+ghost use Rattle.kind_terms.specs.Views.{part_by};
 ghost use Rattle.tlb_kinds.specs.Answers.{Finds, IsFirst, IsJudged, IsPassed, IsRefused};
 ghost use Rattle.tlb_kinds.specs.Refusals.{IsKinded, first_refusal, of_contents, of_guard, of_headings, refusals_within};
 ghost use Rattle.tlb_kinds.specs.Spots.{heading, refusals_at};
@@ -13,9 +13,8 @@ ghost use Rattle.tlb_kinds.specs.declared.error.KindError.{KindError as Refused}
 
 use crate::error::{KindError, refusal_for};
 use crate::places::{item_spot, spot};
-use kind_declarations::{judge_constructor, judge_heading};
-use kind_rules::{Fault, Shown};
-use kind_terms::{Types, is_dictionary};
+use kind_declarations::{Fault, judge_constructor, judge_heading};
+use kind_terms::{Shown, Types, is_dictionary};
 use sqlite_items::Items;
 use std::alloc::Global;
 use std::marker::Model;
@@ -55,7 +54,7 @@ impl Kinded {
     }
 }
 
-// The refusal of what is judged in a declaration behind these.
+// The refusal of what is judged in a declaration after these.
 fn refusal(
     alloc: Global,
     before: &[Constructor],
@@ -93,7 +92,7 @@ fn judge_headings(alloc: Global, constructors: &[Constructor]) -> Result<(), Kin
 }
 
 fn judge_contents(alloc: Global, constructors: &[Constructor]) -> Result<(), KindError>
-    requires few { length constructors.now ≤ 4096 }
+    requires bounded { length constructors.now ≤ 4096 }
     requires within { AreConstructors (map constructor_view constructors.now) }
     ensures { Finds (of_contents (map constructor_view constructors.now) [] (map constructor_view constructors.now)) result }
 {
@@ -109,7 +108,7 @@ fn judge_contents(alloc: Global, constructors: &[Constructor]) -> Result<(), Kin
 }
 
 fn judge_guard(alloc: Global, constructors: &[Constructor]) -> Result<(), KindError>
-    requires few { length constructors.now ≤ 4096 }
+    requires bounded { length constructors.now ≤ 4096 }
     requires within { AreConstructors (map constructor_view constructors.now) }
     ensures { Finds (of_guard (map constructor_view constructors.now)) result }
 {
@@ -145,7 +144,7 @@ fn without_dictionaries(schema: Schema) -> Schema
 
 // The refusals of a schema without declarations of dictionaries.
 fn judge_kept(alloc: Global, constructors: &[Constructor]) -> Result<(), KindError>
-    requires few { length constructors.now ≤ 4096 }
+    requires bounded { length constructors.now ≤ 4096 }
     requires within { AreConstructors (map constructor_view constructors.now) }
     ensures { Finds (refusals_within (map constructor_view constructors.now)) result }
 {
@@ -171,9 +170,9 @@ pub fn kind_check(alloc: Global, schema: Schema) -> Result<Kinded, KindError>
     requires { IsWithinLimits (schema_view schema) }
     // What is answered holds of the schema.
     ensures holds { IsJudged (schema_view schema) result }
-    // A schema without a refusal passes, unless memory is wanted.
+    // A schema without a refusal passes, unless out of memory.
     ensures passed { IsKinded (schema_view schema) → IsPassed (schema_view schema) result }
-    // The first refusal is answered, unless memory is wanted.
+    // The first refusal is answered, unless out of memory.
     ensures refused { (e : Refused) → first_refusal (schema_view schema) ≡ Some e → IsRefused e result }
 {
     match judge(alloc, schema) {

@@ -4,13 +4,14 @@ use Rattle.tlb_syntax.specs.declared.tree.Expr.{Expr, the_lemmas}
 use Rattle.tlb_syntax.specs.Limits.{AreExprs}
 use Rattle.tlb_syntax.specs.Tree.{check, implicit, star, when, when_bit}
 use Rattle.tlb_syntax.specs.View.{constructor, expr, exprs, field_type, item, items}
-use Rattle.kind_declarations.specs.EndingViews.{endings_at, place_at}
-use Rattle.kind_rules.specs.Faults.{verdict}
-use Rattle.kind_rules.specs.Nodes.{arg_endings, expr_endings, first_place, is_blank, next_place, record_endings, type_endings}
-use Rattle.kind_rules.specs.Views.{part_by}
+use Rattle.kind_declarations.specs.EndingViews.{endings_at, position_at}
+use Rattle.kind_declarations.specs.Faults.{verdict}
+use Rattle.kind_declarations.specs.Nodes.{arg_endings, expr_endings, record_endings, type_endings}
+use Rattle.kind_terms.specs.Positions.{first_position, is_unnamed, next_position}
+use Rattle.kind_terms.specs.Views.{part_by}
 use Rattle.kind_declarations.proofs.RecordEnds.{args_end, args_turn, count_of_items, endings_of_terms, expr_is_sized, item_is_sized, items_end, items_turn, known_at_last, never_known, no_parts, one_more_at_most, sized_terms}
-use Rattle.kind_rules.proofs.JudgedParts.{both_pass, part_stops}
-use Rattle.kind_rules.proofs.Verdicts.{judged_from, passed_verdict, verdict_none}
+use Rattle.kind_declarations.proofs.JudgedParts.{both_pass, part_stops}
+use Rattle.kind_declarations.proofs.Verdicts.{judged_from, passed_verdict, verdict_none}
 use Rattle.kind_declarations.proofs.endings.+ending.Goals as goal
 
 -- ---- expressions
@@ -168,29 +169,29 @@ judge_items-judge_item-requires t c =
     (search (rules, the_lemmas), item_is_sized c.args.items.now c.loop-item.item-index c.item-item.result c.requires.sized c.loop-item-test.true c.item-item.is)
 
 pub judge_items-overflow_add-place : goal.judge_items-overflow_add-place
-judge_items-overflow_add-place t c = let few = count_of_items c.args.items.now in omega (arith, few, c.requires.few)
+judge_items-overflow_add-place t c = let bounded = count_of_items c.args.items.now in omega (arith, bounded, c.requires.bounded)
 
-pub judge_items-blanks_behind-blanks-requires : goal.judge_items-blanks_behind-blanks-requires
-judge_items-blanks_behind-blanks-requires t c = let few = count_of_items c.args.items.now in omega (arith, few, c.requires.few)
+pub judge_items-unnamed_after-unnamed-requires : goal.judge_items-unnamed_after-unnamed-requires
+judge_items-unnamed_after-unnamed-requires t c = let bounded = count_of_items c.args.items.now in omega (arith, bounded, c.requires.bounded)
 
 pub judge_items-loop-item-preserved : goal.judge_items-loop-item-preserved
 judge_items-loop-item-preserved t c =
     let types = map constructor c.args.types.now in
     let path = map part_by c.args.path.now in
     let known = map (λ n. n.now) c.args.known.now in
-    let p = place_at path c.loop-item.place c.loop-item.blanks in
+    let p = position_at path c.loop-item.place c.loop-item.unnamed in
     let after = record_endings (items (drop (c.loop-item.item-index + 1) c.args.items.now)) types in
     let turn = items_turn c.args.items.now c.loop-item.item-index c.item-item.result types p known c.loop-item-test.true c.item-item.is in
     let none : verdict (endings_at (item c.item-item.result) types p known) ≡ None =
-    ap (λ x. verdict (endings_at (item c.item-item.result) types (place_at (map part_by x) c.loop-item.place c.loop-item.blanks) known)) (sym c.loop-item.invariant.kept)
+    ap (λ x. verdict (endings_at (item c.item-item.result) types (position_at (map part_by x) c.loop-item.place c.loop-item.unnamed) known)) (sym c.loop-item.invariant.kept)
     ∙ c.in_ok-judge_item.ensures.judged in
     record {
       kept = c.in_ok-judge_item.ensures.kept ∙ c.loop-item.invariant.kept;
       number = omega arith;
-      few = one_more_at_most (is_blank (item c.item-item.result)) c.loop-item.blanks c.blanks_behind-blanks.result c.loop-item.item-index c.blanks_behind-blanks.ensures c.loop-item.invariant.few;
+      bounded = one_more_at_most (is_unnamed (item c.item-item.result)) c.loop-item.unnamed c.unnamed_after-unnamed.result c.loop-item.item-index c.unnamed_after-unnamed.ensures c.loop-item.invariant.bounded;
       passed =
-          ap (λ b. verdict (after (place_at path (c.loop-item.place + 1) b) known)) c.blanks_behind-blanks.ensures
-          ∙ sym (ap verdict turn ∙ passed_verdict (endings_at (item c.item-item.result) types p known) (after (next_place p (item c.item-item.result)) known) none)
+          ap (λ b. verdict (after (position_at path (c.loop-item.place + 1) b) known)) c.unnamed_after-unnamed.ensures
+          ∙ sym (ap verdict turn ∙ passed_verdict (endings_at (item c.item-item.result) types p known) (after (next_position p (item c.item-item.result)) known) none)
           ∙ c.loop-item.invariant.passed;
     }
 
@@ -199,19 +200,19 @@ judge_items-returns-in_err-judge_item-clause-judged t c =
     let types = map constructor c.args.types.now in
     let path = map part_by c.args.path.now in
     let known = map (λ n. n.now) c.args.known.now in
-    let p = place_at path c.loop-item.place c.loop-item.blanks in
+    let p = position_at path c.loop-item.place c.loop-item.unnamed in
     let rest = record_endings (items (drop c.loop-item.item-index c.args.items.now)) types p known in
-    let after = record_endings (items (drop (c.loop-item.item-index + 1) c.args.items.now)) types (next_place p (item c.item-item.result)) known in
-    judged_from rest (record_endings (items c.args.items.now) types (first_place path) known) (map part_by c.judge_item.new.path) c.from_residual.result
+    let after = record_endings (items (drop (c.loop-item.item-index + 1) c.args.items.now)) types (next_position p (item c.item-item.result)) known in
+    judged_from rest (record_endings (items c.args.items.now) types (first_position path) known) (map part_by c.judge_item.new.path) c.from_residual.result
     c.loop-item.invariant.passed
-    (part_stops rest (endings_at (item c.item-item.result) types (place_at (map part_by c.loop-item.path) c.loop-item.place c.loop-item.blanks) known) after
+    (part_stops rest (endings_at (item c.item-item.result) types (position_at (map part_by c.loop-item.path) c.loop-item.place c.loop-item.unnamed) known) after
     (map part_by c.judge_item.new.path) c.from_residual.result c.in_err-judge_item.field-0.0
     (items_turn c.args.items.now c.loop-item.item-index c.item-item.result types p known c.loop-item-test.true c.item-item.is
-    ∙ ap (λ x. endings_at (item c.item-item.result) types (place_at (map part_by x) c.loop-item.place c.loop-item.blanks) known ++ after) (sym c.loop-item.invariant.kept))
+    ∙ ap (λ x. endings_at (item c.item-item.result) types (position_at (map part_by x) c.loop-item.place c.loop-item.unnamed) known ++ after) (sym c.loop-item.invariant.kept))
     c.from_residual.ensures.1 c.in_err-judge_item.ensures.judged)
 
 pub judge_items-returns-clause-judged : goal.judge_items-returns-clause-judged
 judge_items-returns-clause-judged t c =
     sym c.loop-item.invariant.passed
     ∙ items_end c.args.items.now c.loop-item.item-index (map constructor c.args.types.now)
-    (place_at (map part_by c.args.path.now) c.loop-item.place c.loop-item.blanks) (map (λ n. n.now) c.args.known.now) (omega arith)
+    (position_at (map part_by c.args.path.now) c.loop-item.place c.loop-item.unnamed) (map (λ n. n.now) c.args.known.now) (omega arith)

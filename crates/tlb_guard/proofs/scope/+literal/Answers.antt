@@ -1,6 +1,6 @@
 use Rattle.std.proofs.Common.{refl}
 use Rattle.std.specs.Prelude.{None}
-use Rattle.kind_terms.proofs.NestedSums.{two_terms}
+use Rattle.kind_terms.specs.SumLaws.{two_terms}
 use Rattle.tlb_guard.specs.Empty.{literal}
 use Rattle.tlb_guard.proofs.scope.+literal.Goals as goal
 

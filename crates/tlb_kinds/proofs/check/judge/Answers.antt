@@ -22,15 +22,15 @@ returns-in_err-judge_headings c =
     (is_first_more (of_headings [] s) (refusals_within (without_dictionaries s)) c.in_err-judge_headings.field-0.0
     (subst P c.as_slice.ensures c.in_err-judge_headings.ensures))
 
-pub judge_kept-requires-clause-few : goal.judge_kept-requires-clause-few
-judge_kept-requires-clause-few c =
+pub judge_kept-requires-clause-bounded : goal.judge_kept-requires-clause-bounded
+judge_kept-requires-clause-bounded c =
     let s = schema c.args.schema in
     let seen : map constructor c.as_slice-2.result.now ≡ without_dictionaries s = ap (map constructor) c.as_slice-2.ensures ∙ c.without_dictionaries-kept.ensures in
     let size = length-map c.as_slice-2.result.now constructor in
     let same = ap length seen in
-    let few = kept_few s in
-    let all = c.requires.few.all in
-    omega (arith, size, same, few, all)
+    let bounded = kept_few s in
+    let all = c.requires.bounded.all in
+    omega (arith, size, same, bounded, all)
 
 pub judge_kept-requires-clause-within : goal.judge_kept-requires-clause-within
 judge_kept-requires-clause-within c =

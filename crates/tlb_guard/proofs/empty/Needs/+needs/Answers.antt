@@ -1,11 +1,11 @@
 use Rattle.std.proofs.Common.{◌∙◌, sym, ap, refl, true}
 use Rattle.std.specs.Prelude.{◌&&◌}
 use Rattle.std.specs.List.{list_all}
-use Rattle.kind_terms.proofs.NestedSums.{two_terms}
+use Rattle.kind_terms.specs.SumLaws.{two_terms}
 use Rattle.tlb_guard.specs.Empty.{may_be_empty}
 use Rattle.tlb_guard.specs.Numbering.{types_in, views}
 use Rattle.tlb_guard.specs.Scoping.{names}
-use Rattle.tlb_guard.proofs.Needing.{swapped}
+use Rattle.tlb_guard.proofs.NeededTypes.{swapped}
 use Rattle.tlb_guard.proofs.empty.Needs.+needs.Goals as goal
 
 pub of_expr-returns-in_default-2-clause-needs : goal.of_expr-returns-in_default-2-clause-needs
