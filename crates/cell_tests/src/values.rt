@@ -80,3 +80,12 @@ fn an_item_names_nothing_in_a_record(rt: HostRuntime) {
     steps.push(Step::Item(0)).ok().expect(&rt, "memory");
     assert!(rt; value.at(&Path { steps }).is_none());
 }
+
+#[test]
+fn a_copy_is_made_of_as_many_values(rt: HostRuntime) {
+    let value = example(&rt, rt.alloc());
+    let copy = value.copy(rt.alloc()).expect(&rt, "memory");
+    assert!(rt; copy.levels() == 3 && copy.parts() == 5);
+    let path = path(&rt, rt.alloc(), "r m");
+    assert!(rt; number_at(&copy, &path) == Some(17));
+}

@@ -1,8 +1,7 @@
 //! Schemas that pass the rules on kinds and the guard, and the items that the guard finds.
 use crate::texts::schema;
 use kind_declarations::judge_heading;
-use kind_rules::{Shown, add_variable, inputs, is_blank, show_item};
-use kind_terms::Types;
+use kind_terms::{Shown, Types, add_variable, inputs, is_unnamed, show_item};
 use sqlite_items::Items;
 use std::alloc::Global;
 use std::process::Abort;
@@ -90,7 +89,7 @@ fn items_are_shown_by_their_names_or_places(rt: HostRuntime) {
     let a = schema.constructors.as_slice().first().expect(&rt, "one");
     let named = a.items.as_slice().first().expect(&rt, "an item");
     let blank = a.items.as_slice().last().expect(&rt, "an item");
-    assert!(rt; !is_blank(named) && is_blank(blank));
+    assert!(rt; !is_unnamed(named) && is_unnamed(blank));
     assert!(rt; matches!(show_item(named, 0, 0), Shown::Named(_)));
-    assert!(rt; matches!(show_item(blank, 1, 0), Shown::Blank(0)));
+    assert!(rt; matches!(show_item(blank, 1, 0), Shown::Unnamed(0)));
 }

@@ -1,7 +1,7 @@
 //! What the rules on kinds speak of: names of the language, forms of expressions, kinds, types, scopes.
 use crate::texts::{expression, schema};
 use kind_terms::{
-    GREATEST, Kind, Meaning, Sort, Types, add_known, bare_name, closed, declares, field_name,
+    GREATEST, Meaning, Sort, TermKind, Types, add_known, bare_name, closed, declares, field_name,
     has_outputs, has_some_width, has_width, is_among, is_any_or_cell, is_beyond, is_built_in,
     is_dictionary, is_family, is_field_of_numbers, is_literal, is_map, is_of_numbers, is_out,
     is_wide, kind_of, kinds, meaning_in, no_type, out_name, sought, variable_of,
@@ -50,11 +50,15 @@ fn kinds_of_parameters(rt: HostRuntime) {
     let schema = schema(&rt, rt.alloc(), "a {X:Type} = T X 3 ~2;");
     let first = schema.constructors.as_slice().first().expect(&rt, "one");
     let found = kinds(rt.alloc(), first).expect(&rt, "memory");
-    let wanted = [Kind::TypeIn, Kind::NumberIn(GREATEST), Kind::NumberOut];
+    let wanted = [
+        TermKind::TypeIn,
+        TermKind::NumberIn(GREATEST),
+        TermKind::NumberOut,
+    ];
     assert!(rt; found.as_slice() == wanted.as_slice() && has_outputs(found.as_slice()));
     let param = expression(&rt, rt.alloc(), "X");
-    assert!(rt; kind_of(first.items.as_slice(), &param) == Kind::TypeIn);
-    assert!(rt; Kind::NumberIn(1).is_same(Kind::NumberIn(2)));
+    assert!(rt; kind_of(first.items.as_slice(), &param) == TermKind::TypeIn);
+    assert!(rt; TermKind::NumberIn(1).is_same(TermKind::NumberIn(2)));
 }
 
 const UNARY: &str =
