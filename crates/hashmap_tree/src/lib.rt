@@ -1,0 +1,9 @@
+//! Dictionaries in cells.
+#![tactic(auto)]
+
+mod edges;
+mod found;
+mod walking;
+
+pub use found::{Walk, WalkCause, WalkError};
+pub use walking::walk;
