@@ -7,7 +7,11 @@ pub mod First
 pub mod FirstLaws
 pub mod Halts
 pub mod HiddenLaws
+pub mod Laws
 pub mod OnceLaws
+pub mod Order
+pub mod OrderLaws
+pub mod OutcomeLaws
 pub mod RefusedLaws
 pub mod SoundLaws
 pub mod StandsLaws

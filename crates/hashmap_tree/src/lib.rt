@@ -3,6 +3,7 @@
 
 mod edges;
 mod found;
+pub mod laws;
 mod walking;
 
 pub use found::{Walk, WalkCause, WalkError};
