@@ -1,5 +1,5 @@
 -- A walk over a pool's nodes.
-use Rattle.std.proofs.Common.{◌≡◌, ◌∙◌, ◌≢◌, ℕ, zero, suc, ◌+◌, ◌*◌, ◌<◌, ◌≤◌, Bool, true, false, List, [], ◌∷◌, ◌++◌, length, map, take, reverse, get_or, set, replicate, get_or-set_same, get_or-set_other, append_assoc, refl, ap, sym, subst, ⊎_elim, arith}
+use Rattle.std.proofs.Common.{◌≡◌, ◌∙◌, ◌≢◌, ℕ, zero, suc, ◌+◌, ◌*◌, ◌<◌, ◌≤◌, Bool, true, false, List, [], ◌∷◌, ◌++◌, length, map, take, reverse, get_or, set, replicate, get_or-set_same, get_or-set_other, refl, ap, sym, subst, ⊎_elim, arith}
 use Rattle.std.specs.Prelude.{◌||◌, Some, slice_get}
 use Rattle.std.specs.List.{All}
 use Rattle.std.proofs.lemmas.Bool.{cases_Bool, cases_lt}
@@ -13,7 +13,7 @@ use Rattle.cell_pool.specs.Post.{same, stands, place, post}
 use Rattle.cell_pool.specs.Listing.{added, added_all, AllStand, IsDistinct, IsOrdered}
 use Rattle.cell_pool.specs.Visited.{tree_at, trees_at, IsVisited}
 use Rattle.cell_pool.specs.SameLaws.{same-equal}
-use Rattle.cell_pool.specs.PlaceLaws.{or_none, stands-append, stands-last, stands-at, at-place, place-at, once}
+use Rattle.cell_pool.specs.PlaceLaws.{stands-append, stands-last, stands-at, at-place, place-at, once}
 use Rattle.cell_pool.specs.PostLaws.{closed, before-empty, added-known, added-new, added-empty, ordered-added}
 use Rattle.cell_pool.specs.ReverseLaws.{places-within}
 use Rattle.cell_pool.specs.GrowthLaws.{down}
@@ -42,10 +42,11 @@ places-of trees (n ∷ ns) d h =
 pub children-mean : (trees : List Tree) (i : ℕ) (u : Tree) (numbers : List ℕ) → IsOrdered trees → slice_get trees i ≡ Some u
     → numbers ≡ map (place trees) (out-Tree u).children → (trees_at trees numbers ≡ (out-Tree (tree_at trees i)).children) × All (λ n. n < length trees) numbers
 children-mean trees i u numbers o h e =
-    let stand = closed trees o.before u (stands-at trees i u h) in
-    (ap (λ (l : List ℕ). trees_at trees l) e ∙ trees-placed trees (out-Tree u).children stand
-    ∙ ap (λ (v : Tree). (out-Tree v).children) (sym (tree-found trees i u h)),
-    subst (λ (l : List ℕ). All (λ n. n < length trees) l) (sym e) (places-within trees (out-Tree u).children stand))
+    let stand = closed trees o.before u (stands-at trees i u h) in (
+      ap (λ (l : List ℕ). trees_at trees l) e ∙ trees-placed trees (out-Tree u).children stand
+          ∙ ap (λ (v : Tree). (out-Tree v).children) (sym (tree-found trees i u h)),
+      subst (λ (l : List ℕ). All (λ n. n < length trees) l) (sym e) (places-within trees (out-Tree u).children stand),
+    )
 
 pub children-smaller : (trees : List Tree) (i : ℕ) (numbers : List ℕ) → trees_at trees numbers ≡ (out-Tree (tree_at trees i)).children
     → 2 * total (map unfolded (trees_at trees numbers)) + 1 < 2 * unfolded (tree_at trees i)
@@ -129,12 +130,12 @@ visited-none trees = record {
   ordered = record { before = before-empty; distinct = tt };
 }
 
-reverse-map : (f : Tree → ℕ) (ts : List Tree) → reverse (map f ts) ≡ map f (reverse ts)
+reverse-map : {A B : Type 0} (f : A → B) (xs : List A) → reverse (map f xs) ≡ map f (reverse xs)
 reverse-map f [] = refl
-reverse-map f (t ∷ ts) =
-    reverse-append (f t ∷ []) (map f ts)
-    ∙ ap (λ (l : List ℕ). l ++ f t ∷ []) (reverse-map f ts)
-    ∙ sym (ap (λ (l : List Tree). map f l) (reverse-append (t ∷ []) ts) ∙ map_push f (reverse ts) t)
+reverse-map {A} {B} f (x ∷ xs) =
+    reverse-append (f x ∷ []) (map f xs)
+    ∙ ap (λ (l : List B). l ++ f x ∷ []) (reverse-map f xs)
+    ∙ sym (ap (λ (l : List A). map f l) (reverse-append (x ∷ []) xs) ∙ map_push f (reverse xs) x)
 
 pub order-is : (trees : List Tree) (numbers : List ℕ) (t : Tree) → IsDistinct trees → All (λ n. n < length trees) numbers → trees_at trees numbers ≡ added [] t
     → reverse numbers ≡ map (place trees) (reverse (post t))
@@ -142,6 +143,15 @@ order-is trees numbers t d h e =
     ap reverse (sym (places-of trees numbers d h))
     ∙ reverse-map (place trees) (trees_at trees numbers)
     ∙ ap (λ (l : List Tree). map (place trees) (reverse l)) (e ∙ added-empty t)
+
+pub order-means : (trees : List Tree) (numbers : List ℕ) (t : Tree) → trees_at trees numbers ≡ added [] t → trees_at trees (reverse numbers) ≡ reverse (post t)
+order-means trees numbers t e = sym (reverse-map (tree_at trees) numbers) ∙ ap (λ (l : List Tree). reverse l) (e ∙ added-empty t)
+
+pub order-there : (n : ℕ) (numbers : List ℕ) → All (λ m. m < n) numbers → All (λ m. m < n) (reverse numbers)
+order-there n [] h = h
+order-there n (x ∷ xs) h =
+    subst (λ (l : List ℕ). All (λ m. m < n) l) (sym (reverse-append (x ∷ []) xs))
+    (there-push n (reverse xs) x (order-there n xs (All-tail (λ m. m < n) x xs h)) (All-head (λ m. m < n) x xs h))
 
 -- a list that is written over the beginning of another
 pub take-own : (xs ys : List ℕ) (n : ℕ) → length xs ≡ n → take n (xs ++ ys) ≡ xs

@@ -2,7 +2,8 @@
 use Rattle.std.specs.Prelude.{◌≡◌, ℕ, suc, ◌+◌, ◌*◌, ◌%◌, ◌^◌, ◌<◌, ◌≤◌, false, List, [], ◌∷◌, length, map, slice_index}
 use Rattle.cell_nodes.specs.declared.tree.Tree.{Tree, out-Tree}
 use Rattle.cell_nodes.specs.Good.{AllGood}
-use Rattle.cell_nodes.specs.Tree.{hash, top_level, unfolded}
+use Rattle.cell_nodes.specs.Levels.{top_level}
+use Rattle.cell_nodes.specs.Tree.{hash, unfolded}
 use Rattle.cell_pool.specs.Post.{place, stands}
 use Rattle.cell_pool.specs.Listing.{AllStand, IsOrdered}
 use Rattle.cell_pool.specs.declared.node.PoolNode.{PoolNode}

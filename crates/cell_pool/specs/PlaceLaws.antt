@@ -214,3 +214,13 @@ at-push (x ∷ xs) t u (suc i) h = ⊎_elim
 -- the place of a tree that stands once
 pub place-at : (ts : List Tree) (i : ℕ) (t : Tree) → IsDistinct ts → slice_get ts i ≡ Some t → place ts t ≡ i
 place-at ts i t d h = once ts (place ts t) i t d (at-place ts t (stands-at ts i t h)) h
+
+pub some-at : (ts : List Tree) (i : ℕ) → i < length ts → (t : Tree) × (slice_get ts i ≡ Some t)
+some-at [] i h = absurd (omega arith)
+some-at (t ∷ ts) zero h = (t, refl)
+some-at (t ∷ ts) (suc i) h = some-at ts i (omega arith)
+
+pub take-some : (ts : List Tree) (i : ℕ) (t : Tree) → slice_get ts i ≡ Some t → take (suc i) ts ≡ take i ts ++ t ∷ []
+take-some [] i t h = cc
+take-some (u ∷ us) zero t h = let e : u ≡ t = cc in ap (λ (v : Tree). v ∷ []) e
+take-some (u ∷ us) (suc i) t h = ap (λ (l : List Tree). u ∷ l) (take-some us i t h)

@@ -2,23 +2,28 @@
 -- children from left to right. A bag of cells lists them in the reverse of this order.
 --
 -- Source: TON documentation, "Bag of cells": each distinct cell is stored once, and a cell's references are to cells
--- behind it.
-use Rattle.std.specs.Prelude.{◌≡◌, ℕ, ◌+◌, ◌==◌, Bool, true, false, not, ◌&&◌, ◌||◌, Some, List, [], ◌∷◌, ◌++◌, map, slice_get, if◌then◌else◌}
+-- after it.
+use Rattle.std.specs.Prelude.{◌≡◌, ℕ, ◌+◌, ◌==◌, Bool, true, false, not, ◌&&◌, ◌||◌, Some, List, [], ◌∷◌, ◌++◌, map}
+use Rattle.std.specs.Prelude.{slice_get, if◌then◌else◌}
 use Rattle.std.specs.List.{filter}
 use Rattle.cell_nodes.specs.declared.tree.Kind.{Kind}
-use Rattle.cell_nodes.specs.declared.tree.Kind.TheVariants.{Ordinary, Pruned, Library, Proof}
+use Rattle.cell_nodes.specs.declared.tree.Kind.TheVariants.{Ordinary, Pruned, Library, Proof, Update}
 use Rattle.cell_nodes.specs.declared.tree.Tree.{Tree, out-Tree, fold-Tree}
 use Rattle.cell_nodes.specs.declared.tree.Tree.TheOpen.{Tree-F}
 use Rattle.cell_nodes.specs.Tree.{tree_of}
 
 -- ---- equal trees: one kind, the same bits, equal children
 
+-- a number for each kind
+abbrev pub kind_number : Kind → ℕ
+kind_number Ordinary = 0
+kind_number Pruned = 1
+kind_number Library = 2
+kind_number Proof = 3
+kind_number Update = 4
+
 abbrev pub same_kind : Kind → Kind → Bool
-same_kind Ordinary Ordinary = true
-same_kind Pruned Pruned = true
-same_kind Library Library = true
-same_kind Proof Proof = true
-same_kind a b = false
+same_kind a b = kind_number a == kind_number b
 
 abbrev pub same_bits : List ℕ → List ℕ → Bool
 same_bits [] [] = true
@@ -55,7 +60,7 @@ place (u ∷ us) t = if same u t then 0 else 1 + place us t
 abbrev pub without : List Tree → List Tree → List Tree
 without seen ts = filter (λ t. not (stands seen t)) ts
 
--- the lists one behind the other, each without what stands already
+-- the lists one after the other, each without what stands already
 abbrev pub joined : List Tree → List (List Tree) → List Tree
 joined seen [] = seen
 joined seen (ts ∷ more) = joined (seen ++ without seen ts) more

@@ -11,7 +11,7 @@ use Rattle.cell_pool.specs.Listing.{AllStand, IsDistinct}
 use Rattle.cell_pool.specs.SameLaws.{same-equal}
 use Rattle.cell_pool.specs.PlaceLaws.{stands-append, place-within, place-append_left, place-append_right}
 
-stands-reverse : (ts : List Tree) (t : Tree) → stands (reverse ts) t ≡ stands ts t
+pub stands-reverse : (ts : List Tree) (t : Tree) → stands (reverse ts) t ≡ stands ts t
 stands-reverse [] t = refl
 stands-reverse (u ∷ us) t =
     ap (λ (l : List Tree). stands l t) (reverse-append (u ∷ []) us)

@@ -2,7 +2,7 @@
 use Rattle.std.proofs.Common.{◌≡◌, ◌∙◌, ℕ, zero, suc, ◌≤◌, Bool, true, ◌&&◌, List, [], ◌∷◌, map, refl, ap, sym, arith}
 use Rattle.std.proofs.lemmas.Bool.{and_parts, and_from, eqb-true, eq-eqb}
 use Rattle.cell_nodes.specs.declared.tree.Kind.{Kind}
-use Rattle.cell_nodes.specs.declared.tree.Kind.TheVariants.{Ordinary, Pruned, Library, Proof}
+use Rattle.cell_nodes.specs.declared.tree.Kind.TheVariants.{Ordinary, Pruned, Library, Proof, Update}
 use Rattle.cell_nodes.specs.declared.tree.Tree.{Tree, out-Tree, fold_out-Tree}
 use Rattle.cell_nodes.specs.Tree.{total, unfolded}
 use Rattle.cell_nodes.specs.Equations.{unfolded-out, one_le-unfolded, tree_of-out}
@@ -37,6 +37,7 @@ same_kind-equal Ordinary Ordinary h = refl
 same_kind-equal Pruned Pruned h = refl
 same_kind-equal Library Library h = refl
 same_kind-equal Proof Proof h = refl
+same_kind-equal Update Update h = refl
 same_kind-equal a b h = cc
 
 same_kind-itself : (a : Kind) → same_kind a a ≡ true
@@ -44,6 +45,7 @@ same_kind-itself Ordinary = refl
 same_kind-itself Pruned = refl
 same_kind-itself Library = refl
 same_kind-itself Proof = refl
+same_kind-itself Update = refl
 
 same_bits-equal : (xs ys : List ℕ) → same_bits xs ys ≡ true → xs ≡ ys
 same_bits-equal [] [] h = refl

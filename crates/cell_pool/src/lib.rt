@@ -3,6 +3,7 @@
 
 mod id;
 mod intern;
+pub mod laws;
 mod node;
 mod order;
 mod pool;

@@ -62,7 +62,9 @@ fn visit_all(
 /// The numbers of the distinct subtrees of the node's tree, the tree's own first.
 pub(crate) fn order_of(pool: &Pool, alloc: Global, root: NodeId) -> Result<Vec<NodeId>, NoMemory>
     requires { root < length pool.now }
-    ensures { IfOk result (λ v. v.items ≡ map (place pool.now) (reverse (post (tree_at pool.now root)))) }
+    ensures numbers { IfOk result (λ v. v.items ≡ map (place pool.now) (reverse (post (tree_at pool.now root)))) }
+    ensures meaning { IfOk result (λ v. trees_at pool.now v.items ≡ reverse (post (tree_at pool.now root))) }
+    ensures there { IfOk result (λ v. All (λ n. n < length pool.now) v.items) }
 {
     pool.ordered();
     let mut done = vec![in alloc; false; pool.count() as usize]?;

@@ -1,10 +1,12 @@
 //! Distinct cells, each with one number.
-ghost use Rattle.std.specs.Prelude.{reverse, take, ◌≡◌, ◌≤◌, ◌<◌, ◌+◌, ◌^◌, ◌++◌, ◌∷◌, [], false, length, map, slice_get, Some, IfOk, IfSome, OnOk, OnErr, MatchOption};
-ghost use Rattle.cell_nodes.specs.declared.tree.Tree.{out-Tree};
+ghost use Rattle.std.specs.List.{All};
+ghost use Rattle.std.specs.Prelude.{ℕ, reverse, take, ◌≡◌, ◌≤◌, ◌<◌, ◌+◌, ◌^◌, ◌++◌, ◌∷◌, [], false, length, map, slice_get, Some, IfOk, IfSome, OnOk, OnErr, MatchOption};
+ghost use Rattle.cell_nodes.specs.declared.tree.Tree.{Tree, out-Tree};
 ghost use Rattle.cell_nodes.specs.Good.{AllGood};
 ghost use Rattle.cell_nodes.specs.Tree.{unfolded};
 ghost use Rattle.cell_pool.specs.Post.{stands, place, post};
 ghost use Rattle.cell_pool.specs.Listing.{added, AllStand, IsOrdered, IsPartly};
+ghost use Rattle.cell_pool.specs.Visited.{trees_at};
 ghost use Rattle.cell_pool.specs.Nodes.{node_tree, node_numbers, numbers_in, bucket, mark, AllSmall, Follows};
 
 use crate::id::NodeId;
@@ -23,7 +25,7 @@ const BUCKETS: usize = 262_144;
 fn mark_of(cell: &Cell) -> u32
     ensures { result ≡ mark cell.now }
 {
-    let hash = cell.hash(1);
+    let hash = cell.hash(3);
     hash[0] as u32 * 16_777_216 + hash[1] as u32 * 65_536 + hash[2] as u32 * 256 + hash[3] as u32
 }
 
@@ -127,7 +129,10 @@ impl Pool {
     /// right completes them: the order of the cells of a bag.
     pub fn order(&self, alloc: Global, root: NodeId) -> Result<Vec<NodeId>, NoMemory>
         requires { root < length self.now }
-        ensures { IfOk result (λ v. IfSome (slice_get self.now root) (λ t. v.items ≡ map (place self.now) (reverse (post t)))) }
+        ensures numbers { IfOk result
+            (λ v. IfSome (slice_get self.now root) (λ t. v.items ≡ map (place self.now) (reverse (post t)))) }
+        ensures meaning { IfOk result (λ v. IfSome (slice_get self.now root) (λ t. trees_at self.now v.items ≡ reverse (post t))) }
+        ensures there { IfOk result (λ v. All (λ n. n < length self.now) v.items) }
     {
         order_of(self, alloc, root)
     }
@@ -146,6 +151,13 @@ impl Pool {
     /// A law: each tree unfolds to at most 262,144 cells.
     pub fn small(&self)
         ensures { AllSmall self.now }
+    {
+        let _ = &self.nodes;
+    }
+
+    /// A law: equal trees have equal numbers.
+    pub fn distinct(&self)
+        ensures { (t : Tree) (i j : ℕ) → slice_get self.now i ≡ Some t → slice_get self.now j ≡ Some t → i ≡ j }
     {
         let _ = &self.nodes;
     }

@@ -1,4 +1,4 @@
-use Rattle.std.proofs.Common.{ℕ, ◌+◌, ◌*◌, map}
+use Rattle.std.proofs.Common.{◌+◌, ◌*◌, map}
 use Rattle.cell_nodes.specs.Tree.{unfolded, total}
 use Rattle.cell_pool.specs.Visited.{tree_at, trees_at}
 use Rattle.cell_pool.proofs.order.+visit.Given as goal
