@@ -2,6 +2,7 @@
 use Rattle.std.specs.Prelude.{ℕ, ◌&&◌, not, List, Bool, true, false, Option, Some, None, is_some, if◌then◌else◌}
 use Rattle.tlb_syntax.specs.Tree.{ExprView, ExprList, lit, named, nat32, bits, below, up_to, plus, star, out, ref, group, no_exprs}
 use Rattle.kind_rules.specs.declared.expected.TypePosition.{TypePosition}
+use Rattle.kind_rules.specs.declared.expected.TypePosition.TheVariants.{Whole, Conditional, FieldRef, UnderRef, Inner}
 use Rattle.kind_terms.specs.declared.scope.Meaning.{Meaning}
 use Rattle.kind_terms.specs.Words.{Word}
 use Rattle.kind_terms.specs.Params.{bare_name}
@@ -20,6 +21,14 @@ pub record Use : Type 0 where
   pub scope : Scope
   pub expected : Expected
   pub at : ExprView
+
+-- where a type stands under a ^ that stands here
+abbrev pub under : TypePosition → TypePosition
+under Whole = FieldRef
+under Conditional = FieldRef
+under FieldRef = UnderRef
+under UnderRef = UnderRef
+under Inner = UnderRef
 
 abbrev pub is_type_expected : Expected → Bool
 is_type_expected (a_type w) = true

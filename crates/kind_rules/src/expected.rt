@@ -1,7 +1,7 @@
 //! What is expected where an expression stands.
 ghost use Rattle.std.specs.Prelude.{◌≡◌, map, option_map};
 ghost use Rattle.kind_rules.specs.ExpectedKinds.{a_number, a_type, an_output};
-ghost use Rattle.kind_declarations.specs.Nodes.{under};
+ghost use Rattle.kind_rules.specs.ExpectedKinds.{under};
 ghost use Rattle.kind_rules.specs.Views.{expected_by};
 
 use bit_slice::Name;
