@@ -3,3 +3,4 @@ pub mod Sums
 pub mod Bytes
 pub mod Known
 pub mod Steps
+pub mod Lengths

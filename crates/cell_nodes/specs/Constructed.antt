@@ -24,17 +24,17 @@ depth_bits pair = spelled 16 pair.depth
 
 -- a pruned branch of that mask with these pairs
 abbrev pub pruned_bits : ℕ → List ChildMark → List ℕ
-pruned_bits mask pairs = spelled 8 1 ++ spelled 8 mask ++ flat_map hash_bits pairs ++ flat_map depth_bits pairs
+pruned_bits mask pairs = spelled 8 1 ++ (spelled 8 mask ++ (flat_map hash_bits pairs ++ flat_map depth_bits pairs))
 
 abbrev pub library_bits : List ℕ → List ℕ
 library_bits hash = spelled 8 2 ++ bits_of hash
 
 abbrev pub proof_bits : List ℕ → ℕ → List ℕ
-proof_bits hash depth = spelled 8 3 ++ bits_of hash ++ spelled 16 depth
+proof_bits hash depth = spelled 8 3 ++ (bits_of hash ++ spelled 16 depth)
 
 abbrev pub update_bits : List ℕ → List ℕ → ℕ → ℕ → List ℕ
 update_bits old_hash new_hash old_depth new_depth =
-    spelled 8 4 ++ bits_of old_hash ++ bits_of new_hash ++ spelled 16 old_depth ++ spelled 16 new_depth
+    spelled 8 4 ++ (bits_of old_hash ++ (bits_of new_hash ++ (spelled 16 old_depth ++ spelled 16 new_depth)))
 
 -- ---- trees
 

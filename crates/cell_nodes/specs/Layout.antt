@@ -7,7 +7,8 @@
 --   library:        02, a hash of 32 bytes; no reference
 --   Merkle proof:   03, the child's hash of 32 bytes, the child's depth of 2 bytes; one reference
 --   Merkle update:  04, the children's hashes of 32 bytes, their depths of 2 bytes; two references
-use Rattle.std.specs.Prelude.{ℕ, ◌+◌, ◌*◌, ◌==◌, nat_le, Bool, true, ◌&&◌, Option, Some, None, List, length, take, drop, if◌then◌else◌}
+use Rattle.std.specs.Prelude.{ℕ, ◌+◌, ◌*◌, ◌==◌, nat_le, Bool, true, ◌&&◌, Option, Some, None, List, length, take}
+use Rattle.std.specs.Prelude.{drop, if◌then◌else◌}
 use Rattle.bit_slice.specs.Bits.{number_of, groups}
 use Rattle.cell_nodes.specs.Levels.{set_bits, top_level}
 use Rattle.cell_nodes.specs.declared.tree.Kind.{Kind}

@@ -1,5 +1,6 @@
 -- Laws on masks and levels.
-use Rattle.std.specs.Prelude.{◌≡◌, ℕ, zero, suc, ◌+◌, ◌-◌, ◌==◌, ◌≤◌, ◌<◌, List, [], ◌∷◌, ◌++◌, length, map, if◌then◌else◌}
+use Rattle.std.specs.Prelude.{◌≡◌, ℕ, zero, suc, ◌+◌, ◌-◌, ◌==◌, ◌≤◌, ◌<◌, List, [], ◌∷◌, ◌++◌, length, map}
+use Rattle.std.specs.Prelude.{if◌then◌else◌}
 use Rattle.std.specs.Int.{bit_at}
 use Rattle.std.proofs.Common.{arith, ap, sym, ◌∙◌, refl, get_or, ⊎_elim, ◌⊎◌, inl, inr}
 use Rattle.std.proofs.lemmas.Nat.Bits.{bit_at-lt}

@@ -9,3 +9,10 @@ pub mod Good
 pub mod GoodParts
 pub mod HiddenParts
 pub mod Kept
+pub mod Constructed
+pub mod BytesLaws
+pub mod ConstructedLaws
+pub mod Held
+pub mod HeldLaws
+pub mod Prunes
+pub mod PrunesLaws

@@ -12,7 +12,9 @@ use Rattle.cell_nodes.specs.declared.tree.Tree.{Tree, out-Tree}
 use Rattle.cell_nodes.specs.Layout.{stored_mask}
 use Rattle.cell_nodes.specs.Levels.{set_bits}
 use Rattle.cell_nodes.specs.LevelsLaws.{IsSteady, set_bits-suc}
-use Rattle.cell_nodes.specs.Tree.{Marks, marks_of, mark_at, mask_of, depth_of, hash_of, hash_with, computed_depth, computed_hash, pruned_depth, pruned_hash, depth_over, level_below, shift, marks, mask, depth, hash}
+use Rattle.cell_nodes.specs.Tree.{Marks, marks_of, mark_at, mask_of, depth_of, hash_of, hash_with, computed_depth}
+use Rattle.cell_nodes.specs.Tree.{computed_hash, pruned_depth, pruned_hash, depth_over, level_below, shift, marks}
+use Rattle.cell_nodes.specs.Tree.{mask, depth, hash}
 use Rattle.cell_nodes.specs.Equations.{marks-out}
 
 -- all kinds but the pruned branch, which stores its hashes and depths

@@ -3,7 +3,8 @@
 --
 -- Source: TON documentation, "Cells as data storage" (cell level, standard representation and its hash) and "Exotic
 -- cells" (hashes of the levels above 0); TVM whitepaper, section 3.1; FIPS 180-4 for SHA-256.
-use Rattle.std.specs.Prelude.{ℕ, zero, suc, ◌+◌, ◌/◌, ◌%◌, ◌^◌, ◌≤◌, ◌==◌, nat_lt, max, min, bit_or, Bool, true, false, List, [], ◌∷◌, length, map, if◌then◌else◌}
+use Rattle.std.specs.Prelude.{ℕ, zero, suc, ◌+◌, ◌/◌, ◌%◌, ◌^◌, ◌≤◌, ◌==◌, nat_lt, max, min, bit_or, Bool, true}
+use Rattle.std.specs.Prelude.{false, List, [], ◌∷◌, length, map, if◌then◌else◌}
 use Rattle.std.specs.Int.{bit_at}
 use Rattle.sha2.specs.Sha256.{sha256}
 use Rattle.cell_hash.specs.declared.ChildMark.{ChildMark}

@@ -5,7 +5,7 @@ ghost use Rattle.std.specs.Option.{option_copied};
 ghost use Rattle.cell_nodes.specs.declared.tree.Tree.{out-Tree};
 ghost use Rattle.cell_nodes.specs.declared.tree.Kind.TheVariants.{Ordinary, Pruned as PrunedKind};
 ghost use Rattle.cell_nodes.specs.Layout.{exotic_kind, has_layout};
-ghost use Rattle.cell_nodes.specs.Levels.{levels};
+ghost use Rattle.cell_nodes.specs.Levels.{level_of, levels};
 ghost use Rattle.cell_nodes.specs.Tree.{tree_of, mask, depth, hash, mark_at, marks, shift, mask_of, depth_of, unfolded};
 ghost use Rattle.cell_nodes.specs.Tree.{capped, deepest, IsShallow};
 ghost use Rattle.cell_nodes.specs.Good.{IsGood};
@@ -14,7 +14,7 @@ ghost use Rattle.cell_nodes.specs.declared.cell.CellError.TheVariants.{NoMemory 
 
 use crate::children::{all_good, share_all, unfolded_over};
 use crate::layouts::{exotic_kind, set_bits};
-use crate::marks::{node_depths, node_marks, node_mask};
+use crate::marks::{has_next, node_depths, node_marks, node_mask};
 use crate::slice::{CellSlice, RefSlice};
 use crate::tree::{Hidden, Kind};
 use bit_slice::{BitSlice, BitString};
@@ -26,7 +26,7 @@ use std::rc::Rc;
 use tlb_memory::NoMemory;
 
 /// The greatest depth of a cell, at any level.
-const DEEPEST: u16 = 1024;
+pub(crate) const DEEPEST: u16 = 1024;
 
 /// Why a cell was not made.
 #[derive(Clone, Copy, Debug, PartialEq, Eq)]
@@ -112,6 +112,23 @@ impl Cell {
         ensures bound { result ≤ 7 }
     {
         self.node.mask
+    }
+
+    /// The place of the mask's highest set bit, from 1 to 3, or 0 for the mask 0.
+    pub fn level(&self) -> u32
+        ensures value { result ≡ level_of (mask self.now) }
+        ensures bound { result ≤ 3 }
+    {
+        let mask = self.mask();
+        if has_next(mask, 2) {
+            3
+        } else if has_next(mask, 1) {
+            2
+        } else if has_next(mask, 0) {
+            1
+        } else {
+            0
+        }
     }
 
     /// The depth and the hash at level `i`.
@@ -291,6 +308,23 @@ impl Cell {
         }
         let cell = Cell::of_parts(alloc, kind, bits, children, mask, depths)?;
         Ok(cell)
+    }
+
+    /// The cell of that kind, for bits and children that have its layout and stay within the greatest depth.
+    pub(crate) fn of_shallow(
+        alloc: Global,
+        kind: Kind,
+        bits: BitString,
+        children: &[Cell],
+    ) -> Result<Cell, NoMemory>
+        requires few { length children.now ≤ 4 }
+        requires layout { IsTrue (has_layout kind bits (length children.now)) }
+        requires shallow { IsShallow (tree_of kind bits children.now) }
+        ensures { IfOk result (λ c. c ≡ tree_of kind bits children.now) }
+    {
+        let mask = node_mask(kind, bits.slice(), children);
+        let depths = node_depths(kind, bits.slice(), mask, children);
+        Cell::of_parts(alloc, kind, bits, children, mask, depths)
     }
 
     /// The cell of that kind, from its mask and its depths.

@@ -44,7 +44,7 @@ fn is_exotic(kind: Kind) -> bool
 }
 
 /// Whether the mask has the level after level `i`.
-fn has_next(mask: u8, i: u32) -> bool
+pub(crate) fn has_next(mask: u8, i: u32) -> bool
     requires { i ≤ 2 }
     ensures { result ≡ (bit_at mask i == 1) }
 {
@@ -189,7 +189,7 @@ fn lowest_hash(
 }
 
 /// The lowest bits of a mask.
-fn low_bits(mask: u8, count: u32) -> u8
+pub(crate) fn low_bits(mask: u8, count: u32) -> u8
     requires { count ≤ 3 }
     ensures { result ≡ mask % 2 ^ count }
 {
@@ -223,7 +223,7 @@ fn hash_after(
     hash_with(alloc, kind, low, bits.len(), content, i + 1, children)
 }
 
-fn push_mark(marks: &mut Vec<ChildMark>, mark: ChildMark) -> Result<(), NoMemory>
+pub(crate) fn push_mark(marks: &mut Vec<ChildMark>, mark: ChildMark) -> Result<(), NoMemory>
     ensures { OnOk result (marks.new.items ≡ marks.old.items ++ mark ∷ []) }
 {
     marks.push(mark).map_err(AllocError::from)?;
