@@ -1,18 +1,17 @@
 -- What is known of a tree, from what is known of its children.
-use Rattle.std.proofs.Common.{◌≡◌, ◌≢◌, ℕ, ◌+◌, ◌-◌, ◌≤◌, ◌<◌, List, [], ◌∷◌, length, map, refl, ap, sym, subst, ◌∙◌, IsTrue, arith, zero, suc, get_or, Some, None, max}
-use Rattle.std.proofs.lemmas.Bool.{ne_eqb}
+use Rattle.std.proofs.Common.{◌≡◌, ◌≢◌, ℕ, ◌+◌, ◌-◌, ◌≤◌, List, ◌∷◌, length, map, refl, ap, sym, subst, ◌∙◌, IsTrue, arith, zero, suc, get_or, Some, max}
 use Rattle.bit_slice.specs.Bits.{AreBits}
 use Rattle.cell_hash.specs.declared.ChildMark.{ChildMark}
 use Rattle.cell_nodes.specs.declared.cell.Node.{Node}
 use Rattle.cell_nodes.specs.declared.tree.Kind.{Kind}
 use Rattle.cell_nodes.specs.declared.tree.Kind.TheVariants.{Ordinary, Pruned, Library, Proof, Update}
 use Rattle.cell_nodes.specs.declared.tree.Tree.{Tree, out-Tree}
-use Rattle.cell_nodes.specs.Equations.{marks-out, out-tree_of, mask-tree_of, marks-tree_of, depth-tree_of, hash-tree_of, unfolded-tree_of}
+use Rattle.cell_nodes.specs.Equations.{marks-out, out-tree_of, mask-tree_of, marks-tree_of, depth-tree_of, unfolded-tree_of}
 use Rattle.cell_nodes.specs.Good.{AllGood, IsGood}
 use Rattle.cell_nodes.specs.GoodParts.{good-tree_of, good-depth}
 use Rattle.cell_nodes.specs.HiddenParts.{hidden, hidden_by}
 use Rattle.cell_nodes.specs.Kept.{IsKept, tree_in, marks_in}
-use Rattle.cell_nodes.specs.Layout.{has_layout, stored_mask, stored_hash, stored_depth}
+use Rattle.cell_nodes.specs.Layout.{has_layout, stored_mask}
 use Rattle.cell_nodes.specs.Levels.{levels, levels_in, set_bits}
 use Rattle.std.proofs.lemmas.List.{length-map}
 use Rattle.cell_nodes.specs.LevelsLaws.{at-levels_in, length-levels_in, set_bits-within, set_bits-zero}
@@ -30,8 +29,17 @@ hidden-node l m n t e f g = hidden-kind n.kind l n.bits n.children.items t f (sy
 pub deepest-kept : (k : Kind) (b : List ℕ) (cs : List Tree) (ds : List ℕ) → ds ≡ map (depth_of k b (map marks cs)) levels
     → deepest (tree_of k b cs) ≡ max (max (max (get_or ds 0 0) (get_or ds 1 0)) (get_or ds 2 0)) (get_or ds 3 0)
 deepest-kept k b cs ds e =
-    omega (arith, depth-tree_of k b cs 0, depth-tree_of k b cs 1, depth-tree_of k b cs 2, depth-tree_of k b cs 3,
-    ap (λ (l : List ℕ). get_or l 0 0) e, ap (λ (l : List ℕ). get_or l 1 0) e, ap (λ (l : List ℕ). get_or l 2 0) e, ap (λ (l : List ℕ). get_or l 3 0) e)
+    omega (
+      arith,
+      depth-tree_of k b cs 0,
+      depth-tree_of k b cs 1,
+      depth-tree_of k b cs 2,
+      depth-tree_of k b cs 3,
+      ap (λ (l : List ℕ). get_or l 0 0) e,
+      ap (λ (l : List ℕ). get_or l 1 0) e,
+      ap (λ (l : List ℕ). get_or l 2 0) e,
+      ap (λ (l : List ℕ). get_or l 3 0) e,
+    )
 
 marks-made : {xs : List ChildMark} (m : ℕ) (k : Kind) (b : List ℕ) (cs : List Tree) → m ≡ mask_of k b (map marks cs)
     → xs ≡ map (λ i. mark_at i (marks_of k b (map marks cs))) (levels_in 3 m) → xs ≡ marks_in (tree_of k b cs)
@@ -69,8 +77,14 @@ above-length m n i place e kept h p =
     let l = ap length kept.marks_kept in
     let s = set_bits-within i 3 n.mask h in
     let q : place ≡ set_bits i n.mask = p ∙ ap (λ (x : Node). set_bits i x.mask) e in
-    omega (arith, l, kept.mask_kept, length-map {A = ℕ} (levels_in 3 (mask (tree_in n))) (λ l'. mark_at l' (marks (tree_in n))),
-    length-levels_in 3 (mask (tree_in n)), ap (set_bits 3) kept.mask_kept)
+    omega (
+      arith,
+      l,
+      kept.mask_kept,
+      length-map {A = ℕ} (levels_in 3 (mask (tree_in n))) (λ l'. mark_at l' (marks (tree_in n))),
+      length-levels_in 3 (mask (tree_in n)),
+      ap (set_bits 3) kept.mask_kept,
+    )
 
 -- what is kept for level 0, and for a level above it
 pub mark-lowest : (m o n : Node) (t : Tree) (i place : ℕ) → m ≡ n → o ≡ n → IsKept n → tree_in n ≡ t → i ≤ 3 → place ≡ set_bits i m.mask → place ≡ 0

@@ -2,7 +2,7 @@
 use Rattle.std.specs.Prelude.{◌≡◌, ℕ, zero, suc, ◌+◌, ◌*◌, ◌^◌, ◌≤◌, ◌<◌, List, [], ◌∷◌, ◌++◌, length, take, drop}
 use Rattle.std.specs.List.{flat_map}
 use Rattle.std.specs.Int.{byte_at, w32, to_be_bytes, bytes_high_first}
-use Rattle.std.proofs.Common.{arith, ap, sym, ◌∙◌, refl, get_or, append_assoc}
+use Rattle.std.proofs.Common.{arith, refl, get_or, append_assoc}
 use Rattle.std.proofs.Math.Seq.{drop-append-add}
 use Rattle.std.proofs.Math.Pow.{pow_mono}
 use Rattle.std.proofs.lemmas.List.{take_at, drop_at, length-append, length-take}
@@ -40,9 +40,13 @@ groups-bits_of [] rest h = refl
 groups-bits_of (b ∷ bs) rest h =
     let len : length (spelled 8 b) ≡ 8 = length-spelled 8 b in
     let small : b < 2 ^ 8 = omega (arith, h 0) in
-    rw (append_assoc (spelled 8 b) (bits_of bs) rest, take_at (spelled 8 b) (bits_of bs ++ rest) 8 len,
-    drop_at (spelled 8 b) (bits_of bs ++ rest) 8 len, number_of-spelled 8 b small,
-    groups-bits_of bs rest (λ i. h (suc i))) refl
+    rw (
+      append_assoc (spelled 8 b) (bits_of bs) rest,
+      take_at (spelled 8 b) (bits_of bs ++ rest) 8 len,
+      drop_at (spelled 8 b) (bits_of bs ++ rest) 8 len,
+      number_of-spelled 8 b small,
+      groups-bits_of bs rest (λ i. h (suc i)),
+    ) refl
 
 -- ---- a byte, a hash and a depth that stand after other bits
 
@@ -97,8 +101,11 @@ hash-among (p ∷ ps) zero rest d h l b =
 hash-among (p ∷ ps) (suc j) rest d h l b =
     let e : 256 * suc j ≡ 256 + 256 * j = omega arith in
     let len : length (hash_bits p) ≡ 256 = omega (arith, length-bits_of p.hash, h.0.whole) in
-    rw (append_assoc (hash_bits p) (flat_map hash_bits ps) rest, e,
-    drop_after (hash_bits p) (flat_map hash_bits ps ++ rest) 256 (256 * j) len)
+    rw (
+      append_assoc (hash_bits p) (flat_map hash_bits ps) rest,
+      e,
+      drop_after (hash_bits p) (flat_map hash_bits ps ++ rest) 256 (256 * j) len,
+    )
     (hash-among ps j rest d h.1 (omega arith) b)
 
 pub depth-among : (ps : List ChildMark) (j : ℕ) (d : ChildMark) → ArePairs ps → j < length ps
@@ -144,8 +151,12 @@ length-digest : (h : List ℕ) (n : ℕ) → length (digest_bytes h n) ≡ 4 * n
 unfolding digest_bytes
 length-digest h zero = refl
 length-digest h (suc n) =
-    omega (arith, length-append (digest_bytes h n) (to_be_bytes w32 (get_or h n 0)), length-digest h n,
-    length-high_first 4 (get_or h n 0))
+    omega (
+      arith,
+      length-append (digest_bytes h n) (to_be_bytes w32 (get_or h n 0)),
+      length-digest h n,
+      length-high_first 4 (get_or h n 0),
+    )
 
 AreBytes-digest : (h : List ℕ) (n : ℕ) → AreBytes (digest_bytes h n)
 unfolding digest_bytes

@@ -1,15 +1,15 @@
 -- Laws on the cells that the constructors of exotic cells state.
-use Rattle.std.specs.Prelude.{◌≡◌, ℕ, ◌+◌, ◌*◌, ◌%◌, ◌^◌, ◌==◌, nat_lt, nat_le, ◌≤◌, ◌<◌, ◌&&◌, IsTrue}
+use Rattle.std.specs.Prelude.{◌≡◌, ℕ, ◌+◌, ◌*◌, ◌%◌, ◌^◌, nat_lt, ◌≤◌, ◌<◌, IsTrue}
 use Rattle.std.specs.Prelude.{List, [], ◌∷◌, ◌++◌, length, map, if◌then◌else◌}
 use Rattle.std.specs.List.{flat_map}
-use Rattle.std.specs.Prelude.{zero, suc, Bool, true, false, drop, max}
+use Rattle.std.specs.Prelude.{zero, suc, Bool, true, false, drop}
 use Rattle.std.specs.Int.{bit_at}
-use Rattle.std.proofs.Common.{arith, ap, sym, ◌∙◌, refl, get_or, append_assoc, ⊎_elim}
+use Rattle.std.proofs.Common.{arith, ap, ◌∙◌, refl, get_or, ⊎_elim}
 use Rattle.std.proofs.Math.Pow.{pow_mono}
 use Rattle.std.proofs.lemmas.Bool.{and_from, eq-eqb, le-leb, lt-ltb, le-ltb, cases_lt}
 use Rattle.std.proofs.lemmas.List.{length-append, length-map, map-append}
-use Rattle.bit_slice.specs.Bits.{AreBits, spelled}
-use Rattle.bit_slice.specs.BitLists.{length-spelled, AreBits-spelled, AreBits-append}
+use Rattle.bit_slice.specs.Bits.{spelled}
+use Rattle.bit_slice.specs.BitLists.{length-spelled}
 use Rattle.cell_hash.specs.declared.ChildMark.{ChildMark}
 use Rattle.cell_nodes.specs.declared.tree.Kind.{Kind}
 use Rattle.cell_nodes.specs.declared.tree.Kind.TheVariants.{Ordinary, Pruned, Library, Proof, Update}
@@ -18,14 +18,14 @@ use Rattle.cell_nodes.specs.BytesLaws.{AreBytes, IsPair, ArePairs, ArePairs-low,
 use Rattle.cell_nodes.specs.BytesLaws.{length-groups, length-bits_of, length-hashes, length-depths}
 use Rattle.cell_nodes.specs.BytesLaws.{byte_of-first, byte_of-second, drop_after, hash-among, depth-among}
 use Rattle.cell_nodes.specs.Constructed.{bits_of, hash_bits, depth_bits, pruned_bits, library_bits, proof_bits}
-use Rattle.cell_nodes.specs.Constructed.{update_bits, pruned_with, pruned_of, library_of, proof_of, update_of, stub}
+use Rattle.cell_nodes.specs.Constructed.{update_bits, pruned_with, library_of}
 use Rattle.cell_nodes.specs.Equations.{depth-tree_of, hash-tree_of, marks-out}
 use Rattle.cell_nodes.specs.Good.{IsGood}
 use Rattle.cell_nodes.specs.GoodParts.{good-depth}
 use Rattle.cell_nodes.specs.LevelsLaws.{bit_cases, levels_in-zero, levels_in-set, levels_in-unset, length-levels_in}
 use Rattle.cell_nodes.specs.Layout.{byte_of, depth_from, has_layout, pair_count, stored_mask, stored_hash, stored_depth}
-use Rattle.cell_nodes.specs.Levels.{set_bits, levels, levels_in}
-use Rattle.cell_nodes.specs.Tree.{Marks, marks, mark_at, mask, depth, hash, depth_of, hash_of, own_hash}
+use Rattle.cell_nodes.specs.Levels.{set_bits, levels_in}
+use Rattle.cell_nodes.specs.Tree.{Marks, marks, mark_at, mask, depth, hash, hash_of, own_hash}
 use Rattle.cell_nodes.specs.Tree.{computed_hash, IsShallow}
 
 -- a mask and pairs that a pruned branch can store
@@ -42,10 +42,16 @@ stored_mask-is m ps h = byte_of-second 1 m (flat_map hash_bits ps ++ flat_map de
 
 pub length-pruned : (m : ℕ) (ps : List ChildMark) → ArePairs ps → length (pruned_bits m ps) ≡ 16 + 272 * length ps
 length-pruned m ps h =
-    omega (arith, length-append (spelled 8 1) (spelled 8 m ++ (flat_map hash_bits ps ++ flat_map depth_bits ps)),
-    length-append (spelled 8 m) (flat_map hash_bits ps ++ flat_map depth_bits ps),
-    length-append (flat_map hash_bits ps) (flat_map depth_bits ps),
-    length-spelled 8 1, length-spelled 8 m, length-hashes ps h, length-depths ps)
+    omega (
+      arith,
+      length-append (spelled 8 1) (spelled 8 m ++ (flat_map hash_bits ps ++ flat_map depth_bits ps)),
+      length-append (spelled 8 m) (flat_map hash_bits ps ++ flat_map depth_bits ps),
+      length-append (flat_map hash_bits ps) (flat_map depth_bits ps),
+      length-spelled 8 1,
+      length-spelled 8 m,
+      length-hashes ps h,
+      length-depths ps,
+    )
 
 pruned_layout-of : (b : List ℕ) → byte_of 0 b ≡ 1 → 1 ≤ stored_mask b → stored_mask b ≤ 7
     → length b ≡ 16 + 272 * pair_count (stored_mask b) → IsTrue (has_layout Pruned b 0)
@@ -78,8 +84,10 @@ stored_depth-is m ps j d h l =
     let e : 16 + 256 * pair_count (stored_mask (pruned_bits m ps)) + 16 * j ≡ 16 + (256 * length ps + 16 * j) =
     omega (arith, h.count, ap pair_count (stored_mask-is m ps h)) in
     ap (λ (n : ℕ). depth_from n (pruned_bits m ps)) e
-    ∙ rw (after_two m (256 * length ps + 16 * j) (flat_map hash_bits ps ++ flat_map depth_bits ps),
-    drop_after (flat_map hash_bits ps) (flat_map depth_bits ps) (256 * length ps) (16 * j) (length-hashes ps h.pairs))
+    ∙ rw (
+      after_two m (256 * length ps + 16 * j) (flat_map hash_bits ps ++ flat_map depth_bits ps),
+      drop_after (flat_map hash_bits ps) (flat_map depth_bits ps) (256 * length ps) (16 * j) (length-hashes ps h.pairs),
+    )
     (depth-among ps j d h.pairs l)
 
 -- ---- the depths and the hashes of a pruned branch
@@ -151,18 +159,32 @@ library-shallow hash =
 pub proof-layout : (hash : List ℕ) (depth : ℕ) → length hash ≡ 32 → IsTrue (has_layout Proof (proof_bits hash depth) 1)
 proof-layout hash depth l =
     let n : length (proof_bits hash depth) ≡ 280 =
-    omega (arith, length-append (spelled 8 3) (bits_of hash ++ spelled 16 depth), length-append (bits_of hash) (spelled 16 depth),
-    length-spelled 8 3, length-bits_of hash, length-spelled 16 depth) in
+    omega (
+      arith,
+      length-append (spelled 8 3) (bits_of hash ++ spelled 16 depth),
+      length-append (bits_of hash) (spelled 16 depth),
+      length-spelled 8 3,
+      length-bits_of hash,
+      length-spelled 16 depth,
+    ) in
     and_from _ _ (and_from _ _ (eq-eqb _ _ n) refl) (eq-eqb _ _ (byte_of-first 3 (bits_of hash ++ spelled 16 depth) (omega arith)))
 
 pub update-layout : (old new : List ℕ) (old_depth new_depth : ℕ) → length old ≡ 32 → length new ≡ 32
     → IsTrue (has_layout Update (update_bits old new old_depth new_depth) 2)
 update-layout old new x y k l =
     let n : length (update_bits old new x y) ≡ 552 =
-    omega (arith, length-append (spelled 8 4) (bits_of old ++ (bits_of new ++ (spelled 16 x ++ spelled 16 y))),
-    length-append (bits_of old) (bits_of new ++ (spelled 16 x ++ spelled 16 y)),
-    length-append (bits_of new) (spelled 16 x ++ spelled 16 y), length-append (spelled 16 x) (spelled 16 y),
-    length-spelled 8 4, length-bits_of old, length-bits_of new, length-spelled 16 x, length-spelled 16 y) in
+    omega (
+      arith,
+      length-append (spelled 8 4) (bits_of old ++ (bits_of new ++ (spelled 16 x ++ spelled 16 y))),
+      length-append (bits_of old) (bits_of new ++ (spelled 16 x ++ spelled 16 y)),
+      length-append (bits_of new) (spelled 16 x ++ spelled 16 y),
+      length-append (spelled 16 x) (spelled 16 y),
+      length-spelled 8 4,
+      length-bits_of old,
+      length-bits_of new,
+      length-spelled 16 x,
+      length-spelled 16 y,
+    ) in
     and_from _ _ (and_from _ _ (eq-eqb _ _ n) refl)
     (eq-eqb _ _ (byte_of-first 4 (bits_of old ++ (bits_of new ++ (spelled 16 x ++ spelled 16 y))) (omega arith)))
 

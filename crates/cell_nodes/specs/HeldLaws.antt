@@ -1,13 +1,13 @@
 -- The limits that a cell builder keeps, and why what it holds can be a cell.
-use Rattle.std.specs.Prelude.{◌≡◌, ◌+◌, ◌≤◌, ◌<◌, ◌==◌, zero, suc, List, [], ◌∷◌, ◌++◌, ℕ, length, map}
+use Rattle.std.specs.Prelude.{◌≡◌, ◌+◌, ◌≤◌, ◌<◌, zero, suc, List, [], ◌∷◌, ◌++◌, ℕ, length, map}
 use Rattle.std.specs.Int.{bit_at}
-use Rattle.std.proofs.Common.{arith, max, ⊎_elim}
+use Rattle.std.proofs.Common.{arith, ⊎_elim}
 use Rattle.std.proofs.lemmas.List.{length-append}
 use Rattle.cell_nodes.specs.declared.tree.Kind.TheVariants.{Ordinary}
 use Rattle.cell_nodes.specs.declared.tree.Tree.{Tree}
 use Rattle.cell_nodes.specs.Equations.{depth-tree_of}
 use Rattle.cell_nodes.specs.LevelsLaws.{bit_cases}
-use Rattle.cell_nodes.specs.Tree.{Marks, tree_of, marks, depth, deepest, depth_over, computed_depth, greatest, mask_of}
+use Rattle.cell_nodes.specs.Tree.{tree_of, marks, depth, deepest, depth_over, computed_depth, greatest, mask_of}
 use Rattle.cell_nodes.specs.Tree.{IsShallow}
 
 -- each tree can stand below another cell
@@ -50,9 +50,17 @@ computed-below m ts (suc i) h l = ⊎_elim
 -- what is held can be an ordinary cell
 pub shallow-held : (bits : List ℕ) (ts : List Tree) → AreBelow ts → IsShallow (tree_of Ordinary bits ts)
 shallow-held bits ts h =
-    omega (arith, depth-tree_of Ordinary bits ts 0, depth-tree_of Ordinary bits ts 1, depth-tree_of Ordinary bits ts 2,
-    depth-tree_of Ordinary bits ts 3, computed-below (mask_of Ordinary bits (map marks ts)) ts 0 h (omega arith), computed-below (mask_of Ordinary bits (map marks ts)) ts 1 h (omega arith),
-    computed-below (mask_of Ordinary bits (map marks ts)) ts 2 h (omega arith), computed-below (mask_of Ordinary bits (map marks ts)) ts 3 h (omega arith))
+    omega (
+      arith,
+      depth-tree_of Ordinary bits ts 0,
+      depth-tree_of Ordinary bits ts 1,
+      depth-tree_of Ordinary bits ts 2,
+      depth-tree_of Ordinary bits ts 3,
+      computed-below (mask_of Ordinary bits (map marks ts)) ts 0 h (omega arith),
+      computed-below (mask_of Ordinary bits (map marks ts)) ts 1 h (omega arith),
+      computed-below (mask_of Ordinary bits (map marks ts)) ts 2 h (omega arith),
+      computed-below (mask_of Ordinary bits (map marks ts)) ts 3 h (omega arith),
+    )
 
 -- one reference more
 pub room-kept : (xs ys : List Tree) (t : Tree) (r s : ℕ) → IsRoomy xs r → length xs < 4 → deepest t < 1024

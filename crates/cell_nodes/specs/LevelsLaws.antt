@@ -1,8 +1,7 @@
 -- Laws on masks and levels.
-use Rattle.std.specs.Prelude.{◌≡◌, ℕ, zero, suc, ◌+◌, ◌-◌, ◌==◌, ◌≤◌, ◌<◌, List, [], ◌∷◌, ◌++◌, length, map}
-use Rattle.std.specs.Prelude.{if◌then◌else◌}
+use Rattle.std.specs.Prelude.{◌≡◌, ℕ, zero, suc, ◌+◌, ◌-◌, ◌≤◌, ◌<◌, [], ◌∷◌, ◌++◌, length, map}
 use Rattle.std.specs.Int.{bit_at}
-use Rattle.std.proofs.Common.{arith, ap, sym, ◌∙◌, refl, get_or, ⊎_elim, ◌⊎◌, inl, inr}
+use Rattle.std.proofs.Common.{arith, sym, ◌∙◌, refl, get_or, ⊎_elim, ◌⊎◌, inl, inr}
 use Rattle.std.proofs.lemmas.Nat.Bits.{bit_at-lt}
 use Rattle.std.proofs.lemmas.List.{get_or_append_left, get_or-append_right, length-append, length-map, map-append}
 use Rattle.cell_nodes.specs.Levels.{set_bits, levels_in}

@@ -1,6 +1,6 @@
 -- A pruned tree keeps the hashes and depths of its tree.
-use Rattle.std.specs.Prelude.{◌≡◌, ℕ, zero, suc, ◌+◌, ◌-◌, ◌/◌, ◌%◌, ◌^◌, ◌==◌, ◌≤◌, ◌<◌, bit_or, max}
-use Rattle.std.specs.Prelude.{List, [], ◌∷◌, ◌++◌, length, map, if◌then◌else◌}
+use Rattle.std.specs.Prelude.{◌≡◌, ℕ, zero, suc, ◌+◌, ◌-◌, ◌/◌, ◌%◌, ◌^◌, ◌≤◌, ◌<◌, bit_or, max}
+use Rattle.std.specs.Prelude.{List, [], ◌∷◌, length, map, if◌then◌else◌}
 use Rattle.std.specs.Int.{bit_at}
 use Rattle.std.proofs.Common.{arith, ap, sym, subst, ◌∙◌, refl, get_or, ⊎_elim}
 use Rattle.std.proofs.Math.Pow.{mod-mod-pow, pow_mono}
@@ -32,7 +32,7 @@ use Rattle.cell_nodes.specs.MarksLaws.{IsComputed, depth-computed, hash-computed
 use Rattle.cell_nodes.specs.Prunes.{Prunes, same, hidden, ordinary, proof, AllPrune, none, more}
 use Rattle.cell_nodes.specs.declared.tree.Tree.TheOpen.{Tree-F}
 use Rattle.cell_nodes.specs.LevelsLaws.{bit_cases, set_bits-within, length-levels_in, at-levels_in}
-use Rattle.cell_nodes.specs.Tree.{Marks, tree_of, marks, marks_of, mark_at, mask, depth, hash, depth_of, hash_of}
+use Rattle.cell_nodes.specs.Tree.{Marks, tree_of, marks, marks_of, mark_at, mask, hash, hash_of}
 use Rattle.cell_nodes.specs.Tree.{mask_of}
 use Rattle.cell_nodes.specs.Tree.{computed_depth, computed_hash, hash_with, depth_over, is_exotic, level_below}
 use Rattle.cell_nodes.specs.Tree.{union_of}

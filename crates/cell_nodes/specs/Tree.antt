@@ -109,7 +109,7 @@ mark_at i m = record { depth = m.depth i; hash = m.hash i }
 abbrev pub representation_with : Kind → ℕ → ℕ → Content → ℕ → List Marks → List ℕ
 representation_with kind mask count content i children =
     representation (descriptor (length children) (is_exotic kind) mask count) content
-        (map (mark_at (level_below kind i)) children)
+    (map (mark_at (level_below kind i)) children)
 
 abbrev pub hash_with : Kind → ℕ → ℕ → Content → ℕ → List Marks → List ℕ
 hash_with kind mask count content i children = sha256 (representation_with kind mask count content i children)
@@ -122,7 +122,7 @@ computed_hash kind bits mask children zero = hash_with kind 0 (length bits) (Dat
 computed_hash kind bits mask children (suc i) =
     if bit_at mask i == 1
     then hash_with kind (mask % 2 ^ suc i) (length bits) (Previous (computed_hash kind bits mask children i)) (suc i)
-        children
+    children
     else computed_hash kind bits mask children i
 
 -- the hash of a pruned branch's own representation, which has the whole mask

@@ -56,7 +56,10 @@ fn deepest(cell: &Cell) -> u16
     ensures value { result ≡ deepest cell.now }
     ensures bound { result ≤ 1024 }
 {
-    cell.depth(0).max(cell.depth(1)).max(cell.depth(2)).max(cell.depth(3))
+    cell.depth(0)
+        .max(cell.depth(1))
+        .max(cell.depth(2))
+        .max(cell.depth(3))
 }
 
 /// Adds the cell, for which there is room.
@@ -110,9 +113,7 @@ impl CellBuilder {
     pub fn push_signed(&mut self, value: i128, n: u32) -> Result<(), PushError>
         requires wide { n ≤ 128 }
         requires range { InSignedRange n value }
-        ensures ok {
-            OnOk result ((self.new.bits ≡ self.old.bits ++ signed_spelled n value) × (self.new.refs ≡ self.old.refs))
-        }
+        ensures ok { OnOk result ((self.new.bits ≡ self.old.bits ++ signed_spelled n value) × (self.new.refs ≡ self.old.refs)) }
         ensures err { OnErr result (self.new ≡ self.old) }
         ensures full { IsErrOf result PushError.Full ↔ (1023 < length self.old.bits + n) }
         ensures not_deep { ¬ IsErrOf result PushError.TooDeep }
@@ -125,14 +126,10 @@ impl CellBuilder {
 
     /// Adds a reference. A refused child is dropped.
     pub fn push_ref(&mut self, child: Cell) -> Result<(), PushError>
-        ensures ok {
-            OnOk result ((self.new.bits ≡ self.old.bits) × (self.new.refs ≡ self.old.refs ++ child ∷ []))
-        }
+        ensures ok { OnOk result ((self.new.bits ≡ self.old.bits) × (self.new.refs ≡ self.old.refs ++ child ∷ [])) }
         ensures err { OnErr result (self.new ≡ self.old) }
         ensures full { IsErrOf result PushError.Full ↔ (length self.old.refs ≡ 4) }
-        ensures too_deep {
-            IsErrOf result PushError.TooDeep ↔ ((length self.old.refs < 4) × (deepest child ≡ 1024))
-        }
+        ensures too_deep { IsErrOf result PushError.TooDeep ↔ ((length self.old.refs < 4) × (deepest child ≡ 1024)) }
     {
         if self.refs.len() == 4 {
             return Err(PushError::Full);

@@ -263,20 +263,14 @@ impl Cell {
 
     /// The exotic cell that the first 8 bits name. It shares the children.
     pub fn exotic(alloc: Global, bits: BitString, children: &[Cell]) -> Result<Cell, CellError>
-        ensures made {
-            IfOk result
-                (λ c. IfSome (exotic_kind bits (length children.now)) (λ kind. c ≡ tree_of kind bits children.now))
-        }
-        ensures shallow {
-            OnOk result
-                (IfSome (exotic_kind bits (length children.now)) (λ kind. IsShallow (tree_of kind bits children.now)))
-        }
+        ensures made { IfOk result
+            (λ c. IfSome (exotic_kind bits (length children.now)) (λ kind. c ≡ tree_of kind bits children.now)) }
+        ensures shallow { OnOk result
+            (IfSome (exotic_kind bits (length children.now)) (λ kind. IsShallow (tree_of kind bits children.now))) }
         ensures bad_exotic { IsErrOf result CellError.BadExotic ↔ exotic_kind bits (length children.now) ≡ None }
-        ensures too_deep {
-            IsErrOf result CellError.TooDeep
-                ↔ MatchOption (exotic_kind bits (length children.now)) ⊥
-                    (λ kind. 1024 < deepest (tree_of kind bits children.now))
-        }
+        ensures too_deep { IsErrOf result CellError.TooDeep
+            ↔ MatchOption (exotic_kind bits (length children.now)) ⊥
+            (λ kind. 1024 < deepest (tree_of kind bits children.now)) }
     {
         if children.len() > 4 {
             return Err(CellError::BadExotic);

@@ -59,7 +59,11 @@ fn add_depths(writer: &mut BitWriter, pairs: &[ChildMark])
 }
 
 /// The data of a pruned branch.
-pub(crate) fn pruned_data(alloc: Global, mask: u8, pairs: &[ChildMark]) -> Result<BitString, NoMemory>
+pub(crate) fn pruned_data(
+    alloc: Global,
+    mask: u8,
+    pairs: &[ChildMark],
+) -> Result<BitString, NoMemory>
     requires { length pairs.now ≤ 3 }
     ensures { IfOk result (λ b. b ≡ pruned_bits mask pairs.now) }
 {
@@ -93,7 +97,11 @@ pub(crate) fn proof_data(alloc: Global, child: &ChildMark) -> Result<BitString, 
 }
 
 /// The data of an update over two children with those hashes and depths.
-pub(crate) fn update_data(alloc: Global, old: &ChildMark, new: &ChildMark) -> Result<BitString, NoMemory>
+pub(crate) fn update_data(
+    alloc: Global,
+    old: &ChildMark,
+    new: &ChildMark,
+) -> Result<BitString, NoMemory>
     ensures { IfOk result (λ b. b ≡ update_bits old.now.hash new.now.hash old.now.depth new.now.depth) }
 {
     let mut writer = BitWriter::new(alloc)?;

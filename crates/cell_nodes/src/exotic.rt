@@ -15,9 +15,7 @@ use tlb_memory::NoMemory;
 /// The hashes and the depths at level 0 and at the levels up to `level` that the mask has.
 fn marks_within(alloc: Global, cell: &Cell, level: u32) -> Result<Vec<ChildMark>, NoMemory>
     requires { level ≤ 2 }
-    ensures {
-        IfOk result (λ v. v.items ≡ map (λ j. mark_at j (marks cell.now)) (levels_in level (mask cell.now)))
-    }
+    ensures { IfOk result (λ v. v.items ≡ map (λ j. mark_at j (marks cell.now)) (levels_in level (mask cell.now))) }
 {
     let mut found = Vec::new(alloc);
     push_mark(&mut found, cell.mark(0))?;
@@ -31,9 +29,7 @@ fn marks_within(alloc: Global, cell: &Cell, level: u32) -> Result<Vec<ChildMark>
 fn add_level(found: &mut Vec<ChildMark>, cell: &Cell, i: u32) -> Result<(), NoMemory>
     requires level { i ≤ 2 }
     requires before { found.old.items ≡ map (λ j. mark_at j (marks cell.now)) (levels_in i (mask cell.now)) }
-    ensures {
-        OnOk result (found.new.items ≡ map (λ j. mark_at j (marks cell.now)) (levels_in (i + 1) (mask cell.now)))
-    }
+    ensures { OnOk result (found.new.items ≡ map (λ j. mark_at j (marks cell.now)) (levels_in (i + 1) (mask cell.now))) }
 {
     let mask = cell.mask();
     if !has_next(mask, i) {

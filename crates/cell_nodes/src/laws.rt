@@ -7,13 +7,9 @@ ghost use Rattle.cell_nodes.specs.Tree.{depth, hash, mask};
 
 /// Pruning below i proofs keeps the hashes and depths at all levels up to i, and the lowest i bits of the mask.
 pub fn pruning_keeps()
-    ensures hash {
-        (t p : Tree) (i : ℕ) → IsGood t → IsGood p → mask t < 2 ^ i → Prunes t p i
-            → (l : ℕ) → l ≤ i → hash p l ≡ hash t l
-    }
-    ensures depth {
-        (t p : Tree) (i : ℕ) → IsGood t → IsGood p → mask t < 2 ^ i → Prunes t p i
-            → (l : ℕ) → l ≤ i → depth p l ≡ depth t l
-    }
+    ensures hash { (t p : Tree) (i : ℕ) → IsGood t → IsGood p → mask t < 2 ^ i → Prunes t p i
+        → (l : ℕ) → l ≤ i → hash p l ≡ hash t l }
+    ensures depth { (t p : Tree) (i : ℕ) → IsGood t → IsGood p → mask t < 2 ^ i → Prunes t p i
+        → (l : ℕ) → l ≤ i → depth p l ≡ depth t l }
     ensures mask { (t p : Tree) (i : ℕ) → IsGood t → IsGood p → mask t < 2 ^ i → Prunes t p i → mask p % 2 ^ i ≡ mask t }
 {}

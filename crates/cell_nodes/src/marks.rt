@@ -244,11 +244,9 @@ pub(crate) fn node_marks(
     requires depths { depths ≡ map (depth_of kind bits (map marks children.now)) levels }
     requires few { length children.now ≤ 4 }
     requires layout { IsTrue (has_layout kind bits (length children.now)) }
-    ensures {
-        IfOk result
-            (λ m. m.0 ∷ m.1.items
-                ≡ map (λ i. mark_at i (marks_of kind bits.entry (map marks children.now))) (levels_in 3 mask))
-    }
+    ensures { IfOk result
+        (λ m. m.0 ∷ m.1.items
+        ≡ map (λ i. mark_at i (marks_of kind bits.entry (map marks children.now))) (levels_in 3 mask)) }
 {
     let mut hash = lowest_hash(alloc, kind, &bits, children)?;
     let lowest = ChildMark {

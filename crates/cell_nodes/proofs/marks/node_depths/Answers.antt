@@ -6,11 +6,12 @@ use Rattle.cell_nodes.proofs.marks.node_depths.Goals.{then-has_next, else-has_ne
 
 next-depth : (c : goal.Joined-has_next) → c.if-has_next.depths ≡ depth_of c.args.kind c.args.bits (map marks c.args.children.now) (c.levels.i + 1)
 next-depth c = elim c.if-has_next.branch [
-    then-has_next w ↦ w.depths-is ∙ w.depth_after.ensures
+  | then-has_next w ↦ w.depths-is ∙ w.depth_after.ensures
   | else-has_next w ↦
-    depth-unset c.args.kind c.args.bits (map marks c.args.children.now) c.args.mask c.levels.i _ c.requires.mask
-    (bit_unset _ c.args.mask c.levels.i c.has_next.ensures w.if-has_next.false)
-    (w.depths-is ∙ c.levels.invariant.known c.levels.i (omega arith)) ]
+      depth-unset c.args.kind c.args.bits (map marks c.args.children.now) c.args.mask c.levels.i _ c.requires.mask
+      (bit_unset _ c.args.mask c.levels.i c.has_next.ensures w.if-has_next.false)
+      (w.depths-is ∙ c.levels.invariant.known c.levels.i (omega arith))
+]
 
 pub levels-preserved : goal.levels-preserved
 levels-preserved c = record {

@@ -1,4 +1,4 @@
-use Rattle.std.proofs.Common.{◌∷◌, [], ◌∙◌, ℕ, List, map, length, ap, subst, refl, arith}
+use Rattle.std.proofs.Common.{◌∙◌, ℕ, List, map, length, ap, subst, refl, arith}
 use Rattle.bit_slice.specs.Bits.{AreBits}
 use Rattle.cell_nodes.specs.Levels.{levels_in}
 use Rattle.cell_nodes.specs.MarksLaws.{low_mask}
