@@ -16,12 +16,12 @@ use Rattle.kind_declarations.specs.declared.error.Cause.TheVariants.{TooWide}
 use Rattle.kind_declarations.specs.declared.error.Fault.{Fault}
 use Rattle.kind_declarations.specs.declared.error.Fault.TheVariants.{Refused, NoMemory}
 use Rattle.kind_rules.specs.ExpectedKinds.{a_number}
-use Rattle.kind_declarations.specs.Nodes.{ItemContext, a_use, expr_nodes}
+use Rattle.kind_declarations.specs.Nodes.{ItemContext, Judged, a_use, expr_nodes}
 use Rattle.kind_declarations.specs.Faults.{FaultAt, Judges, causes, fault_at, first, verdict}
 use Rattle.kind_declarations.specs.Parts.{number_nodes}
 use Rattle.kind_rules.specs.Sums.{is_past_total, is_sum_past}
 use Rattle.kind_declarations.proofs.NumberNodes.{append_none}
-use Rattle.kind_declarations.proofs.Verdicts.{append_assoc, or_else, fault_of, judged_from, verdict_node}
+use Rattle.kind_declarations.proofs.Verdicts.{append_assoc, or_else, fault_of, judged_from, passed_then, refused_then, verdict_node}
 
 first_if : {X : Type 0} (b : Bool) (x : X) → first (if b then x ∷ [] else []) ≡ (if b then Some x else None)
 first_if true x = refl
@@ -94,18 +94,55 @@ module _ (a : ItemContext) (q : Option Word) where
   seen_verdict n e x y es is =
       ap (λ v. verdict (expr_nodes v a (Some (a_number n q)))) (seen_sum e x y es is) ∙ nested_verdict n (expr x) (expr y) (map expr es)
 
-  pub sum_past : (n : ℕ) (e x y : Expr) (es : List Expr) (b : Bool) → e ≡ Sum x y es
-      → b ≡ is_sum_past n (expr x) (expr y) (map expr es) → b ≡ true
-      → verdict (expr_nodes (expr e) a (Some (a_number n q))) ≡ Some (fault_at a.path TooWide)
-  sum_past n e x y es b is past t =
-      seen_verdict n e x y es is
-      ∙ ap (λ c. wide_or a.path c (verdict (expr_nodes (expr x) a (Some (a_number greatest q)) ++ (expr_nodes (expr y) a (Some (a_number greatest q)) ++ number_nodes (exprs es) a q)))) (sym past ∙ t)
+  -- the terms, as the judge has them
+  same_sum : (e x y l r : Expr) (es us : List Expr) → e ≡ Sum x y es → l ≡ x → r ≡ y → us ≡ es → e ≡ Sum l r us
+  same_sum e x y l r es us is left right rest =
+      is ∙ ap (λ z. Sum z y es) (sym left) ∙ ap (λ z. Sum l z es) (sym right) ∙ ap (Sum l r) (sym rest)
 
-  pub sum_judged : (n : ℕ) (e x y : Expr) (es : List Expr) (b : Bool) (p : List Part) (r : Result (Unit {0}) Fault) → e ≡ Sum x y es
-      → b ≡ is_sum_past n (expr x) (expr y) (map expr es) → b ≡ false
-      → Judges (expr_nodes (expr x) a (Some (a_number greatest q)) ++ (expr_nodes (expr y) a (Some (a_number greatest q)) ++ number_nodes (exprs es) a q)) p r
-      → Judges (expr_nodes (expr e) a (Some (a_number n q))) p r
-  sum_judged n e x y es b p r is past t j =
-      let rest = expr_nodes (expr x) a (Some (a_number greatest q)) ++ (expr_nodes (expr y) a (Some (a_number greatest q)) ++ number_nodes (exprs es) a q) in
-      judged_from _ _ p r
-      (sym (seen_verdict n e x y es is ∙ ap (λ c. wide_or a.path c (verdict rest)) (sym past ∙ t))) j
+  abbrev pub term_nodes : Expr → Expr → List Expr → List Judged
+  term_nodes x y es =
+      expr_nodes (expr x) a (Some (a_number greatest q)) ++ (expr_nodes (expr y) a (Some (a_number greatest q)) ++ number_nodes (exprs es) a q)
+
+  pub sum_past : (n : ℕ) (e x y l r : Expr) (es us : List Expr) (b : Bool) → e ≡ Sum x y es → l ≡ x → r ≡ y → us ≡ es
+      → b ≡ is_sum_past n (expr l) (expr r) (map expr us) → b ≡ true
+      → verdict (expr_nodes (expr e) a (Some (a_number n q))) ≡ Some (fault_at a.path TooWide)
+  sum_past n e x y l r es us b is left right rest past met =
+      seen_verdict n e l r us (same_sum e x y l r es us is left right rest)
+      ∙ ap (λ c. wide_or a.path c (verdict (term_nodes l r us))) (sym past ∙ met)
+
+  sum_within : (n : ℕ) (e x y l r : Expr) (es us : List Expr) (b : Bool) → e ≡ Sum x y es → l ≡ x → r ≡ y → us ≡ es
+      → b ≡ is_sum_past n (expr l) (expr r) (map expr us) → b ≡ false
+      → verdict (expr_nodes (expr e) a (Some (a_number n q))) ≡ verdict (term_nodes l r us)
+  sum_within n e x y l r es us b is left right rest past none =
+      seen_verdict n e l r us (same_sum e x y l r es us is left right rest)
+      ∙ ap (λ c. wide_or a.path c (verdict (term_nodes l r us))) (sym past ∙ none)
+
+  pub sum_judged : (n : ℕ) (e x y l r m k : Expr) (es us vs : List Expr) (b : Bool) (p : List Part) (res : Result (Unit {0}) Fault)
+      → e ≡ Sum x y es → l ≡ x → r ≡ y → us ≡ es → b ≡ is_sum_past n (expr l) (expr r) (map expr us) → b ≡ false
+      → m ≡ x → k ≡ y → vs ≡ es → Judges (term_nodes m k vs) p res → Judges (expr_nodes (expr e) a (Some (a_number n q))) p res
+  sum_judged n e x y l r m k es us vs b p res is left right rest past none one two more j =
+      judged_from _ _ p res
+      (sym (sum_within n e x y l r es us b is left right rest past none
+      ∙ ap (λ z. verdict (term_nodes z r us)) (left ∙ sym one)
+      ∙ ap (λ z. verdict (term_nodes m z us)) (right ∙ sym two)
+      ∙ ap (λ z. verdict (term_nodes m k z)) (rest ∙ sym more))) j
+
+  pub first_refused : (n : ℕ) (e x y l r m : Expr) (es us : List Expr) (b : Bool) (p : List Part) (f : Fault)
+      → e ≡ Sum x y es → l ≡ x → r ≡ y → us ≡ es → b ≡ is_sum_past n (expr l) (expr r) (map expr us) → b ≡ false
+      → m ≡ x → Judges (expr_nodes (expr m) a (Some (a_number greatest q))) p (Err f)
+      → Judges (expr_nodes (expr e) a (Some (a_number n q))) p (Err f)
+  first_refused n e x y l r m es us b p f is left right rest past none one j =
+      sum_judged n e x y l r m y es us es b p (Err f) is left right rest past none one refl refl
+      (refused_then (expr_nodes (expr m) a (Some (a_number greatest q)))
+      (expr_nodes (expr y) a (Some (a_number greatest q)) ++ number_nodes (exprs es) a q) p f j)
+
+  pub second_refused : (n : ℕ) (e x y l r m k : Expr) (es us : List Expr) (b : Bool) (p : List Part) (f : Fault)
+      → e ≡ Sum x y es → l ≡ x → r ≡ y → us ≡ es → b ≡ is_sum_past n (expr l) (expr r) (map expr us) → b ≡ false
+      → m ≡ x → k ≡ y → verdict (expr_nodes (expr m) a (Some (a_number greatest q))) ≡ None
+      → Judges (expr_nodes (expr k) a (Some (a_number greatest q))) p (Err f)
+      → Judges (expr_nodes (expr e) a (Some (a_number n q))) p (Err f)
+  second_refused n e x y l r m k es us b p f is left right rest past none one two passed j =
+      sum_judged n e x y l r m k es us es b p (Err f) is left right rest past none one two refl
+      (passed_then (expr_nodes (expr m) a (Some (a_number greatest q)))
+      (expr_nodes (expr k) a (Some (a_number greatest q)) ++ number_nodes (exprs es) a q) p (Err f) passed
+      (refused_then (expr_nodes (expr k) a (Some (a_number greatest q))) (number_nodes (exprs es) a q) p f j))

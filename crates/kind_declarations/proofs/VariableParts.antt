@@ -37,7 +37,7 @@ module _ (p : ExprView → Bool) (sums : (a b : ExprView) → p (plus a b) ≡ f
       ∙ or_assoc (list_any p (parts t)) (list_any p (parts u)) (list_any p (parts_of_all (exprs_of us)))
       ∙ ap (λ x. list_any p (parts t) || x) (sym (any_in_all u (exprs_of us)))
 
-pub holds_in_sum : (s : Scope) (e a b : Expr) (es : List Expr) → e ≡ Sum a b es
+holds_in_sum : (s : Scope) (e a b : Expr) (es : List Expr) → e ≡ Sum a b es
     → ((holds_variable s (expr a) || holds_variable s (expr b)) || list_any (is_variable_in s) (parts_of_all (exprs es)))
     ≡ holds_variable s (expr e)
 holds_in_sum s e a b es is =
@@ -45,3 +45,27 @@ holds_in_sum s e a b es is =
     sym (ap (holds_variable s) (seen_sum e a b es is)
     ∙ any_in_nested p (λ x y. refl) (plus (expr a) (expr b)) (map expr es)
     ∙ ap (λ x. x || list_any p (parts_of_all (exprs es))) (any_in_plus p (λ x y. refl) (expr a) (expr b)))
+
+-- in the first of two terms, or not there
+pub first_holds : (s : Scope) (x a : Expr) (r v b : Bool) → x ≡ a → r ≡ holds_variable s (expr x) → r ≡ true → v ≡ r
+    → v ≡ (holds_variable s (expr a) || b)
+first_holds s x a r v b same is met value =
+    value ∙ met ∙ sym (ap (λ z. z || b) (sym (is ∙ ap (λ d. holds_variable s (expr d)) same) ∙ met))
+
+pub second_holds : (s : Scope) (x a y b : Expr) (r q v : Bool) → x ≡ a → r ≡ holds_variable s (expr x) → r ≡ false
+    → y ≡ b → q ≡ holds_variable s (expr y) → v ≡ q → v ≡ (holds_variable s (expr a) || holds_variable s (expr b))
+second_holds s x a y b r q v same is none other second value =
+    value ∙ second ∙ ap (λ d. holds_variable s (expr d)) other
+    ∙ sym (ap (λ z. z || holds_variable s (expr b)) (sym (is ∙ ap (λ d. holds_variable s (expr d)) same) ∙ none))
+
+pub holds_in_two : (s : Scope) (e a b : Expr) (es : List Expr) (v : Bool) → e ≡ Sum a b es
+    → v ≡ (holds_variable s (expr a) || holds_variable s (expr b)) → v ≡ true → v ≡ holds_variable s (expr e)
+holds_in_two s e a b es v is two met =
+    met ∙ sym (sym (holds_in_sum s e a b es is) ∙ ap (λ z. z || list_any (is_variable_in s) (parts_of_all (exprs es))) (sym two ∙ met))
+
+pub holds_in_rest : (s : Scope) (e a b : Expr) (es us : List Expr) (v r : Bool) → e ≡ Sum a b es
+    → v ≡ (holds_variable s (expr a) || holds_variable s (expr b)) → v ≡ false → us ≡ es
+    → r ≡ list_any (is_variable_in s) (parts_of_all (exprs us)) → r ≡ holds_variable s (expr e)
+holds_in_rest s e a b es us v r is two none same rest =
+    rest ∙ ap (λ ds. list_any (is_variable_in s) (parts_of_all (exprs ds))) same
+    ∙ sym (sym (holds_in_sum s e a b es is) ∙ ap (λ z. z || list_any (is_variable_in s) (parts_of_all (exprs es))) (sym two ∙ none))

@@ -13,7 +13,7 @@ use Rattle.kind_terms.specs.Sought.{sought}
 use Rattle.kind_terms.specs.Scopes.{Scope, field_names, given_out, after, at_end, inside, made_known}
 use Rattle.kind_rules.specs.declared.expected.TypePosition.{TypePosition}
 use Rattle.kind_rules.specs.declared.expected.TypePosition.TheVariants.{Whole, Conditional, FieldRef, UnderRef, Inner}
-use Rattle.kind_rules.specs.ExpectedKinds.{Expected, Use, a_number, an_output, a_type}
+use Rattle.kind_rules.specs.ExpectedKinds.{Expected, Use, a_number, an_output, a_type, under}
 use Rattle.kind_declarations.specs.Headings.{Heading, Param}
 use Rattle.kind_rules.specs.Names.{Field}
 use Rattle.kind_rules.specs.FieldNames.{names_inside}
@@ -104,13 +104,6 @@ expected_at_right None = None
 expected_at_right (Some (a_number n q)) = Some (a_number greatest q)
 expected_at_right (Some (an_output before)) = None
 expected_at_right (Some (a_type w)) = Some (a_type Inner)
-
-abbrev pub under : TypePosition → TypePosition
-under Whole = FieldRef
-under Conditional = FieldRef
-under FieldRef = UnderRef
-under UnderRef = UnderRef
-under Inner = UnderRef
 
 abbrev pub expected_under_ref : Option Expected → Option Expected
 expected_under_ref None = None

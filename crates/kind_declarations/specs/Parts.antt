@@ -8,7 +8,8 @@ use Rattle.kind_terms.specs.Types.{type_named, parameters, has_exprs}
 use Rattle.kind_rules.specs.declared.expected.TypePosition.{TypePosition}
 use Rattle.kind_rules.specs.declared.expected.TypePosition.TheVariants.{Inner}
 use Rattle.kind_rules.specs.ExpectedKinds.{a_number, a_type}
-use Rattle.kind_declarations.specs.Nodes.{ItemContext, Judged, arg_nodes, expr_nodes, first_inside, expected_number, record_nodes, under}
+use Rattle.kind_declarations.specs.Nodes.{ItemContext, Judged, arg_nodes, expr_nodes, first_inside, expected_number, record_nodes}
+use Rattle.kind_rules.specs.ExpectedKinds.{under}
 
 -- of a type's parts
 abbrev pub part_nodes : ExprView → ItemContext → TypePosition → List Judged

@@ -3,11 +3,10 @@ use Rattle.std.specs.Prelude.{◌≡◌, ◌≢◌, List, [], Some, Result, Ok, 
 use Rattle.tlb_syntax.specs.declared.tree.Schema.{Schema}
 use Rattle.tlb_syntax.specs.Tree.{SchemaView}
 use Rattle.tlb_syntax.specs.View.{schema}
-use Rattle.kind_terms.specs.Dictionaries.{without_dictionaries}
 use Rattle.kind_declarations.specs.Faults.{first}
 use Rattle.tlb_kinds.specs.declared.error.KindError.{KindError}
 use Rattle.tlb_kinds.specs.declared.error.KindError.TheVariants.{NoMemory}
-use Rattle.tlb_kinds.specs.Refusals.{refusals, IsKinded}
+use Rattle.tlb_kinds.specs.Refusals.{refusals, kept_of, IsKinded}
 
 -- the first refusal is reported, unless out of memory
 abbrev pub IsFirst : List KindError → KindError → Type 0
@@ -18,14 +17,14 @@ abbrev pub Finds : List KindError → Result (Unit {0}) KindError → Type 0
 Finds es (Ok done) = es ≡ []
 Finds es (Err e) = IsFirst es e
 
--- A schema without a refusal, given without the declarations of dictionaries, or the first refusal.
+-- A schema without a refusal, given without the declarations that are passed over, or the first refusal.
 abbrev pub IsJudged : SchemaView → Result Schema KindError → Type 0
-IsJudged s (Ok kept) = IsKinded s × (schema kept ≡ without_dictionaries s)
+IsJudged s (Ok kept) = IsKinded s × (schema kept ≡ kept_of s)
 IsJudged s (Err e) = IsFirst (refusals s) e
 
 -- The schema passes, unless out of memory.
 abbrev pub IsPassed : SchemaView → Result Schema KindError → Type 0
-IsPassed s (Ok kept) = schema kept ≡ without_dictionaries s
+IsPassed s (Ok kept) = schema kept ≡ kept_of s
 IsPassed s (Err e) = e ≢ NoMemory → ⊥
 
 -- The answer is this refusal, unless out of memory.

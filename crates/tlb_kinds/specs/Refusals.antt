@@ -1,7 +1,7 @@
 -- The refusals of a schema by its kinds and its guard, in their order.
 -- Source: the TON documentation on TL-B; the rules that it leaves open are this project's own.
-use Rattle.std.specs.Prelude.{ℕ, zero, suc, ◌≡◌, List, [], ◌∷◌, ◌++◌, Option, Some, None}
-use Rattle.tlb_syntax.specs.Tree.{SchemaView}
+use Rattle.std.specs.Prelude.{ℕ, zero, suc, ◌≡◌, filter, not, List, [], ◌∷◌, ◌++◌, Option, Some, None}
+use Rattle.tlb_syntax.specs.Tree.{ConstructorView, SchemaView}
 use Rattle.kind_terms.specs.Dictionaries.{without_dictionaries}
 use Rattle.kind_declarations.specs.Nodes.{heading_nodes, constructor_nodes}
 use Rattle.kind_declarations.specs.Faults.{first}
@@ -40,10 +40,18 @@ of_guard s = of_place s (first_unguarded s)
 unfoldable pub refusals_within : SchemaView → List KindError
 refusals_within s = of_contents s [] s ++ of_guard s
 
--- The refusals of a schema in their order: those of all headings, then those of the items of each declaration that is not
--- passed over, then that of the guard.
+-- the declarations of ordinary cells: those of exotic cells are passed over
+abbrev pub ordinary : SchemaView → SchemaView
+ordinary s = filter (λ (c : ConstructorView). not c.exotic) s
+
+-- the declarations that are not passed over: those of ordinary cells that are of no dictionary
+abbrev pub kept_of : SchemaView → SchemaView
+kept_of s = without_dictionaries (ordinary s)
+
+-- The refusals of a schema in their order: those of the headings of all declarations of ordinary cells, then those of the
+-- items of each declaration that is not passed over, then that of the guard.
 unfoldable pub refusals : SchemaView → List KindError
-refusals s = of_headings [] s ++ refusals_within (without_dictionaries s)
+refusals s = of_headings [] (ordinary s) ++ refusals_within (kept_of s)
 
 -- the first of them
 abbrev pub first_refusal : SchemaView → Option KindError

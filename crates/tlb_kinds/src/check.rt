@@ -7,7 +7,7 @@ ghost use Rattle.kind_declarations.specs.Faults.{Judges};
 ghost use Rattle.kind_declarations.specs.Nodes.{Judged};
 ghost use Rattle.kind_terms.specs.Views.{part_by};
 ghost use Rattle.tlb_kinds.specs.Answers.{Finds, IsFirst, IsJudged, IsPassed, IsRefused};
-ghost use Rattle.tlb_kinds.specs.Refusals.{IsKinded, first_refusal, of_contents, of_guard, of_headings, refusals_within};
+ghost use Rattle.tlb_kinds.specs.Refusals.{IsKinded, first_refusal, of_contents, of_guard, of_headings, ordinary as ordinary_of, refusals_within};
 ghost use Rattle.tlb_kinds.specs.Spots.{heading, refusals_at};
 ghost use Rattle.tlb_kinds.specs.declared.error.KindError.{KindError as Refused};
 
@@ -45,7 +45,7 @@ impl Model for Kinded {
 }
 
 impl Kinded {
-    /// The schema without the declarations of dictionaries.
+    /// The schema without the declarations of exotic cells and of dictionaries.
     pub fn schema(&self) -> &Schema
         ensures same { result.now ≡ self.now }
         ensures kinded { IsKinded (schema_view self.now) }
@@ -124,6 +124,23 @@ fn judge_guard(alloc: Global, constructors: &[Constructor]) -> Result<(), KindEr
     Err(KindError::Unguarded(spot))
 }
 
+// Without the declarations of exotic cells.
+fn without_exotic(schema: Schema) -> Schema
+    ensures { schema_view result ≡ ordinary_of (schema_view schema) }
+{
+    let mut constructors = schema.constructors;
+    let mut at = 0;
+    while at < constructors.len() {
+        let is_exotic = constructors.as_slice()[at].exotic;
+        if is_exotic {
+            constructors.remove(at);
+        } else {
+            at += 1;
+        }
+    }
+    Schema { constructors }
+}
+
 // Without the declarations of dictionaries, of which a schema whose headings are in order has at most five.
 fn without_dictionaries(schema: Schema) -> Schema
     ensures { schema_view result ≡ without_dictionaries_of (schema_view schema) }
@@ -152,19 +169,21 @@ fn judge_kept(alloc: Global, constructors: &[Constructor]) -> Result<(), KindErr
     judge_guard(alloc, constructors)
 }
 
-// The schema without its declarations of dictionaries, or its first refusal.
+// The schema without the declarations that are passed over, or its first refusal.
 fn judge(alloc: Global, schema: Schema) -> Result<Schema, KindError>
     requires { IsWithinLimits (schema_view schema) }
     ensures { IsJudged (schema_view schema) result }
 {
-    judge_headings(alloc, schema.constructors.as_slice())?;
-    let kept = without_dictionaries(schema);
+    let ordinary = without_exotic(schema);
+    judge_headings(alloc, ordinary.constructors.as_slice())?;
+    let kept = without_dictionaries(ordinary);
     judge_kept(alloc, kept.constructors.as_slice())?;
     Ok(kept)
 }
 
-/// The schema without its declarations of dictionaries, or its first refusal. The schema is one within the limits, as a
-/// text gives it; a refused schema is let go.
+/// The schema without its declarations of exotic cells and of dictionaries, or its first refusal. The schema is one within
+/// the limits, as a text gives it; a refused schema is let go. Declarations of exotic cells are passed over: no rule is
+/// judged of them, they declare no type, and they count for no constructor's number.
 #[tactic(auto, using(crate::proofs::Firsts::passed_from, crate::proofs::Firsts::refused_from))]
 pub fn kind_check(alloc: Global, schema: Schema) -> Result<Kinded, KindError>
     requires { IsWithinLimits (schema_view schema) }

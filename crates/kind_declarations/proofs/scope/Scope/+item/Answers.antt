@@ -43,7 +43,7 @@ judge_parts-returns-in_ok-judge_number-in-Star-clause-judged t c =
 
 pub judge_parts-returns-in-Named-clause-judged : goal.judge_parts-returns-in-Named-clause-judged
 judge_parts-returns-in-Named-clause-judged t c =
-    named_judged _ _ _ _ (item_context c.args.self.now) c.args.position _ _ _ _ c.in-Named.is c.as_slice-in-Named.ensures (has_exprs_seen _ _ c.is_empty.ensures)
+    named_judged _ _ _ _ (item_context c.args.self.now) c.args.position _ _ _ _ c.in-Named.is c.as_slice.ensures (has_exprs_seen _ _ c.is_empty.ensures)
     c.parameters_of-kinds.ensures c.judge_args.ensures.judged
 
 pub judge_parts-returns-in-Lit-clause-judged : goal.judge_parts-returns-in-Lit-clause-judged

@@ -2,7 +2,7 @@ use Rattle.std.proofs.Common.{◌≡◌, ◌∙◌, ◌+◌, List, drop, sym, ap
 use Rattle.std.specs.Prelude.{Some}
 use Rattle.std.specs.Borrow.{Bor}
 use Rattle.tlb_syntax.specs.declared.tree.Constructor.{Constructor}
-use Rattle.kind_terms.specs.SumLaws.{two_terms}
+use Rattle.kind_terms.specs.SumLaws.{of_sum}
 use Rattle.tlb_syntax.specs.View.{expr, exprs}
 use Rattle.tlb_guard.specs.declared.exposures.Exposures.{Exposures}
 use Rattle.tlb_guard.specs.Empty.{is_variable, may_be_empty}
@@ -17,15 +17,15 @@ use Rattle.tlb_guard.proofs.Numberings.{own_number}
 use Rattle.tlb_guard.proofs.exposures.Exposures.+exposures.Goals as goal
 use Rattle.tlb_guard.proofs.exposures.Exposures.+exposures.Goals.{of_name-in-Some+in_ok-push-2+in_ok-of_args, of_name-in_default, of_args-in-Some+in_ok-of_arg, of_args-in_default}
 
-pub of_expr-returns-in_default-2-clause-exposures : goal.of_expr-returns-in_default-2-clause-exposures
-of_expr-returns-in_default-2-clause-exposures n c =
+pub of_expr-returns-in-Sum-clause-exposures : goal.of_expr-returns-in-Sum-clause-exposures
+of_expr-returns-in-Sum-clause-exposures n c =
     no_terms c.args.self.now (λ k scope. terms_of k scope (expr c.args.e.now))
-    (λ k scope. two_terms (terms_of k scope) [] (λ a b. refl) _ _ _ c.in-Sum.is c.as_slice-in-Sum.ensures c.in_default.len_at_least)
+    (λ k scope. of_sum (terms_of k scope) [] (λ a b. refl) _ _ _ _ c.in-Sum.is)
 
-pub of_expr-returns-in_default-2-clause-empty : goal.of_expr-returns-in_default-2-clause-empty
-of_expr-returns-in_default-2-clause-empty n c =
-    two_terms (may_be_empty (types_in (views c.args.self.now.types.now) (holds c.args.self.now.empty.now)) (names c.args.self.now.scope)) true (λ a b. refl) _ _ _
-    c.in-Sum.is c.as_slice-in-Sum.ensures c.in_default.len_at_least
+pub of_expr-returns-in-Sum-clause-empty : goal.of_expr-returns-in-Sum-clause-empty
+of_expr-returns-in-Sum-clause-empty n c =
+    of_sum (may_be_empty (types_in (views c.args.self.now.types.now) (holds c.args.self.now.empty.now)) (names c.args.self.now.scope)) true
+    (λ a b. refl) _ _ _ _ c.in-Sum.is
 
 pub of_name-push-requires-in-Some : goal.of_name-push-requires-in-Some
 of_name-push-requires-in-Some n c = own_number (views c.args.self.now.types.now) c.args.name.now c.in-Some.number c.in-Some.ensures
