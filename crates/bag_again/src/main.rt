@@ -27,7 +27,7 @@ fn main(rt: HostRuntime) -> io::Result<()> {
     let Ok(cell) = read_again(rt.alloc(), file.as_slice()) else {
         return println!(rt; "refused");
     };
-    for level in 0..u32::from(cell.mask()) + 1 {
+    for level in 0..cell.level() + 1 {
         print!(rt; "{level} ")?;
         for byte in cell.hash(level) {
             print!(rt; "{byte:02x}")?;

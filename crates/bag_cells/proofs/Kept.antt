@@ -1,17 +1,17 @@
 -- What a listing keeps when a cell is added, and where its cells stand in the reverse order.
-use Rattle.std.proofs.Common.{◌≡◌, ◌∙◌, ℕ, zero, suc, ◌+◌, ◌-◌, ◌<◌, ◌≤◌, Bool, true, false, List, [], ◌∷◌, ◌++◌, length, map, get_or, take, drop, reverse, append_assoc, refl, ap, sym, subst, ⊎_elim, arith}
-use Rattle.std.specs.Prelude.{Option, Some, None, slice_get, ◌||◌, Result, Ok, Err, OnOk}
+use Rattle.std.proofs.Common.{◌≡◌, ◌∙◌, ℕ, zero, suc, ◌+◌, ◌-◌, ◌<◌, Bool, true, false, List, [], ◌∷◌, ◌++◌, length, map, get_or, take, drop, reverse, append_assoc, refl, ap, sym, subst, ⊎_elim, arith}
+use Rattle.std.specs.Prelude.{Some, slice_get, ◌||◌, Result, Ok, Err, OnOk}
 use Rattle.std.specs.List.{All, flat_map}
-use Rattle.std.proofs.lemmas.Bool.{cases_Bool, or_cases}
-use Rattle.std.proofs.lemmas.List.{drop_more, map_push, length-map, length-reverse, reverse-append, get_or-map}
+use Rattle.std.proofs.lemmas.Bool.{cases_Bool}
+use Rattle.std.proofs.lemmas.List.{drop_more, map_push, length-reverse, reverse-append}
 use Rattle.std.proofs.lemmas.List.Elements.{All-nil, All-cons}
 use Rattle.cell_nodes.specs.declared.tree.Tree.{Tree, out-Tree}
 use Rattle.bag_cells.specs.declared.post.Node.{Node}
 use Rattle.bag_cells.specs.Post.{same, stands, place}
-use Rattle.bag_cells.specs.Listing.{added, added_all, AllStand, IsClosed, IsDistinct, IsOrdered, Follows}
+use Rattle.bag_cells.specs.Listing.{added, added_all, AllStand, IsDistinct, IsOrdered, Follows}
 use Rattle.bag_cells.specs.Nodes.{trees_of, numbers_in, IsNumbered}
 use Rattle.bag_cells.proofs.Same.{same-equal, same-itself}
-use Rattle.bag_cells.proofs.Places.{or_left, or_right, or_none, stands-append, stands-last, place-within, place-append_left, place-append_right, place-last}
+use Rattle.bag_cells.proofs.Places.{or_left, or_right, stands-append, place-within, place-append_left, place-append_right, place-last}
 use Rattle.bag_cells.proofs.Posts.{ordered-push, added-new, still_new, all_stand-added, place-added}
 
 places-more : (seen ts : List Tree) (t : Tree) → AllStand seen ts → map (place (seen ++ t ∷ [])) ts ≡ map (place seen) ts

@@ -1,19 +1,16 @@
 -- The list of distinct subtrees has each of them once, each after its children.
-use Rattle.std.proofs.Common.{◌≡◌, ◌∙◌, ℕ, zero, suc, ◌+◌, ◌<◌, ◌≤◌, Bool, true, false, List, [], ◌∷◌, ◌++◌, length, map, take, drop, take-append-drop, refl, ap, sym, subst, ⊎_elim, inl, inr, arith}
-use Rattle.std.specs.Prelude.{Option, Some, None, slice_get, ◌⊎◌, ◌||◌}
+use Rattle.std.proofs.Common.{◌≡◌, ◌∙◌, ℕ, zero, suc, ◌+◌, true, false, List, [], ◌∷◌, ◌++◌, map, take, refl, ap, sym, subst, ⊎_elim, inl, inr, arith}
+use Rattle.std.specs.Prelude.{Some, slice_get, ◌⊎◌}
 use Rattle.std.proofs.lemmas.Bool.{cases_Bool, or_cases}
-use Rattle.std.proofs.lemmas.List.{length-append, length-take-le}
 use Rattle.cell_nodes.specs.declared.tree.Tree.{Tree, out-Tree}
-use Rattle.cell_nodes.specs.Tree.{total, unfolded}
-use Rattle.cell_nodes.specs.Equations.{unfolded-out}
 use Rattle.cell_nodes.specs.Good.{IsGood, AllGood}
 use Rattle.cell_nodes.specs.GoodParts.{good-children, all_good-head, all_good-tail}
-use Rattle.bag_cells.specs.Post.{same, stands, place, without, joined, post, IsSubtree, itself, below}
+use Rattle.bag_cells.specs.Post.{same, stands, place, joined, post, IsSubtree, itself, below}
 use Rattle.bag_cells.specs.Listing.{added, added_all, AllStand, IsClosed, IsDistinct, IsOrdered}
-use Rattle.bag_cells.proofs.Same.{EachOf, tree_induction, same-equal, same-itself}
-use Rattle.bag_cells.proofs.Places.{or_left, or_right, stands-append, stands-only, place-within, place-append_left, stands-joint_cases}
-use Rattle.bag_cells.proofs.Posts.{post-out, stands-post, added-new, added-known, added-empty, still_new, all_stand-added, ordered-added, ordered-push, ordered-post}
-use Rattle.bag_cells.proofs.Kept.{stands-at, children_stand-at}
+use Rattle.bag_cells.proofs.Same.{EachOf, tree_induction, same-equal}
+use Rattle.bag_cells.proofs.Places.{stands-append, stands-only, stands-joint_cases}
+use Rattle.bag_cells.proofs.Posts.{post-out, stands-post, added-new, added-known, added-empty, all_stand-added, ordered-added, ordered-post}
+use Rattle.bag_cells.proofs.Kept.{stands-at}
 
 -- ---- places of trees that stand
 

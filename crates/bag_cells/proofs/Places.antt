@@ -1,10 +1,10 @@
 -- Trees in a list, and their places.
-use Rattle.std.proofs.Common.{◌≡◌, ◌∙◌, ℕ, zero, suc, ◌+◌, ◌-◌, ◌<◌, ◌≤◌, Bool, true, false, cond, ◌&&◌, ◌||◌, List, [], ◌∷◌, ◌++◌, length, map, refl, ap, sym, subst, ⊎_elim, inl, inr, append_assoc, arith}
+use Rattle.std.proofs.Common.{◌≡◌, ◌∙◌, ◌+◌, ◌<◌, ◌≤◌, Bool, true, false, cond, ◌&&◌, ◌||◌, List, [], ◌∷◌, ◌++◌, length, refl, ap, sym, ⊎_elim, inl, inr, append_assoc, arith}
 use Rattle.std.specs.Prelude.{not, ◌⊎◌}
 use Rattle.std.proofs.lemmas.Bool.{cases_Bool, or_cases}
 use Rattle.std.proofs.lemmas.List.{append-nil}
 use Rattle.std.proofs.lemmas.List.Elements.{filter-append}
-use Rattle.cell_nodes.specs.declared.tree.Tree.{Tree, out-Tree}
+use Rattle.cell_nodes.specs.declared.tree.Tree.{Tree}
 use Rattle.bag_cells.specs.Post.{same, stands, place, without, joined}
 use Rattle.bag_cells.specs.Listing.{AllStand}
 use Rattle.bag_cells.proofs.Same.{same-equal, same-itself}

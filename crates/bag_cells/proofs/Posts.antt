@@ -1,16 +1,15 @@
 -- The list of distinct subtrees.
-use Rattle.std.proofs.Common.{◌≡◌, ◌∙◌, ℕ, zero, suc, ◌+◌, ◌<◌, ◌≤◌, Bool, true, false, cond, List, [], ◌∷◌, ◌++◌, length, map, refl, ap, sym, subst, ⊎_elim, inl, inr, append_assoc, arith}
+use Rattle.std.proofs.Common.{◌≡◌, ◌∙◌, ◌≤◌, Bool, true, false, cond, List, [], ◌∷◌, ◌++◌, map, refl, ap, sym, subst, ⊎_elim, inl, inr, append_assoc, arith}
 use Rattle.std.specs.Prelude.{not, ◌⊎◌, ◌||◌}
 use Rattle.std.proofs.lemmas.Bool.{cases_Bool, or_cases}
 use Rattle.std.proofs.lemmas.List.{append-nil}
-use Rattle.std.proofs.lemmas.Simd.{map-map}
 use Rattle.cell_nodes.specs.declared.tree.Tree.{Tree, out-Tree, fold_out-Tree}
 use Rattle.cell_nodes.specs.Tree.{tree_of, total, unfolded}
 use Rattle.cell_nodes.specs.Equations.{unfolded-out, tree_of-out}
 use Rattle.bag_cells.specs.Post.{same, stands, place, without, joined, Listed, listed, listed_step, post}
 use Rattle.bag_cells.specs.Listing.{added, added_all, AllStand, IsClosed, IsDistinct, IsOrdered}
 use Rattle.bag_cells.proofs.Same.{EachOf, tree_induction, same-equal, same-itself}
-use Rattle.bag_cells.proofs.Places.{or_left, or_right, or_none, stands-append, stands-last, stands-only, stands-without, place-last, without-append, joined-after, stands-joined, place-joined, stands-joint_new, stands-joint_cases, all_stand-more}
+use Rattle.bag_cells.proofs.Places.{or_none, stands-append, stands-last, stands-only, without-append, joined-after, stands-joined, place-joined, stands-joint_new, stands-joint_cases, all_stand-more}
 
 -- ---- what the definition says
 

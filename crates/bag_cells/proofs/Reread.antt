@@ -1,12 +1,12 @@
 -- A cell of a bag that is written, read again.
-use Rattle.std.proofs.Common.{◌≡◌, ◌≢◌, ◌∙◌, ℕ, zero, suc, ◌+◌, ◌-◌, ◌*◌, ◌/◌, ◌%◌, ◌^◌, ◌<◌, ◌≤◌, Bool, true, false, cond, List, [], ◌∷◌, ◌++◌, length, map, take, drop, slice_index, append_assoc, refl, ap, sym, subst, ⊎_elim, arith}
-use Rattle.std.specs.Prelude.{Option, Some, None, slice_get, ◌==◌, not, ◌&&◌, IsTrue, if◌then◌else◌}
-use Rattle.std.specs.List.{flat_map, range_with_len}
+use Rattle.std.proofs.Common.{◌≡◌, ◌≢◌, ◌∙◌, ℕ, zero, suc, ◌+◌, ◌-◌, ◌*◌, ◌/◌, ◌%◌, ◌^◌, ◌<◌, ◌≤◌, Bool, true, false, List, [], ◌∷◌, ◌++◌, length, map, take, drop, slice_index, append_assoc, refl, ap, sym, ⊎_elim, arith}
+use Rattle.std.specs.Prelude.{Some, slice_get, ◌==◌, IsTrue, if◌then◌else◌}
+use Rattle.std.specs.List.{flat_map}
 use Rattle.std.specs.Int.{trailing_zeros, w8}
 use Rattle.std.proofs.lemmas.Bool.{cases_Bool, cases_eq, eq-eqb, ne_eqb, eqb-true, and_parts}
 use Rattle.std.proofs.lemmas.List.{length-append, length-map, get_or_at, take_at, drop_at, get_or_append_left, get_or-append-add}
 use Rattle.std.proofs.lemmas.List.FromFn.{get_or-map-range_with_len}
-use Rattle.bit_slice.specs.Bits.{AreBits, bit_number, bits_from, completed, completed_byte}
+use Rattle.bit_slice.specs.Bits.{bit_number, bits_from, completed, completed_byte}
 use Rattle.bit_slice.specs.Completion.{completed-by_index, length-completed, bits_from-completed}
 use Rattle.cell_nodes.specs.declared.tree.Kind.{Kind}
 use Rattle.cell_nodes.specs.declared.tree.Kind.TheVariants.{Ordinary, Pruned, Library, Proof, Update}
@@ -15,15 +15,14 @@ use Rattle.cell_nodes.specs.Layout.{byte_of, has_layout, exotic_kind}
 use Rattle.cell_nodes.specs.LayoutLaws.{pruned_layout}
 use Rattle.cell_nodes.specs.Tree.{mask, is_exotic}
 use Rattle.cell_nodes.specs.Good.{IsSound}
-use Rattle.bag_cells.specs.Numbers.{number_at}
 use Rattle.bag_cells.specs.Header.{size}
-use Rattle.bag_cells.specs.Cells.{first_descriptor, second_descriptor, ref_count, is_exotic as is_marked_exotic, has_stored_hashes, reported_mask, is_completed, byte_count, last_byte, ref_at, cell_size}
+use Rattle.bag_cells.specs.Cells.{second_descriptor, ref_count, is_exotic as is_marked_exotic, has_stored_hashes, reported_mask, is_completed, byte_count, last_byte, ref_at, cell_size}
 use Rattle.bag_cells.specs.Trees.{data_bytes, bit_count, cell_bits, cell_kind}
 use Rattle.bag_cells.specs.Post.{place as place_in}
 use Rattle.bag_cells.specs.Written.{number_bytes, descriptor_of, ref_bytes, cell_bytes}
 use Rattle.bag_cells.proofs.Widths.{length-number_bytes}
 use Rattle.bag_cells.proofs.Fields.{number_at-written}
-use Rattle.bag_cells.proofs.Completed.{last-used, lowest-one}
+use Rattle.bag_cells.proofs.Completed.{lowest-one}
 
 -- the bytes of the cell stand at the place
 pub record IsPlaced (raw : List ℕ) (place : ℕ) (order : List Tree) (u : Tree) : Type 0 where

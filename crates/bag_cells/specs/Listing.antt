@@ -1,5 +1,5 @@
 -- Lists of distinct trees that grow by the subtrees of a tree.
-use Rattle.std.specs.Prelude.{◌≡◌, ℕ, true, false, List, [], ◌∷◌, ◌++◌, length, map}
+use Rattle.std.specs.Prelude.{◌≡◌, ℕ, true, false, List, [], ◌∷◌, ◌++◌, map}
 use Rattle.cell_nodes.specs.declared.tree.Tree.{Tree, out-Tree}
 use Rattle.bag_cells.specs.Post.{stands, place, without, joined, post}
 

@@ -21,10 +21,8 @@ fn may_be_same(a: &Cell, b: &Cell) -> bool
 }
 
 fn same_content(a: &Cell, b: &Cell) -> bool
-    ensures {
-        IsTrue result
-            ↔ ((out-Tree a.now).kind ≡ (out-Tree b.now).kind) × ((out-Tree a.now).bits ≡ (out-Tree b.now).bits)
-    }
+    ensures { IsTrue result
+        ↔ ((out-Tree a.now).kind ≡ (out-Tree b.now).kind) × ((out-Tree a.now).bits ≡ (out-Tree b.now).bits) }
 {
     a.kind() == b.kind() && a.bits().same(b.bits())
 }

@@ -59,11 +59,9 @@ fn push_completed(bytes: &mut Vec<u8>, bits: BitSlice<'_>) -> Result<(), NoMemor
 /// Adds the references to the cells of these numbers in post order.
 fn push_refs(bytes: &mut Vec<u8>, size: u8, cells: usize, numbers: &[usize]) -> Result<(), NoMemory>
     requires { All (λ n. n < cells) numbers.now }
-    ensures {
-        OnOk result
-            (bytes.new.items
-                ≡ bytes.old.items ++ flat_map (number_bytes size) (map (λ n. cells - 1 - n) numbers.now))
-    }
+    ensures { OnOk result
+        (bytes.new.items
+        ≡ bytes.old.items ++ flat_map (number_bytes size) (map (λ n. cells - 1 - n) numbers.now)) }
 {
     'refs: for number in numbers {
         push_number(bytes, size, cells - 1 - *number)?;
@@ -97,11 +95,9 @@ fn descriptor_of(cell: &Cell) -> (u8, u8)
 /// Adds cell `i` of the list.
 fn push_cell(bytes: &mut Vec<u8>, size: u8, listing: &Listing, i: usize) -> Result<(), NoMemory>
     requires { i < length listing.now }
-    ensures {
-        OnOk result
-            (IfSome (slice_get listing.now i)
-                (λ t. bytes.new.items ≡ bytes.old.items ++ cell_bytes size (reverse listing.now) t))
-    }
+    ensures { OnOk result
+        (IfSome (slice_get listing.now i)
+        (λ t. bytes.new.items ≡ bytes.old.items ++ cell_bytes size (reverse listing.now) t)) }
 {
     listing.ordered();
     let cell = listing.cell(i);

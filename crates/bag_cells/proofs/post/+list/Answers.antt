@@ -1,5 +1,5 @@
-use Rattle.std.proofs.Common.{◌≡◌, ◌∙◌, ◌++◌, ◌∷◌, [], ℕ, List, map, sym, ap, ◌<◌, arith}
-use Rattle.cell_nodes.specs.declared.tree.Tree.{Tree, out-Tree}
+use Rattle.std.proofs.Common.{◌∙◌, ◌++◌, ℕ, List, map, sym, ap, arith}
+use Rattle.cell_nodes.specs.declared.tree.Tree.{Tree}
 use Rattle.bag_cells.specs.Post.{place}
 use Rattle.bag_cells.proofs.Places.{stands-placed, stands-not_placed}
 use Rattle.bag_cells.proofs.Posts.{added-known}

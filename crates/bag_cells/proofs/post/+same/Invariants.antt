@@ -1,4 +1,4 @@
-use Rattle.std.proofs.Common.{ℕ, ◌+◌, ◌*◌, map}
+use Rattle.std.proofs.Common.{◌+◌, ◌*◌, map}
 use Rattle.cell_nodes.specs.Tree.{unfolded, total}
 use Rattle.bag_cells.proofs.post.+same.Given as goal
 

@@ -1,7 +1,5 @@
-use Rattle.std.proofs.Common.{◌≡◌, ◌∙◌, ◌<◌, sym, ap, refl, ℕ, ◌+◌, arith}
+use Rattle.std.proofs.Common.{refl, arith}
 use Rattle.std.proofs.lemmas.Bool.{false≢true}
-use Rattle.bag_cells.specs.Post.{place}
-use Rattle.bag_cells.specs.Nodes.{trees_of}
 use Rattle.bag_cells.proofs.Kept.{place-found, place-passed}
 use Rattle.bag_cells.proofs.post.place_among.Goals as goal
 

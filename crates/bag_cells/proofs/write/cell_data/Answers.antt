@@ -1,4 +1,4 @@
-use Rattle.std.proofs.Common.{◌≡◌, ◌∙◌, ◌++◌, ◌-◌, ◌<◌, ◌≤◌, ℕ, List, length, take, reverse, ap, arith}
+use Rattle.std.proofs.Common.{◌∙◌, ◌++◌, ℕ, List, take, reverse, ap, arith}
 use Rattle.std.specs.List.{flat_map}
 use Rattle.bag_cells.specs.Written.{cell_bytes}
 use Rattle.bag_cells.proofs.Pushed.{cells-none, cells-more}

@@ -1,8 +1,6 @@
-use Rattle.std.proofs.Common.{◌≡◌, ◌∙◌, ◌-◌, ◌<◌, ℕ, List, length, map, reverse, ap}
-use Rattle.std.specs.List.{All}
+use Rattle.std.proofs.Common.{◌∙◌, ◌-◌, ℕ, List, length, map, reverse, ap}
 use Rattle.std.proofs.lemmas.Result.{IfOk-equal}
-use Rattle.cell_nodes.specs.declared.tree.Tree.{Tree, out-Tree}
-use Rattle.bag_cells.specs.Post.{place}
+use Rattle.cell_nodes.specs.declared.tree.Tree.{out-Tree}
 use Rattle.bag_cells.proofs.Kept.{children_stand-at, places-reverse, places-within}
 use Rattle.bag_cells.proofs.Pushed.{cell_bytes-pushed}
 use Rattle.bag_cells.proofs.write.push_cell.Goals as goal

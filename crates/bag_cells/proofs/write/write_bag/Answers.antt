@@ -1,4 +1,4 @@
-use Rattle.std.proofs.Common.{◌≡◌, ◌∙◌, ◌++◌, List, ℕ, length, ap, sym, subst, arith}
+use Rattle.std.proofs.Common.{◌∙◌, ◌++◌, List, ℕ, length, ap, sym, subst, arith}
 use Rattle.bag_cells.specs.Bag.{BagHolds}
 use Rattle.bag_cells.proofs.Holds.{bag-holds}
 use Rattle.bag_cells.proofs.Pushed.{bag-pushed}

@@ -1,9 +1,8 @@
-use Rattle.std.proofs.Common.{◌≡◌, ◌∙◌, ◌++◌, ◌∷◌, [], sym, ap, subst, List}
-use Rattle.std.proofs.lemmas.List.{map_push}
+use Rattle.std.proofs.Common.{sym, subst, List}
 use Rattle.cell_nodes.specs.declared.tree.Tree.{Tree}
 use Rattle.bag_cells.specs.declared.post.Node.{Node}
 use Rattle.bag_cells.specs.Listing.{Follows}
-use Rattle.bag_cells.specs.Nodes.{IsNumbered, trees_of}
+use Rattle.bag_cells.specs.Nodes.{IsNumbered}
 use Rattle.bag_cells.proofs.Kept.{numbered-push}
 use Rattle.bag_cells.proofs.post.Listing.push.Goals as goal
 
