@@ -2,10 +2,12 @@
 //! `LEVEL HASH DEPTH` for each level of the root cell. The last word is the name of the file.
 #![tactic(auto)]
 
+ghost use Rattle.std.specs.Prelude.{◌≤◌};
 ghost use Rattle.bag_cells.specs.Bag.{BagHolds, BagRefused, IfAnswered};
 
 use bag_cells::{BagError, read_bag, write_bag};
 use cell_nodes::Cell;
+use cell_pool::Pool;
 use std::alloc::Global;
 use std::{env, fs, io};
 
@@ -14,8 +16,22 @@ fn read_again(alloc: Global, file: &[u8]) -> Result<Cell, BagError>
     ensures { IfAnswered result (λ c. BagHolds file.now c) (λ e. BagRefused file.now e) }
 {
     let cell = read_bag(alloc, file)?;
-    let bag = write_bag(alloc, &cell)?;
+    let mut pool = Pool::new(alloc)?;
+    let root = pool.intern(&cell)?;
+    let bag = write_bag(alloc, &pool, root)?;
     read_bag(alloc, bag.as_slice())
+}
+
+// How many levels a cell of that mask has, the lowest one besides those up to the highest bit.
+fn levels(mask: u8) -> u32
+    ensures { result ≤ 4 }
+{
+    match mask {
+        0 => 1,
+        1 => 2,
+        2..4 => 3,
+        _ => 4,
+    }
 }
 
 fn main(rt: HostRuntime) -> io::Result<()> {
@@ -27,7 +43,7 @@ fn main(rt: HostRuntime) -> io::Result<()> {
     let Ok(cell) = read_again(rt.alloc(), file.as_slice()) else {
         return println!(rt; "refused");
     };
-    for level in 0..cell.level() + 1 {
+    for level in 0..levels(cell.mask()) {
         print!(rt; "{level} ")?;
         for byte in cell.hash(level) {
             print!(rt; "{byte:02x}")?;

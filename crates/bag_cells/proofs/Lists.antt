@@ -1,19 +1,19 @@
 -- Places in lists of trees, in a reversed list, and in lists that are written one after the other.
-use Rattle.std.proofs.Common.{◌≡◌, ◌∙◌, ℕ, zero, suc, ◌+◌, ◌-◌, ◌*◌, ◌<◌, ◌≤◌, true, false, List, [], ◌∷◌, ◌++◌, length, map, take, drop, reverse, get_or, append_assoc, refl, ap, sym, ⊎_elim, arith}
-use Rattle.std.specs.Prelude.{Some, slice_get}
+use Rattle.std.proofs.Common.{◌≡◌, ◌∙◌, ℕ, zero, suc, ◌+◌, ◌-◌, ◌*◌, ◌<◌, ◌≤◌, Bool, true, false, List, [], ◌∷◌, ◌++◌, length, map, take, drop, reverse, get_or, append_assoc, refl, ap, sym, subst, ⊎_elim, arith}
+use Rattle.std.specs.Prelude.{Option, Some, None, slice_get, not, cond}
 use Rattle.std.specs.List.{flat_map}
 use Rattle.std.proofs.lemmas.Bool.{cases_Bool}
-use Rattle.std.proofs.lemmas.List.{length-append, length-reverse, get_or-reverse, take-append-drop}
+use Rattle.std.proofs.lemmas.List.{length-append, length-reverse, length-take-le, get_or-reverse, take-append-drop}
 use Rattle.std.proofs.lemmas.List.Concat.{flat_map-append}
 use Rattle.cell_nodes.specs.declared.tree.Tree.{Tree, out-Tree}
 use Rattle.cell_nodes.specs.Tree.{total, unfolded}
 use Rattle.cell_nodes.specs.Equations.{unfolded-out}
-use Rattle.bag_cells.specs.Post.{stands, place, without, joined, post}
-use Rattle.bag_cells.specs.Listing.{added, added_all}
-use Rattle.bag_cells.proofs.Same.{EachOf, tree_induction}
-use Rattle.bag_cells.proofs.Places.{place-within, place-append_left}
-use Rattle.bag_cells.proofs.Posts.{post-out}
-use Rattle.bag_cells.proofs.Kept.{take-some}
+use Rattle.cell_pool.specs.Post.{stands, place, without, joined, post}
+use Rattle.cell_pool.specs.Listing.{added, added_all}
+use Rattle.cell_pool.specs.SameLaws.{EachOf, tree_induction}
+use Rattle.cell_pool.specs.PlaceLaws.{place-within, place-append_left}
+use Rattle.cell_pool.specs.PostLaws.{post-out, stands-post}
+use Rattle.cell_pool.specs.PlaceLaws.{some-at, take-some, stands-at}
 
 at-get_or : (ts : List Tree) (i : ℕ) (t : Tree) → slice_get ts i ≡ Some t → get_or ts i t ≡ t
 at-get_or [] i t h = absurd (cc)
@@ -78,27 +78,6 @@ length-few f most [] h = omega arith
 length-few f most (t ∷ ts) h =
     let e : suc (length ts) * most ≡ most + length ts * most = omega arith in
     omega (arith, length-append (f t) (flat_map f ts), h 0 t refl, length-few f most ts (λ i u k. h (suc i) u k))
-
--- ---- how many distinct subtrees there are
-
-length-without : (seen ts : List Tree) → length (without seen ts) ≤ length ts
-length-without seen [] = omega arith
-length-without seen (t ∷ ts) = ⊎_elim
-    (λ (e : stands seen t ≡ true). rw e (omega (arith, length-without seen ts)))
-    (λ (e : stands seen t ≡ false). rw e (omega (arith, length-without seen ts)))
-    (cases_Bool (stands seen t))
-
-few-all : (seen ts : List Tree) → EachOf (λ t. length (post t) ≤ unfolded t) ts → length (added_all seen ts) ≤ length seen + total (map unfolded ts)
-few-all seen [] each = omega arith
-few-all seen (t ∷ ts) each =
-    omega (arith, few-all (added seen t) ts each.1, each.0, length-append seen (without seen (post t)), length-without seen (post t))
-
-few_step : (t : Tree) → EachOf (λ c. length (post c) ≤ unfolded c) (out-Tree t).children → length (post t) ≤ unfolded t
-few_step t each =
-    omega (arith, ap length (post-out t), length-append (joined [] (map post (out-Tree t).children)) (t ∷ []), few-all [] (out-Tree t).children each, unfolded-out t)
-
-pub few-post : (t : Tree) → length (post t) ≤ unfolded t
-few-post = tree_induction (λ t. length (post t) ≤ unfolded t) few_step
 
 -- the tree itself is the last
 pub last-post : (t : Tree) → slice_get (post t) (length (post t) - 1) ≡ Some t

@@ -18,7 +18,7 @@ use Rattle.cell_nodes.specs.Good.{IsSound}
 use Rattle.bag_cells.specs.Header.{size}
 use Rattle.bag_cells.specs.Cells.{second_descriptor, ref_count, is_exotic as is_marked_exotic, has_stored_hashes, reported_mask, is_completed, byte_count, last_byte, ref_at, cell_size}
 use Rattle.bag_cells.specs.Trees.{data_bytes, bit_count, cell_bits, cell_kind}
-use Rattle.bag_cells.specs.Post.{place as place_in}
+use Rattle.cell_pool.specs.Post.{place as place_in}
 use Rattle.bag_cells.specs.Written.{number_bytes, descriptor_of, ref_bytes, cell_bytes}
 use Rattle.bag_cells.proofs.Widths.{length-number_bytes}
 use Rattle.bag_cells.proofs.Fields.{number_at-written}

@@ -10,7 +10,7 @@ use Rattle.bit_slice.specs.Bits.{completed}
 use Rattle.cell_hash.specs.Representation.{descriptor}
 use Rattle.cell_nodes.specs.declared.tree.Tree.{Tree, out-Tree}
 use Rattle.cell_nodes.specs.Tree.{is_exotic, mask}
-use Rattle.bag_cells.specs.Post.{place, post}
+use Rattle.cell_pool.specs.Post.{place, post}
 
 -- ---- numbers
 

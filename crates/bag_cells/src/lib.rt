@@ -14,7 +14,6 @@ mod error;
 mod form;
 mod header;
 pub mod laws;
-mod post;
 mod raw;
 mod trees;
 mod write;

@@ -62,7 +62,7 @@ once-post t u i j h k = once (post t) i j u (ordered-post t).distinct h k
 
 -- ---- good trees
 
-child-good : (ts : List Tree) (i : ℕ) (c : Tree) → AllGood ts → slice_get ts i ≡ Some c → IsGood c
+pub child-good : (ts : List Tree) (i : ℕ) (c : Tree) → AllGood ts → slice_get ts i ≡ Some c → IsGood c
 child-good [] i c g h = absurd (cc)
 child-good (t ∷ ts) zero c g h = let e : t ≡ c = cc in subst (λ (v : Tree). IsGood v) e (all_good-head t ts g)
 child-good (t ∷ ts) (suc i) c g h = child-good ts i c (all_good-tail t ts g) h

@@ -1,5 +1,5 @@
 //! The nodes of a pool.
-ghost use Rattle.std.specs.Prelude.{◌≡◌, ◌↔◌, IsTrue};
+ghost use Rattle.std.specs.Prelude.{◌≡◌, ◌≤◌, length, ◌↔◌, IsTrue};
 ghost use Rattle.cell_nodes.specs.declared.tree.Tree.{out-Tree};
 ghost use Rattle.cell_nodes.specs.Tree.{mask};
 ghost use Rattle.cell_pool.specs.Nodes.{node_tree, node_numbers, SameContent};
@@ -30,9 +30,18 @@ impl PoolNode {
     }
 
     pub fn mask(&self) -> u8
-        ensures { result ≡ mask (node_tree self.now) }
+        ensures value { result ≡ mask (node_tree self.now) }
+        ensures bound { result ≤ 7 }
     {
         self.cell.mask()
+    }
+
+    /// How many children there are.
+    pub fn refs(&self) -> u32
+        ensures value { result ≡ length (out-Tree (node_tree self.now)).children }
+        ensures bound { result ≤ 4 }
+    {
+        self.cell.refs()
     }
 
     /// The numbers of the children, from the left.

@@ -7,13 +7,17 @@ use crate::hashes::has_digits;
 use bag_cells::{read_bag, write_bag};
 use bit_slice::BitString;
 use cell_nodes::Cell;
+use cell_pool::Pool;
 use std::alloc::Global;
 use std::process::Abort;
 use tlb_sums::crc32c;
 
 fn written(rt: &impl Abort, alloc: Global, cell: &Cell) -> Vec<u8> {
     assert!(rt; cell.unfolded() <= 262_144);
-    write_bag(alloc, cell).expect(rt, "memory")
+    let mut pool = Pool::new(alloc).expect(rt, "memory");
+    let root = pool.intern(cell).expect(rt, "memory");
+    assert!(rt; root.number() < pool.count());
+    write_bag(alloc, &pool, root).expect(rt, "memory")
 }
 
 // The bags of: the empty cell; a cell of one bit; a map of one entry; a map of four entries; a proof; a cell over a
