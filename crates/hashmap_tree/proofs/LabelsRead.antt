@@ -1,5 +1,5 @@
 -- A label that was read by its contract is the one that the reading function gives.
-use Rattle.std.proofs.Common.{◌≡◌, ◌≢◌, ◌↔◌, ℕ, List, length, drop, Result, Ok, Err, refl, sym, ap, ◌∙◌, subst}
+use Rattle.std.proofs.Common.{◌≡◌, ◌≢◌, ◌↔◌, ℕ, List, drop, Result, Ok, Err, refl, sym, subst}
 use Rattle.hashmap_labels.specs.Labels.{IsLabel, EndsEarly, IsTooLong, HasOtherForm}
 use Rattle.hashmap_labels.specs.Reading.{read_label}
 use Rattle.hashmap_labels.specs.ReadingLaws.{label-exactly, short-exactly, long-exactly, form-exactly}

@@ -1,9 +1,8 @@
 -- Ordinary cells and their contents, and labels by the mode.
-use Rattle.std.proofs.Common.{◌≡◌, ◌≢◌, ◌↔◌, ℕ, List, [], ◌∷◌, Option, Some, None, Result, Ok, Err, refl, sym, ap, ◌∙◌, subst}
+use Rattle.std.proofs.Common.{◌≡◌, ℕ, List, None, Ok, Err, refl, sym, ap, ◌∙◌}
 use Rattle.cell_nodes.specs.Equations.{out-tree_of, tree_of-out}
 use Rattle.cell_nodes.specs.HiddenParts.{hidden_by}
 use Rattle.cell_nodes.specs.Tree.{tree_of, mask}
-use Rattle.cell_nodes.specs.declared.tree.Hidden.{Hidden}
 use Rattle.cell_nodes.specs.declared.tree.Kind.{Kind}
 use Rattle.cell_nodes.specs.declared.tree.Kind.TheVariants.{Ordinary}
 use Rattle.cell_nodes.specs.declared.tree.Mode.{Mode}
@@ -38,22 +37,27 @@ seen-ordinary Whole c k = refl
 seen-ordinary Partial c k = ap (λ (x : Kind). hidden_by x (out-Tree c).bits (mask c)) k
 seen-ordinary Lax c k = refl
 
-pub label_sound : (mode : Mode) (n : ℕ) (s l rest : List ℕ) → read_label (forms_of mode) n s ≡ Ok (l, rest) → IsLabel (forms_of mode) n l s rest
+pub label_sound : (mode : Mode) (n : ℕ) (s l rest : List ℕ) → read_label (forms_of mode) n s ≡ Ok (l, rest)
+    → IsLabel (forms_of mode) n l s rest
 label_sound mode n s l rest = (label-exactly (forms_of mode) n s l rest).0
 
-pub label_complete : (mode : Mode) (n : ℕ) (s l rest : List ℕ) → IsLabel (forms_of mode) n l s rest → read_label (forms_of mode) n s ≡ Ok (l, rest)
+pub label_complete : (mode : Mode) (n : ℕ) (s l rest : List ℕ) → IsLabel (forms_of mode) n l s rest
+    → read_label (forms_of mode) n s ≡ Ok (l, rest)
 label_complete mode n s l rest = (label-exactly (forms_of mode) n s l rest).1
 
-pub label_refused : (mode : Mode) (n : ℕ) (s : List ℕ) (e : LabelError) → read_label (forms_of mode) n s ≡ Err e → NoLabel mode n s (cause_of e)
+pub label_refused : (mode : Mode) (n : ℕ) (s : List ℕ) (e : LabelError) → read_label (forms_of mode) n s ≡ Err e
+    → NoLabel mode n s (cause_of e)
 label_refused mode n s why.LabelShort r = ends ((short-exactly (forms_of mode) n s).0 r)
 label_refused mode n s why.LabelLong r = too_long ((long-exactly (forms_of mode) n s).0 r)
 label_refused mode n s why.LabelForm r = go (forms_of mode) refl r
   where
-    go : (f : Forms) → forms_of mode ≡ f → read_label f n s ≡ Err why.LabelForm → NoLabel mode n s (cause_of why.LabelForm)
+    go : (f : Forms) → forms_of mode ≡ f → read_label f n s ≡ Err why.LabelForm
+        → NoLabel mode n s (cause_of why.LabelForm)
     go Required g r = other_form g ((form-exactly n s).0 r)
     go Every g r = absurd (form-never n s r)
 
-pub refused_label : (mode : Mode) (n : ℕ) (s : List ℕ) (w : WalkCause) → NoLabel mode n s w → (e : LabelError) × (read_label (forms_of mode) n s ≡ Err e) × (w ≡ cause_of e)
+pub refused_label : (mode : Mode) (n : ℕ) (s : List ℕ) (w : WalkCause) → NoLabel mode n s w
+    → (e : LabelError) × (read_label (forms_of mode) n s ≡ Err e) × (w ≡ cause_of e)
 refused_label mode n s w (ends h) = (why.LabelShort, (short-exactly (forms_of mode) n s).1 h, refl)
 refused_label mode n s w (too_long h) = (why.LabelLong, (long-exactly (forms_of mode) n s).1 h, refl)
 refused_label mode n s w (other_form g h) =

@@ -21,7 +21,8 @@ not_equal n m h = go (nat_eq n m) refl
     go false e = refl
 
 -- the cell of a content is walked as the content
-pub open_branches : (W : Walker) (mode : Mode) (m : ℕ) (c : Tree) (s : Slice) → c ≡ cell_of s → branch W mode m c ≡ W m s
+pub open_branches : (W : Walker) (mode : Mode) (m : ℕ) (c : Tree) (s : Slice) → c ≡ cell_of s
+    → branch W mode m c ≡ W m s
 open_branches W mode m c s same =
     let k : (out-Tree c).kind ≡ Ordinary = ap (λ (t : Tree). (out-Tree t).kind) same ∙ kind-cell_of s in
     ap (λ (x : Option Hidden). branch_of W m x (out-Tree c).kind (content c)) (seen-ordinary mode c k)
@@ -31,7 +32,8 @@ open_branches W mode m c s same =
 mutual
   unfolding walk
 
-  pub walk_complete : (f : ℕ) (mode : Mode) (n : ℕ) (es : Entries) (s : Slice) → n < f → DictTree mode n es s → walk f mode n s ≡ Ok es
+  pub walk_complete : (f : ℕ) (mode : Mode) (n : ℕ) (es : Entries) (s : Slice) → n < f → DictTree mode n es s
+      → walk f mode n s ≡ Ok es
   walk_complete zero mode n es s lt d = absurd (omega (arith, lt))
   walk_complete (suc f) mode n es s lt (one _ _ _ _ k c same len label refs) =
       let got = label_complete mode n s.bits k c.bits label in
@@ -50,7 +52,8 @@ mutual
       (bind_on (inside (p ++ 1 ∷ []) (branch (walk f mode) mode m o)) _ (under (p ++ 1 ∷ []) os) (Ok (fork p zs os)) (ap (inside (p ++ 1 ∷ [])) eo) refl)
       ∙ ap Ok (sym same))
 
-  pub branch_complete : (f : ℕ) (mode : Mode) (m : ℕ) (es : Entries) (c : Tree) → m < f → Branch mode m es c → branch (walk f mode) mode m c ≡ Ok es
+  pub branch_complete : (f : ℕ) (mode : Mode) (m : ℕ) (es : Entries) (c : Tree) → m < f → Branch mode m es c
+      → branch (walk f mode) mode m c ≡ Ok es
   branch_complete f mode m es c lt (open_edge _ _ _ _ s same d) =
       open_branches (walk f mode) mode m c s same ∙ walk_complete f mode m es s lt d
   branch_complete f mode m es c lt (hidden_edge _ _ _ _ h u same) =

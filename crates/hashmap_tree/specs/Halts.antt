@@ -1,10 +1,10 @@
--- Where a walk stops: the first fault of a content in preorder; at one edge its cell, its label, its references, its end.
-use Rattle.std.specs.Prelude.{◌≡◌, ◌≢◌, ◌⊎◌, ℕ, suc, ◌+◌, ◌<◌, List, [], ◌∷◌, ◌++◌, length, Option, None, Err}
+-- Where a walk stops: the first fault of a content in preorder; at one edge its cell, its label, its references, and
+-- its end.
+use Rattle.std.specs.Prelude.{◌≡◌, ◌≢◌, ◌⊎◌, ℕ, suc, ◌+◌, ◌<◌, List, [], ◌∷◌, ◌++◌, length, None}
 use Rattle.cell_nodes.specs.declared.tree.Kind.TheVariants.{Ordinary}
 use Rattle.cell_nodes.specs.declared.tree.Mode.{Mode}
 use Rattle.cell_nodes.specs.declared.tree.Tree.{Tree, out-Tree}
 use Rattle.hashmap_labels.specs.Labels.{IsLabel, EndsEarly, IsTooLong, HasOtherForm}
-use Rattle.hashmap_labels.specs.declared.forms.Forms.{Forms}
 use Rattle.hashmap_labels.specs.declared.forms.Forms.TheVariants.{Required}
 use Rattle.hashmap_tree.specs.Dict.{Branch, forms_of, unseen}
 use Rattle.hashmap_tree.specs.Entries.{Slice, cell_of, Entries}

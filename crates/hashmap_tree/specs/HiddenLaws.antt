@@ -6,9 +6,9 @@ use Rattle.std.proofs.Math.Seq.{take-add}
 use Rattle.bit_slice.specs.BitLists.{AreBits-take, AreBits-drop, spelled-number_of}
 use Rattle.bit_slice.specs.Bits.{AreBits, groups, number_of, spelled}
 use Rattle.cell_nodes.specs.Equations.{tree_of-out, marks-out}
-use Rattle.cell_nodes.specs.Good.{IsGood, good, IsSound}
+use Rattle.cell_nodes.specs.Good.{IsGood, good}
 use Rattle.cell_nodes.specs.HiddenParts.{hidden_by}
-use Rattle.cell_nodes.specs.Layout.{byte_of, has_layout, pair_count, stored_depth, stored_hash, stored_mask}
+use Rattle.cell_nodes.specs.Layout.{has_layout, pair_count, stored_depth, stored_hash, stored_mask}
 use Rattle.cell_nodes.specs.LayoutLaws.{IsPrunedLayout, pruned_layout}
 use Rattle.cell_nodes.specs.Tree.{Marks, tree_of, marks, mask, mask_of}
 use Rattle.cell_nodes.specs.Levels.{set_bits}
@@ -22,7 +22,8 @@ use Rattle.hashmap_tree.specs.Dict.{unseen}
 
 -- ---- bits by the numbers of their parts
 
-number-same : (n : ℕ) (a b : List ℕ) → AreBits a → AreBits b → n ≤ length a → n ≤ length b → number_of (take n a) ≡ number_of (take n b) → take n a ≡ take n b
+number-same : (n : ℕ) (a b : List ℕ) → AreBits a → AreBits b → n ≤ length a → n ≤ length b
+    → number_of (take n a) ≡ number_of (take n b) → take n a ≡ take n b
 number-same n a b ha hb la lb e =
     let p : length (take n a) ≡ n = length-take-le n a la in
     let q : length (take n b) ≡ n = length-take-le n b lb in
@@ -37,7 +38,8 @@ rest-groups : List ℕ → List ℕ
 rest-groups [] = []
 rest-groups (x ∷ xs) = xs
 
-groups-same : (k : ℕ) (a b : List ℕ) → AreBits a → AreBits b → 8 * k ≤ length a → 8 * k ≤ length b → groups 8 k a ≡ groups 8 k b → take (8 * k) a ≡ take (8 * k) b
+groups-same : (k : ℕ) (a b : List ℕ) → AreBits a → AreBits b → 8 * k ≤ length a → 8 * k ≤ length b
+    → groups 8 k a ≡ groups 8 k b → take (8 * k) a ≡ take (8 * k) b
 unfolding groups first-group rest-groups
 groups-same zero a b ha hb la lb e = refl
 groups-same (suc k) a b ha hb la lb e =
@@ -52,7 +54,8 @@ groups-same (suc k) a b ha hb la lb e =
 parts-same : (n : ℕ) (a b : List ℕ) → take n a ≡ take n b → drop n a ≡ drop n b → a ≡ b
 parts-same n a b e f = sym (take-append-drop n a) ∙ (λ i. e i ++ f i) ∙ take-append-drop n b
 
-drop-parts : (n m : ℕ) (a b : List ℕ) → take m (drop n a) ≡ take m (drop n b) → drop (n + m) a ≡ drop (n + m) b → drop n a ≡ drop n b
+drop-parts : (n m : ℕ) (a b : List ℕ) → take m (drop n a) ≡ take m (drop n b) → drop (n + m) a ≡ drop (n + m) b
+    → drop n a ≡ drop n b
 drop-parts n m a b e f = parts-same m (drop n a) (drop n b) e (drop-drop m n a ∙ f ∙ sym (drop-drop m n b))
 
 -- ---- a cell that hides a part
@@ -74,7 +77,8 @@ hidden_by-parts Proof bits m h e = cc
 hidden_by-parts Update bits m h e = cc
 hidden_by-parts Pruned bits m h e = go (nat_eq m 1) refl e
   where
-    go : (b : Bool) → nat_eq m 1 ≡ b → cond {A = Option Hidden} b (Some (record { hash = stored_hash 0 bits; depth = stored_depth 0 bits })) None ≡ Some h
+    go : (b : Bool) → nat_eq m 1 ≡ b
+        → cond {A = Option Hidden} b (Some (record { hash = stored_hash 0 bits; depth = stored_depth 0 bits })) None ≡ Some h
         → (Pruned ≡ Pruned) × (m ≡ 1) × (stored_hash 0 bits ≡ h.hash) × (stored_depth 0 bits ≡ h.depth)
     go false f e = cc
     go true f e =
@@ -97,7 +101,8 @@ one-pair : pair_count 1 ≡ 1
 unfolding set_bits
 one-pair = refl
 
-layout-of : (c : Tree) (h : Hidden) → IsGood c → Hides c h → IsPrunedLayout (out-Tree c).bits (length (out-Tree c).children)
+layout-of : (c : Tree) (h : Hidden) → IsGood c → Hides c h
+    → IsPrunedLayout (out-Tree c).bits (length (out-Tree c).children)
 layout-of c h (good _ w all) g =
     let P : Kind → Type 0 = λ k. IsTrue (has_layout k (out-Tree c).bits (length (out-Tree c).children)) in
     pruned_layout (out-Tree c).bits (length (out-Tree c).children) (subst P g.kind w.layout)
@@ -151,7 +156,8 @@ no-children : (ts : List Tree) → length ts ≡ 0 → ts ≡ []
 no-children [] e = refl
 no-children (t ∷ ts) e = absurd (omega (arith, e))
 
-pub hidden_once : (mode : Mode) (c d : Tree) (h : Hidden) → IsGood c → IsGood d → unseen mode c ≡ Some h → unseen mode d ≡ Some h → c ≡ d
+pub hidden_once : (mode : Mode) (c d : Tree) (h : Hidden) → IsGood c → IsGood d → unseen mode c ≡ Some h
+    → unseen mode d ≡ Some h → c ≡ d
 hidden_once mode c d h gc gd u v =
     let p = hides-of mode c h u in
     let q = hides-of mode d h v in

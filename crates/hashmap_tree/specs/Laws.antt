@@ -1,5 +1,5 @@
 -- What the laws say: facts about the definitions alone.
-use Rattle.std.specs.Prelude.{◌≡◌, ◌⊎◌, ◌↔◌, ℕ, Bool, List, [], ◌∷◌}
+use Rattle.std.specs.Prelude.{◌≡◌, ◌⊎◌, ℕ, Bool, List, [], ◌∷◌}
 use Rattle.cell_nodes.specs.Good.{AllGood}
 use Rattle.cell_nodes.specs.declared.tree.Mode.{Mode}
 use Rattle.hashmap_labels.specs.declared.forms.Forms.TheVariants.{Required}

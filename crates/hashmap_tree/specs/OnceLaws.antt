@@ -1,26 +1,26 @@
 -- A content has one list of entries, and entries have one content.
-use Rattle.std.proofs.Common.{◌≡◌, ◌⊎◌, ℕ, ◌+◌, Bool, true, false, cond, List, [], ◌∷◌, ◌++◌, length, Option, Some, None, Ok, refl, sym, ap, ◌∙◌, subst, arith, nat_eq, length-append}
+use Rattle.std.proofs.Common.{◌≡◌, ℕ, ◌+◌, true, false, cond, List, [], ◌∷◌, ◌++◌, length, Option, Some, None, Ok, refl, sym, ap, ◌∙◌, subst, arith, nat_eq, length-append}
 use Rattle.std.proofs.lemmas.List.{append-nil}
 use Rattle.std.proofs.lemmas.Bool.{eq-eqb}
-use Rattle.cell_nodes.specs.Good.{IsGood, good, AllGood, none, more}
+use Rattle.cell_nodes.specs.Good.{IsGood, good, AllGood, more}
 use Rattle.cell_nodes.specs.declared.tree.Hidden.{Hidden}
 use Rattle.cell_nodes.specs.declared.tree.Mode.{Mode}
-use Rattle.cell_nodes.specs.declared.tree.Tree.{Tree, out-Tree}
+use Rattle.cell_nodes.specs.declared.tree.Tree.{Tree}
 use Rattle.hashmap_labels.specs.Labels.{IsLabel}
 use Rattle.hashmap_labels.specs.SpellingLaws.{one_spelling}
 use Rattle.hashmap_labels.specs.declared.forms.Forms.{Forms}
 use Rattle.hashmap_labels.specs.declared.forms.Forms.TheVariants.{Required}
 use Rattle.hashmap_tree.specs.CellLaws.{content-cell_of}
 use Rattle.hashmap_tree.specs.CompleteLaws.{walk_complete}
-use Rattle.hashmap_tree.specs.Dict.{forms_of, unseen, DictTree, one, two, Branch, open_edge, hidden_edge}
+use Rattle.hashmap_tree.specs.Dict.{forms_of, DictTree, one, two, Branch, open_edge, hidden_edge}
 use Rattle.hashmap_tree.specs.Entries.{Slice, content, cell_of, Part, leaf, hidden, Entries, under, fork}
 use Rattle.hashmap_tree.specs.HiddenLaws.{hidden_once}
 use Rattle.hashmap_tree.specs.StepLaws.{ok_one}
-use Rattle.hashmap_tree.specs.Walk.{walk}
 
 -- ---- one list of entries, in each mode
 
-pub entries_once : (mode : Mode) (n : ℕ) (es fs : Entries) (s : Slice) → DictTree mode n es s → DictTree mode n fs s → es ≡ fs
+pub entries_once : (mode : Mode) (n : ℕ) (es fs : Entries) (s : Slice) → DictTree mode n es s → DictTree mode n fs s
+    → es ≡ fs
 entries_once mode n es fs s a b =
     ok_one es fs (Ok es) (sym (walk_complete (n + 1) mode n es s (omega arith) a) ∙ walk_complete (n + 1) mode n fs s (omega arith) b)
 
@@ -68,7 +68,8 @@ unfolding without
 without-prefix [] k = refl
 without-prefix (x ∷ p) k = ap (λ t. cond t (without p (p ++ k)) None) (same_head x) ∙ without-prefix p k
 
-without-other : (p : List ℕ) (a b : ℕ) (k : List ℕ) → nat_eq a b ≡ false → without (p ++ a ∷ []) (p ++ b ∷ [] ++ k) ≡ None
+without-other : (p : List ℕ) (a b : ℕ) (k : List ℕ) → nat_eq a b ≡ false
+    → without (p ++ a ∷ []) (p ++ b ∷ [] ++ k) ≡ None
 unfolding without
 without-other [] a b k h = ap (λ t. cond t (Some k) None) h
 without-other (x ∷ p) a b k h = ap (λ t. cond t (without (p ++ a ∷ []) (p ++ b ∷ [] ++ k)) None) (same_head x) ∙ without-other p a b k h
@@ -78,7 +79,8 @@ unfolding side kept
 side-same p [] rest = refl
 side-same p (e ∷ es) rest = (λ i. kept (without-prefix p e.0 i) e.1 (side-same p es rest i))
 
-side-other : (p : List ℕ) (a b : ℕ) (es rest : Entries) → nat_eq a b ≡ false → side (p ++ a ∷ []) (under (p ++ b ∷ []) es ++ rest) ≡ side (p ++ a ∷ []) rest
+side-other : (p : List ℕ) (a b : ℕ) (es rest : Entries) → nat_eq a b ≡ false
+    → side (p ++ a ∷ []) (under (p ++ b ∷ []) es ++ rest) ≡ side (p ++ a ∷ []) rest
 unfolding side kept
 side-other p a b [] rest h = refl
 side-other p a b (e ∷ es) rest h = (λ i. kept (without-other p a b e.0 h i) e.1 (side-other p a b es rest h i))
@@ -105,7 +107,8 @@ side-one p zs os =
 abbrev pub Some_entry : Entries → Type 0
 Some_entry es = (e : List ℕ × Part) × (fs : Entries) × (es ≡ e ∷ fs)
 
-last-append : (k : List ℕ) (ds : Entries) (q : List ℕ) (e : List ℕ × Part) (es : Entries) → (r : List ℕ) × (last_key k (ds ++ under q (e ∷ es)) ≡ q ++ r)
+last-append : (k : List ℕ) (ds : Entries) (q : List ℕ) (e : List ℕ × Part) (es : Entries)
+    → (r : List ℕ) × (last_key k (ds ++ under q (e ∷ es)) ≡ q ++ r)
 unfolding last_key
 last-append k [] q e [] = (e.0, refl)
 last-append k [] q e (f ∷ es) = last-append (q ++ e.0) [] q f es
@@ -134,7 +137,8 @@ mutual
   some_below mode m es t (hidden_edge _ _ _ _ h u same) = (_, [], same)
 
 -- a fork has two entries
-two_entries : (p : List ℕ) (zs os : Entries) (e : List ℕ × Part) → Some_entry zs → Some_entry os → fork p zs os ≡ e ∷ [] → ⊥
+two_entries : (p : List ℕ) (zs os : Entries) (e : List ℕ × Part) → Some_entry zs → Some_entry os
+    → fork p zs os ≡ e ∷ [] → ⊥
 two_entries p zs os e z o h =
     let shape : fork p zs os ≡ fork p (z.0 ∷ z.1) (o.0 ∷ o.1) = λ i. fork p (z.2 i) (o.2 i) in
     let l : length (fork p (z.0 ∷ z.1) (o.0 ∷ o.1)) ≡ 1 = ap length (sym shape ∙ h) in
@@ -149,7 +153,8 @@ first_held : Slice → Entries → Slice
 first_held d [] = d
 first_held d (e ∷ es) = held d e.1
 
-parts : (k k2 : List ℕ) (c c2 : Slice) → (◌≡◌ {A = Entries} ((k, leaf c) ∷ []) ((k2, leaf c2) ∷ [])) → (k ≡ k2) × (c ≡ c2)
+parts : (k k2 : List ℕ) (c c2 : Slice) → (◌≡◌ {A = Entries} ((k, leaf c) ∷ []) ((k2, leaf c2) ∷ []))
+    → (k ≡ k2) × (c ≡ c2)
 unfolding first_key first_held held
 parts k k2 c c2 e = (ap first_key e, ap (first_held c) e)
 
@@ -162,13 +167,15 @@ first_concealed [] = None
 first_concealed (e ∷ es) = concealed e.1
 
 -- a hidden part alone has no content
-hidden-no_tree : (mode : Mode) (m : ℕ) (es : Entries) (s : Slice) (h : Hidden) → es ≡ ([], hidden h) ∷ [] → DictTree mode m es s → ⊥
+hidden-no_tree : (mode : Mode) (m : ℕ) (es : Entries) (s : Slice) (h : Hidden) → es ≡ ([], hidden h) ∷ []
+    → DictTree mode m es s → ⊥
 unfolding first_concealed concealed
 hidden-no_tree mode m es s h e (one _ _ _ _ k c same len l r) = let f = ap first_concealed (sym same ∙ e) in cc
 hidden-no_tree mode m es s h e (two _ _ _ _ p k zs os z o same len l r dz do_) =
     two_entries p zs os ([], hidden h) (some_below mode k zs z dz) (some_below mode k os o do_) (sym same ∙ e)
 
-same-hidden : (h k : Hidden) → (◌≡◌ {A = Entries} (([], hidden h) ∷ []) (([], hidden k) ∷ [])) → (◌≡◌ {A = Option Hidden} (Some h) (Some k))
+same-hidden : (h k : Hidden) → (◌≡◌ {A = Entries} (([], hidden h) ∷ []) (([], hidden k) ∷ []))
+    → (◌≡◌ {A = Option Hidden} (Some h) (Some k))
 unfolding first_concealed concealed
 same-hidden h k e = ap first_concealed e
 
@@ -186,13 +193,15 @@ good-both refs z o e g = let P : List Tree → Type 0 = λ ts. AllGood ts in go 
     go : AllGood (z ∷ (o ∷ [])) → IsGood z × IsGood o
     go (more _ _ a rest) = (a, last rest)
 
-label_once : (mode : Mode) → forms_of mode ≡ Required → (n : ℕ) (bits s t rest : List ℕ) → IsLabel (forms_of mode) n bits s rest → IsLabel (forms_of mode) n bits t rest → s ≡ t
+label_once : (mode : Mode) → forms_of mode ≡ Required → (n : ℕ) (bits s t rest : List ℕ)
+    → IsLabel (forms_of mode) n bits s rest → IsLabel (forms_of mode) n bits t rest → s ≡ t
 label_once mode w n bits s t rest a b =
     let P : List ℕ → Forms → Type 0 = λ x f. IsLabel f n bits x rest in
     one_spelling n bits s t rest (subst (P s) w a) (subst (P t) w b)
 
 mutual
-  pub tree_once : (mode : Mode) → forms_of mode ≡ Required → (n : ℕ) (es : Entries) (s t : Slice) → AllGood s.refs → AllGood t.refs → DictTree mode n es s → DictTree mode n es t → s ≡ t
+  pub tree_once : (mode : Mode) → forms_of mode ≡ Required → (n : ℕ) (es : Entries) (s t : Slice) → AllGood s.refs
+      → AllGood t.refs → DictTree mode n es s → DictTree mode n es t → s ≡ t
   tree_once mode w n es s t gs gt (one _ _ _ _ k c same len l r) (one _ _ _ _ k2 c2 same2 len2 l2 r2) =
       let e : (◌≡◌ {A = Entries} ((k, leaf c) ∷ []) ((k2, leaf c2) ∷ [])) = sym same ∙ same2 in
       let q = parts k k2 c c2 e in
@@ -226,7 +235,8 @@ mutual
       let refs : s.refs ≡ t.refs = r ∙ (λ i. left i ∷ (right i ∷ [])) ∙ sym r2 in
       λ i. record { bits = bits i; refs = refs i }
 
-  pub branch_once : (mode : Mode) → forms_of mode ≡ Required → (m : ℕ) (es : Entries) (t u : Tree) → IsGood t → IsGood u → Branch mode m es t → Branch mode m es u → t ≡ u
+  pub branch_once : (mode : Mode) → forms_of mode ≡ Required → (m : ℕ) (es : Entries) (t u : Tree) → IsGood t
+      → IsGood u → Branch mode m es t → Branch mode m es u → t ≡ u
   branch_once mode w m es t u gt gu (open_edge _ _ _ _ s same d) (open_edge _ _ _ _ s2 same2 d2) =
       same ∙ ap cell_of (tree_once mode w m es s s2 (good-content t s same gt) (good-content u s2 same2 gu) d d2) ∙ sym same2
   branch_once mode w m es t u gt gu (hidden_edge _ _ _ _ h un same) (open_edge _ _ _ _ s2 same2 d2) = absurd (hidden-no_tree mode m es s2 h same d2)

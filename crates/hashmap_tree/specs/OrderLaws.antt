@@ -32,12 +32,14 @@ under-nil [] = refl
 under-nil (e ∷ es) = ap (λ l. e ∷ l) (under-nil es)
 
 -- a label in its required form is one in each mode
-label_in : (mode : Mode) (n : ℕ) (bits s rest : List ℕ) → IsLabel Required n bits s rest → IsLabel (forms_of mode) n bits s rest
+label_in : (mode : Mode) (n : ℕ) (bits s rest : List ℕ) → IsLabel Required n bits s rest
+    → IsLabel (forms_of mode) n bits s rest
 label_in Whole n bits s rest h = h
 label_in Partial n bits s rest h = h
 label_in Lax n bits s rest h = (h.0, h.1, tt, h.3)
 
-label_of : (mode : Mode) (n : ℕ) (bits rest : List ℕ) → AreBits bits → length bits ≤ n → (s : List ℕ) × IsLabel (forms_of mode) n bits s rest
+label_of : (mode : Mode) (n : ℕ) (bits rest : List ℕ) → AreBits bits → length bits ≤ n
+    → (s : List ℕ) × IsLabel (forms_of mode) n bits s rest
 label_of mode n bits rest h l = let r = has_spelling n bits rest h l in (r.0, label_in mode n bits r.0 rest r.1)
 
 -- after any bits of a label that is not at its end
@@ -62,7 +64,8 @@ branch_of mode n es g =
     let zero_n : 0 + n ≡ n = omega arith in
     (cell_of r.0, open_edge mode n es (cell_of r.0) r.0 refl (subst Q zero_n (subst R (under-nil es) r.1)))
 
-both : (mode : Mode) (n : ℕ) (zs os : Entries) → Grows mode n zs → Grows mode n os → Grows mode (suc n) (under (0 ∷ []) zs ++ under (1 ∷ []) os)
+both : (mode : Mode) (n : ℕ) (zs os : Entries) → Grows mode n zs → Grows mode n os
+    → Grows mode (suc n) (under (0 ∷ []) zs ++ under (1 ∷ []) os)
 unfolding Grows
 both mode n zs os g h q bits =
     let z = branch_of mode n zs g in
@@ -82,7 +85,8 @@ grows mode zero es p q bits =
     (s, one mode (length q + 0) _ s (q ++ []) c (ap (under q) p.1) e l.1 refl)
 grows mode (suc n) es p q bits = go p.3 (grows mode n) q bits
   where
-    go : (((p.0 ≡ []) × Planned n p.1) ⊎ (((p.1 ≡ []) × Planned n p.0) ⊎ (Planned n p.0 × Planned n p.1))) → ((es : Entries) → Planned n es → Grows mode n es) → Grows mode (suc n) es
+    go : (((p.0 ≡ []) × Planned n p.1) ⊎ (((p.1 ≡ []) × Planned n p.0) ⊎ (Planned n p.0 × Planned n p.1)))
+        → ((es : Entries) → Planned n es → Grows mode n es) → Grows mode (suc n) es
     go (inl h) ih = subst (λ (es : Entries). Grows mode (suc n) es) (sym (p.2 ∙ ap (λ zs. under (0 ∷ []) zs ++ under (1 ∷ []) p.1) h.0)) (along mode n 1 p.1 (lit< tt) (ih p.1 h.1))
     go (inr (inl h)) ih = subst (λ (es : Entries). Grows mode (suc n) es) (sym (p.2 ∙ ap (λ os. under (0 ∷ []) p.0 ++ under (1 ∷ []) os) h.0 ∙ append-nil (under (0 ∷ []) p.0))) (along mode n 0 p.0 (lit< tt) (ih p.0 h.1))
     go (inr (inr h)) ih = subst (λ (es : Entries). Grows mode (suc n) es) (sym p.2) (both mode n p.0 p.1 (ih p.0 h.0) (ih p.1 h.1))
@@ -95,19 +99,22 @@ Cut n x xs =
     ⊎ ((k : List ℕ) × (os : List (List ℕ × Slice)) × (x.0 ≡ 1 ∷ k) × (leaves (x ∷ xs) ≡ under (1 ∷ []) (leaves ((k, x.1) ∷ os))) × InOrder n ((k, x.1) ∷ os))
 
 -- a key of one bit more
-head_bit : (n : ℕ) (k : List ℕ) → length k ≡ suc n → AreBits k → ((t : List ℕ) × (k ≡ 0 ∷ t) × (length t ≡ n) × AreBits t) ⊎ ((t : List ℕ) × (k ≡ 1 ∷ t) × (length t ≡ n) × AreBits t)
+head_bit : (n : ℕ) (k : List ℕ) → length k ≡ suc n → AreBits k
+    → ((t : List ℕ) × (k ≡ 0 ∷ t) × (length t ≡ n) × AreBits t) ⊎ ((t : List ℕ) × (k ≡ 1 ∷ t) × (length t ≡ n) × AreBits t)
 head_bit n [] l b = absurd (omega (arith, l))
 head_bit n (zero ∷ t) l b = inl (t, refl, omega (arith, l), b.1)
 head_bit n (suc zero ∷ t) l b = inr (t, refl, omega (arith, l), b.1)
 head_bit n (suc (suc c) ∷ t) l b = let h = b.0 in absurd (omega (arith, h))
 
-one_leaf : (k : List ℕ) (x : List ℕ × Slice) (b : ℕ) (ws : Entries) (rest : Entries) → x.0 ≡ b ∷ k → ws ≡ rest → (◌≡◌ {A = Entries} ((x.0, leaf x.1) ∷ ws) ((b ∷ k, leaf x.1) ∷ rest))
+one_leaf : (k : List ℕ) (x : List ℕ × Slice) (b : ℕ) (ws : Entries) (rest : Entries) → x.0 ≡ b ∷ k → ws ≡ rest
+    → (◌≡◌ {A = Entries} ((x.0, leaf x.1) ∷ ws) ((b ∷ k, leaf x.1) ∷ rest))
 one_leaf k x b ws rest e f = λ i. (e i, leaf x.1) ∷ f i
 
 cut : (n : ℕ) (x : List ℕ × Slice) (xs : List (List ℕ × Slice)) → InOrder (suc n) (x ∷ xs) → Cut n x xs
 cut n x [] o = go (head_bit n x.0 o.0 o.1)
   where
-    go : ((t : List ℕ) × (x.0 ≡ 0 ∷ t) × (length t ≡ n) × AreBits t) ⊎ ((t : List ℕ) × (x.0 ≡ 1 ∷ t) × (length t ≡ n) × AreBits t) → Cut n x []
+    go : ((t : List ℕ) × (x.0 ≡ 0 ∷ t) × (length t ≡ n) × AreBits t) ⊎ ((t : List ℕ) × (x.0 ≡ 1 ∷ t) × (length t ≡ n) × AreBits t)
+        → Cut n x []
     go (inl h) = inl (h.0, [], [], h.1, one_leaf h.0 x 0 [] [] h.1 refl, (h.2, h.3), tt)
     go (inr h) = inr (h.0, [], h.1, one_leaf h.0 x 1 [] [] h.1 refl, (h.2, h.3))
 cut n x (y ∷ ys) o = go (head_bit n x.0 o.0 o.1) (cut n y ys o.3)
@@ -126,7 +133,8 @@ cut n x (y ∷ ys) o = go (head_bit n x.0 o.0 o.1) (cut n y ys o.3)
     never k l (inl h) = absurd (omega (arith, h))
     never k l (inr h) = let e = h.0 in absurd (omega (arith, e))
 
-    go : ((t : List ℕ) × (x.0 ≡ 0 ∷ t) × (length t ≡ n) × AreBits t) ⊎ ((t : List ℕ) × (x.0 ≡ 1 ∷ t) × (length t ≡ n) × AreBits t) → Cut n y ys → Cut n x (y ∷ ys)
+    go : ((t : List ℕ) × (x.0 ≡ 0 ∷ t) × (length t ≡ n) × AreBits t) ⊎ ((t : List ℕ) × (x.0 ≡ 1 ∷ t) × (length t ≡ n) × AreBits t)
+        → Cut n y ys → Cut n x (y ∷ ys)
     go (inl h) (inl r) = inl (h.0, (r.0, y.1) ∷ r.1, r.2, h.1, one_leaf h.0 x 0 _ _ h.1 r.4, (h.2, h.3, same_bit 0 h.0 r.0 (down 0 0 h.0 r.0 h.1 r.3), r.5), r.6)
     go (inl h) (inr r) = inl (h.0, [], (r.0, y.1) ∷ r.1, h.1, one_leaf h.0 x 0 _ _ h.1 r.3, (h.2, h.3), r.4)
     go (inr h) (inl r) = never h.0 r.0 (down 1 0 h.0 r.0 h.1 r.3)
@@ -144,7 +152,9 @@ planned zero x [] o = (x.1, one_key x.0 (no_bits x.0 o.0))
 planned zero x (y ∷ ys) o = let P : List ℕ → Type 0 = λ a. Before a y.0 in absurd (subst P (no_bits x.0 o.0) o.2)
 planned (suc n) x xs o = go (cut n x xs o) (planned n)
   where
-    go : Cut n x xs → ((x : List ℕ × Slice) (xs : List (List ℕ × Slice)) → InOrder n (x ∷ xs) → Planned n (leaves (x ∷ xs))) → Planned (suc n) (leaves (x ∷ xs))
+    go : Cut n x xs
+        → ((x : List ℕ × Slice) (xs : List (List ℕ × Slice)) → InOrder n (x ∷ xs) → Planned n (leaves (x ∷ xs)))
+        → Planned (suc n) (leaves (x ∷ xs))
     go (inr r) ih = ([], leaves ((r.0, x.1) ∷ r.1), r.3, inl (refl, ih (r.0, x.1) r.1 r.4))
     go (inl r) ih = (leaves ((r.0, x.1) ∷ r.1), leaves r.2, r.4, ends r.2 r.6)
       where
@@ -153,7 +163,8 @@ planned (suc n) x xs o = go (cut n x xs o) (planned n)
         ends [] b = inr (inl (refl, ih (r.0, x.1) r.1 r.5))
         ends (y ∷ ys) b = inr (inr (ih (r.0, x.1) r.1 r.5, ih y ys b))
 
-pub has_tree : (mode : Mode) (n : ℕ) (x : List ℕ × Slice) (xs : List (List ℕ × Slice)) → InOrder n (x ∷ xs) → (s : Slice) × DictTree mode n (leaves (x ∷ xs)) s
+pub has_tree : (mode : Mode) (n : ℕ) (x : List ℕ × Slice) (xs : List (List ℕ × Slice)) → InOrder n (x ∷ xs)
+    → (s : Slice) × DictTree mode n (leaves (x ∷ xs)) s
 unfolding Grows
 has_tree mode n x xs o =
     let r = grows mode n (leaves (x ∷ xs)) (planned n x xs o) [] tt in

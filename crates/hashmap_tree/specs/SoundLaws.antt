@@ -9,7 +9,7 @@ use Rattle.hashmap_labels.specs.Labels.{IsLabel}
 use Rattle.hashmap_labels.specs.Reading.{read_label}
 use Rattle.hashmap_tree.specs.CellLaws.{label_sound, ordinary_cell}
 use Rattle.hashmap_labels.specs.declared.labels.LabelError.{LabelError}
-use Rattle.hashmap_tree.specs.Entries.{Slice, content, leaf, hidden, Entries, under, fork}
+use Rattle.hashmap_tree.specs.Entries.{Slice, content, leaf, Entries, under, fork}
 use Rattle.hashmap_tree.specs.Dict.{forms_of, unseen, DictTree, one, two, Branch, open_edge, hidden_edge}
 use Rattle.hashmap_tree.specs.Walk.{Fault, as_fault, inside, Walker, open_branch, branch_of, branch, branches, forks, at_label, walk}
 use Rattle.cell_nodes.specs.declared.tree.Mode.{Mode}
@@ -18,11 +18,13 @@ use Rattle.hashmap_tree.specs.StepLaws.{bind_ok, ok_one}
 abbrev pub IsSound : Mode → ℕ → Walker → Type 0
 IsSound mode top W = (m : ℕ) (s : Slice) (es : Entries) → m < top → W m s ≡ Ok es → DictTree mode m es s
 
-inside_ok : (p : List ℕ) (r : Result Entries Fault) (x : Entries) → inside p r ≡ Ok x → (es : Entries) × (r ≡ Ok es) × (under p es ≡ x)
+inside_ok : (p : List ℕ) (r : Result Entries Fault) (x : Entries) → inside p r ≡ Ok x
+    → (es : Entries) × (r ≡ Ok es) × (under p es ≡ x)
 inside_ok p (Ok es) x e = (es, refl, ok_one _ _ (Ok x) e)
 inside_ok p (Err f) x e = cc
 
-open_sound : (mode : Mode) (top : ℕ) (W : Walker) → IsSound mode top W → (m : ℕ) (c : Tree) (es : Entries) → m < top → open_branch W m (out-Tree c).kind (content c) ≡ Ok es → Branch mode m es c
+open_sound : (mode : Mode) (top : ℕ) (W : Walker) → IsSound mode top W → (m : ℕ) (c : Tree) (es : Entries) → m < top
+    → open_branch W m (out-Tree c).kind (content c) ≡ Ok es → Branch mode m es c
 open_sound mode top W sound m c es lt e = go (out-Tree c).kind refl e
   where
     go : (k : Kind) → (out-Tree c).kind ≡ k → open_branch W m k (content c) ≡ Ok es → Branch mode m es c
@@ -32,14 +34,17 @@ open_sound mode top W sound m c es lt e = go (out-Tree c).kind refl e
     go Proof k e = cc
     go Update k e = cc
 
-pub branch_sound : (mode : Mode) (top : ℕ) (W : Walker) → IsSound mode top W → (m : ℕ) (c : Tree) (es : Entries) → m < top → branch W mode m c ≡ Ok es → Branch mode m es c
+pub branch_sound : (mode : Mode) (top : ℕ) (W : Walker) → IsSound mode top W → (m : ℕ) (c : Tree) (es : Entries)
+    → m < top → branch W mode m c ≡ Ok es → Branch mode m es c
 branch_sound mode top W sound m c es lt e = go (unseen mode c) refl e
   where
-    go : (h : Option Hidden) → unseen mode c ≡ h → branch_of W m h (out-Tree c).kind (content c) ≡ Ok es → Branch mode m es c
+    go : (h : Option Hidden) → unseen mode c ≡ h → branch_of W m h (out-Tree c).kind (content c) ≡ Ok es
+        → Branch mode m es c
     go (Some h) u e = hidden_edge mode m es c h u (sym (ok_one _ _ (Ok es) e))
     go None u e = open_sound mode top W sound m c es lt e
 
-pub branches_sound : (mode : Mode) (top : ℕ) (W : Walker) → IsSound mode top W → (m : ℕ) (p : List ℕ) (z o : Tree) (es : Entries) → m < top → branches W mode m p z o ≡ Ok es
+pub branches_sound : (mode : Mode) (top : ℕ) (W : Walker) → IsSound mode top W
+    → (m : ℕ) (p : List ℕ) (z o : Tree) (es : Entries) → m < top → branches W mode m p z o ≡ Ok es
     → (zs : Entries) × (os : Entries) × (es ≡ fork p zs os) × Branch mode m zs z × Branch mode m os o
 branches_sound mode top W sound m p z o es lt e =
     let a = bind_ok (inside (p ++ 0 ∷ []) (branch W mode m z)) _ es e in
@@ -52,7 +57,9 @@ branches_sound mode top W sound m p z o es lt e =
 abbrev Forks : Mode → ℕ → List ℕ → List ℕ → List Tree → Entries → Type 0
 Forks mode m p bits refs es = (zs : Entries) × (os : Entries) × (z : Tree) × (o : Tree) × (es ≡ fork p zs os) × (bits ≡ []) × (refs ≡ z ∷ (o ∷ [])) × Branch mode m zs z × Branch mode m os o
 
-forks_sound : (mode : Mode) (top : ℕ) (W : Walker) → IsSound mode top W → (m : ℕ) (p bits : List ℕ) (refs : List Tree) (es : Entries) → m < top → forks W mode m p bits refs ≡ Ok es → Forks mode m p bits refs es
+forks_sound : (mode : Mode) (top : ℕ) (W : Walker) → IsSound mode top W
+    → (m : ℕ) (p bits : List ℕ) (refs : List Tree) (es : Entries) → m < top → forks W mode m p bits refs ≡ Ok es
+    → Forks mode m p bits refs es
 forks_sound mode top W sound m p bits [] es lt e = cc
 forks_sound mode top W sound m p bits (z ∷ []) es lt e = cc
 forks_sound mode top W sound m p [] (z ∷ o ∷ []) es lt e =
@@ -66,10 +73,14 @@ pub label_ok : (r : Result (List ℕ × List ℕ) LabelError) (x : List ℕ × L
 label_ok (Ok a) x e = ap Ok (ok_one _ _ (Ok x) e)
 label_ok (Err f) x e = cc
 
-at_label_sound : (mode : Mode) (f : ℕ) (W : Walker) → IsSound mode f W → (n : ℕ) (p bits : List ℕ) (s : Slice) (es : Entries) → n < suc f → IsLabel (forms_of mode) n p s.bits bits → at_label W mode n p bits s.refs ≡ Ok es → DictTree mode n es s
+at_label_sound : (mode : Mode) (f : ℕ) (W : Walker) → IsSound mode f W
+    → (n : ℕ) (p bits : List ℕ) (s : Slice) (es : Entries) → n < suc f → IsLabel (forms_of mode) n p s.bits bits
+    → at_label W mode n p bits s.refs ≡ Ok es → DictTree mode n es s
 at_label_sound mode f W sound n p bits s es lt l e = go (nat_eq n (length p)) refl e
   where
-    go : (b : Bool) → nat_eq n (length p) ≡ b → cond b (Ok (let x : Entries = (p, leaf (record { bits = bits; refs = s.refs })) ∷ [] in x)) (forks W mode (n - length p - 1) p bits s.refs) ≡ Ok es → DictTree mode n es s
+    go : (b : Bool) → nat_eq n (length p) ≡ b
+        → cond b (Ok (let x : Entries = (p, leaf (record { bits = bits; refs = s.refs })) ∷ [] in x)) (forks W mode (n - length p - 1) p bits s.refs) ≡ Ok es
+        → DictTree mode n es s
     go true h e = one mode n es s p (record { bits = bits; refs = s.refs }) (sym (ok_one _ _ (Ok es) e)) (sym (eqb-true n (length p) h)) l refl
     go false h e =
         let le = l.1 in

@@ -5,7 +5,9 @@ ghost use Rattle.hashmap_tree.specs.First as first;
 ghost use Rattle.hashmap_tree.specs.Top as tops;
 ghost use Rattle.hashmap_tree.specs.Walk as plain;
 
-use crate::edges::{cause_of, empty, hide, joined, label_of, leaf, stuck, stuck_first, unseen, with_bit};
+use crate::edges::{
+    cause_of, empty, hide, joined, label_of, leaf, stuck, stuck_first, unseen, with_bit,
+};
 use crate::found::{Found, Walk, WalkCause, WalkError};
 use bit_slice::{BitSlice, BitString};
 use cell_nodes::{Cell, CellSlice, Kind, Mode, RefSlice};
@@ -22,7 +24,8 @@ fn edge<'a>(
     found: &mut Found<'a>,
 ) -> Result<(), WalkError>
     requires { n ≤ 1023 }
-    ensures { (f : ℕ) → n < suc f → Adds prefix.now found.old found.new result (plain.walk (suc f) mode n (slice_of s.entry)) }
+    ensures { (f : ℕ) → n < suc f
+        → Adds prefix.now found.old found.new result (plain.walk (suc f) mode n (slice_of s.entry)) }
 {
     let CellSlice { bits, refs } = s;
     match label_of(bits, n, mode) {
@@ -51,7 +54,8 @@ fn forks<'a>(
     found: &mut Found<'a>,
 ) -> Result<(), WalkError>
     requires { m ≤ 1023 }
-    ensures { (f : ℕ) (p : List ℕ) → m < f → key.now ≡ prefix.now ++ p → Adds prefix.now found.old found.new result (plain.forks (plain.walk f mode) mode m p rest.entry refs.entry) }
+    ensures { (f : ℕ) (p : List ℕ) → m < f → key.now ≡ prefix.now ++ p
+        → Adds prefix.now found.old found.new result (plain.forks (plain.walk f mode) mode m p rest.entry refs.entry) }
 {
     let Some((zero, refs)) = refs.first() else {
         return Err(stuck(alloc, prefix, WalkCause::ShortRefs));
@@ -78,7 +82,8 @@ fn branches<'a>(
     found: &mut Found<'a>,
 ) -> Result<(), WalkError>
     requires { m ≤ 1023 }
-    ensures { (f : ℕ) (p : List ℕ) → m < f → key.now ≡ prefix.now ++ p → Adds prefix.now found.old found.new result (plain.branches (plain.walk f mode) mode m p zero.now one.now) }
+    ensures { (f : ℕ) (p : List ℕ) → m < f → key.now ≡ prefix.now ++ p
+        → Adds prefix.now found.old found.new result (plain.branches (plain.walk f mode) mode m p zero.now one.now) }
 {
     let left = with_bit(alloc, key, false)?;
     branch(alloc, &left, zero, m, mode, found)?;
@@ -97,7 +102,8 @@ fn branch<'a>(
     found: &mut Found<'a>,
 ) -> Result<(), WalkError>
     requires { m ≤ 1023 }
-    ensures { (f : ℕ) → m < f → Adds prefix.now found.old found.new result (plain.branch (plain.walk f mode) mode m cell.now) }
+    ensures { (f : ℕ) → m < f
+        → Adds prefix.now found.old found.new result (plain.branch (plain.walk f mode) mode m cell.now) }
 {
     match unseen(cell, mode) {
         Some(hidden) => return hide(alloc, prefix, hidden, found),
@@ -113,7 +119,7 @@ fn branch<'a>(
 }
 
 /// Whether bits or references are left.
-#[tactic(auto, using(crate::specs::TopLaws::left_by_bits, crate::specs::TopLaws::left_by_refs, crate::specs::TopLaws::left_by_none))]
+#[tactic(auto, using(crate::specs::TopLaws::left_laws))]
 fn some_left(bits: &BitSlice<'_>, refs: &RefSlice<'_>) -> bool
     ensures { result ≡ tops.some_left bits.now refs.now }
 {
@@ -159,7 +165,9 @@ fn fork_in_place<'a>(
     mode: Mode,
 ) -> Result<Walk<'a>, WalkError>
     requires { m ≤ 1023 }
-    ensures { (f : ℕ) → m < f → GivesWalk result (tops.pair_edge (plain.walk f mode) mode m key.now parts.entry.0.now parts.entry.1.now (slice_of rest.entry)) }
+    ensures { (f : ℕ) → m < f
+        → GivesWalk result
+        (tops.pair_edge (plain.walk f mode) mode m key.now parts.entry.0.now parts.entry.1.now (slice_of rest.entry)) }
 {
     let mut found = Found {
         pairs: Vec::new(alloc),
@@ -187,7 +195,8 @@ fn fork_of<'a>(
     closed: bool,
 ) -> Result<Walk<'a>, WalkError>
     requires { m ≤ 1023 }
-    ensures { (f : ℕ) → m < f → GivesWalk result (tops.top_fork closed (plain.walk f mode) mode m key.now rest.entry refs.entry) }
+    ensures { (f : ℕ) → m < f
+        → GivesWalk result (tops.top_fork closed (plain.walk f mode) mode m key.now rest.entry refs.entry) }
 {
     let Some((zero, refs)) = refs.first() else {
         return Err(stuck_first(alloc, WalkCause::ShortRefs));
@@ -208,8 +217,10 @@ fn fork_of<'a>(
     )
 }
 
-/// The entries of a dictionary with keys of `n` bits, with what is left after it. `closed` says that the slice is the whole
-/// content of a cell.
+/// The entries of a dictionary with keys of `n` bits, with what is left after it. `closed` says that the slice is the
+/// whole content of a cell.
+///
+/// It looks at each cell once and copies the key bits before it, and goes down at most `n + 1` edges by recursion.
 pub fn walk<'a>(
     alloc: Global,
     s: CellSlice<'a>,
