@@ -22,18 +22,6 @@ fn read_again(alloc: Global, file: &[u8]) -> Result<Cell, BagError>
     read_bag(alloc, bag.as_slice())
 }
 
-// How many levels a cell of that mask has, the lowest one besides those up to the highest bit.
-fn levels(mask: u8) -> u32
-    ensures { result ≤ 4 }
-{
-    match mask {
-        0 => 1,
-        1 => 2,
-        2..4 => 3,
-        _ => 4,
-    }
-}
-
 fn main(rt: HostRuntime) -> io::Result<()> {
     let words: Vec<String> = env::args(&rt)?.collect(rt.alloc())?;
     let Some(name) = words.as_slice().last() else {
@@ -43,7 +31,7 @@ fn main(rt: HostRuntime) -> io::Result<()> {
     let Ok(cell) = read_again(rt.alloc(), file.as_slice()) else {
         return println!(rt; "refused");
     };
-    for level in 0..levels(cell.mask()) {
+    for level in 0..cell.level() + 1 {
         print!(rt; "{level} ")?;
         for byte in cell.hash(level) {
             print!(rt; "{byte:02x}")?;

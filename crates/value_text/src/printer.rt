@@ -5,6 +5,7 @@ ghost use Rattle.typed_value.specs.View.{names_in, pair_of, pairs_of, vals_in, v
 ghost use Rattle.value_text.specs.Text.{count_before, entries, fields, hidden_entry, items, separated, text_of, tokens};
 ghost use Rattle.value_text.specs.TextLaws.{first_after, separated_from};
 ghost use Rattle.value_text.specs.Tokens.{written};
+ghost use Rattle.value_text.specs.Writes.{IsWritable, TextWrites};
 
 use crate::cells::{put_cell, put_rest};
 use crate::marks::{
@@ -17,7 +18,8 @@ use typed_value::{Hidden, Value};
 
 /// The text of a value, without white space.
 pub fn print(alloc: Global, shown: &Value) -> Result<Vec<u8>, NoMemory>
-    ensures { IfOk result (λ text. text.items ≡ text_of (value shown.now)) }
+    ensures text { IfOk result (λ text. text.items ≡ text_of (value shown.now)) }
+    ensures writes { IfOk result (λ text. IsWritable (value shown.now) → TextWrites text.items (value shown.now)) }
 {
     let mut text = Vec::new(alloc);
     put_value(alloc, &mut text, shown)?;
