@@ -8,7 +8,7 @@ use Rattle.cell_nodes.specs.declared.tree.Tree.{Tree, out-Tree}
 use Rattle.flat_records.specs.Form.{Declares}
 use Rattle.flat_records.specs.Lexemes.{lexemes}
 use Rattle.flat_records.specs.Spelling.{Reading, Stuck}
-use Rattle.flat_records.specs.Text.{text_of}
+use Rattle.value_text.specs.Text.{text_of}
 use Rattle.flat_records.specs.declared.declaration.Declaration.{Declaration}
 use Rattle.flat_records.specs.declared.read.Cause.{Cause}
 use Rattle.flat_records.specs.declared.read.Spot.{Spot}
@@ -29,7 +29,7 @@ use Rattle.tlb_kinds.specs.Refusals.{refusals}
 use Rattle.tlb_kinds.specs.declared.error.KindError.{KindError}
 use Rattle.tlb_kinds.specs.declared.error.KindError.TheVariants as kinds
 use Rattle.tlb_syntax.specs.Tree.{SchemaView}
-use Rattle.typed_value.specs.Val.{Val}
+use Rattle.typed_value.specs.Values.{Plain}
 
 pub bag-refused : {E : Type 0} (r : Result Answer E) (next : Tree → Verdict → Type 0) (bag : List ℕ) (error : BagError) →
     (error ≢ NoMemory → IsRefused bag error) → IfOk r (λ a. verdict_by a ≡ says BagRefused (codes "refused: bag " ++ bag_cause error)) →
@@ -45,7 +45,7 @@ moved t P bits refs same_bits same_refs told =
     let R : ℕ → Type 0 = λ n. P (out-Tree t).bits n in
     subst R same_refs (subst Q same_bits told)
 
-pub cell-holds : (d : Declaration) (t : Tree) (v : Verdict) (value : Val) (exotic : Bool) (bits : List ℕ) (refs : ℕ) (text : List ℕ) →
+pub cell-holds : (d : Declaration) (t : Tree) (v : Verdict) (value : Plain) (exotic : Bool) (bits : List ℕ) (refs : ℕ) (text : List ℕ) →
     exotic ≡ is_exotic (out-Tree t).kind → exotic ≡ false → bits ≡ (out-Tree t).bits → refs ≡ length (out-Tree t).children →
     Reading d bits refs value → v ≡ says Done text → text ≡ text_of value → OfCell d t v
 cell-holds d t v value exotic bits refs text is other same_bits same_refs reading said same_text =

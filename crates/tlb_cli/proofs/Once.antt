@@ -8,7 +8,7 @@ use Rattle.cell_nodes.specs.declared.tree.Tree.{Tree}
 use Rattle.flat_records.proofs.Single.{form-once, reading-once, stop-once, reading-or_stuck}
 use Rattle.flat_records.specs.Form.{Declares}
 use Rattle.flat_records.specs.Lexemes.{lexemes}
-use Rattle.flat_records.specs.Text.{text_of}
+use Rattle.value_text.specs.Text.{text_of}
 use Rattle.flat_records.specs.declared.declaration.Declaration.{Declaration}
 use Rattle.flat_records.specs.declared.read.Cause.{Cause}
 use Rattle.flat_records.specs.declared.read.Spot.{Spot}

@@ -7,7 +7,7 @@ use Rattle.cell_nodes.specs.Tree.{is_exotic, mask}
 use Rattle.cell_nodes.specs.declared.tree.Tree.{Tree, out-Tree}
 use Rattle.flat_records.specs.Form.{declared}
 use Rattle.flat_records.specs.Spelling.{Reading, Stuck}
-use Rattle.flat_records.specs.Text.{text_of}
+use Rattle.value_text.specs.Text.{text_of}
 use Rattle.flat_records.specs.declared.declaration.Declaration.{Declaration}
 use Rattle.flat_records.specs.declared.read.Cause.{Cause}
 use Rattle.flat_records.specs.declared.read.Spot.{Spot}
@@ -18,7 +18,7 @@ use Rattle.tlb_grammar.specs.Answer.{Refuses}
 use Rattle.tlb_grammar.specs.declared.error.GrammarError.{GrammarError}
 use Rattle.tlb_kinds.specs.Refusals.{IsKinded, first_refusal}
 use Rattle.tlb_kinds.specs.declared.error.KindError.{KindError}
-use Rattle.typed_value.specs.Val.{Val}
+use Rattle.typed_value.specs.Values.{Plain}
 use Rattle.tlb_cli.specs.Lines.{line_of, spaced, bag_cause, grammar_cause, kind_cause, spot_text, cause_text, level_lines}
 use Rattle.tlb_cli.specs.Schema.{FormOf}
 use Rattle.tlb_cli.specs.Words.{Form, TypedWords, read_form, hash_form, form_of, schema_limit, bag_limit}
@@ -54,7 +54,7 @@ pub data OfCell (d : Declaration) (t : Tree) (v : Verdict) : Type 0 where
   stops : (spot : Spot) (cause : Cause) → is_exotic (out-Tree t).kind ≡ false
       → Stuck d (out-Tree t).bits (length (out-Tree t).children) spot cause
       → v ≡ cell_refusal d spot (cause_text cause) → OfCell d t v
-  holds : (value : Val) → is_exotic (out-Tree t).kind ≡ false
+  holds : (value : Plain) → is_exotic (out-Tree t).kind ≡ false
       → Reading d (out-Tree t).bits (length (out-Tree t).children) value
       → v ≡ says Done (text_of value) → OfCell d t v
 

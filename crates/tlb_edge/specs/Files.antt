@@ -15,10 +15,10 @@ abbrev pub file_at : Files → Name → Option (List ℕ)
 file_at [] name = None
 file_at (file ∷ files) name = if bytes_eq file.0 name then Some file.1 else file_at files name
 
--- the same, where what is held is told
-abbrev pub told_at : Option Files → Name → Option (List ℕ)
-told_at None name = None
-told_at (Some files) name = file_at files name
+-- the same, where what is held is reported
+abbrev pub reported_at : Option Files → Name → Option (List ℕ)
+reported_at None name = None
+reported_at (Some files) name = file_at files name
 
 -- entries in memory, seen as names and bytes
 abbrev pub entry : String Global × Vec ℕ Global → Name × List ℕ

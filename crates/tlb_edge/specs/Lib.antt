@@ -7,3 +7,4 @@ pub mod Moves
 pub mod RealShelf
 pub mod RealSink
 pub mod SureShelf
+pub mod SureSink

@@ -25,6 +25,10 @@ given_of s = s.given
 abbrev pub opens_of : MemShelf → ℕ
 opens_of s = s.opens
 
+-- how many calls of read there were
+abbrev pub reads_of : MemShelf → ℕ
+reads_of s = s.reads
+
 -- how many calls have failed
 abbrev pub faults_of : MemShelf → ℕ
 faults_of s = s.faults

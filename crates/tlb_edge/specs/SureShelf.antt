@@ -23,3 +23,7 @@ given_of s = s.given
 -- how many calls of open there were
 abbrev pub opens_of : SureShelf → ℕ
 opens_of s = s.opens
+
+-- how many calls of read there were
+abbrev pub reads_of : SureShelf → ℕ
+reads_of s = s.reads

@@ -8,7 +8,7 @@ use crate::sink::Sink;
 use std::io::Read;
 use std::rt::Files;
 
-/// The files of the system. It tells no content.
+/// The files of the system. It reports no content.
 #[derive(Drop)]
 pub struct RealShelf<R: Files> {
     rt: R,
@@ -50,6 +50,8 @@ impl<R: Files + Drop> Shelf for RealShelf<R> {
     ghost given = { given_of };
 
     ghost opens = { opens_of };
+
+    ghost reads = { λ _. None };
 
     ghost faults = { faults_of };
 
@@ -99,7 +101,7 @@ impl<R: Files + Drop> Shelf for RealShelf<R> {
     }
 }
 
-/// The standard output. It tells no content.
+/// The standard output. It reports no content.
 #[derive(Drop)]
 pub struct RealSink<P> {
     rt: P,
@@ -121,6 +123,8 @@ impl<P: Print> Sink for RealSink<P> {
     ghost use Rattle.tlb_edge.specs.RealSink.{faults_of};
 
     ghost written = { λ _. None };
+
+    ghost puts = { λ _. None };
 
     ghost faults = { faults_of };
 

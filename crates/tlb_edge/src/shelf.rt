@@ -1,8 +1,8 @@
 //! Where files are read.
 ghost use Rattle.std.specs.Prelude.{◌≡◌, ◌≤◌, ◌<◌, ◌⊎◌, ◌↔◌, ℕ, List, [], length, min, take, Option, Some, None, Bool, true, false, is_ok, is_some, option_and_then, unwrap_or, Contains, IsTrue, IsOk, IsErr, IsNone, IfOk, IfSome, OnOk, OnErr};
 ghost use Rattle.std.specs.Io.KnownBytes.{IsAtEnd};
-ghost use Rattle.tlb_edge.specs.Causes.{HasCause, counted, faults_after};
-ghost use Rattle.tlb_edge.specs.Files.{Files, entries, bytes_at, file_at, told_at};
+ghost use Rattle.tlb_edge.specs.Causes.{HasCause, counted, counted_once, faults_after};
+ghost use Rattle.tlb_edge.specs.Files.{Files, entries, bytes_at, file_at, reported_at};
 ghost use Rattle.tlb_edge.specs.Left.{left_from};
 ghost use Rattle.tlb_edge.specs.Moves.{Leaves, Reads, Gives};
 
@@ -12,10 +12,10 @@ pub struct Failed;
 
 /// Files by name, of which one may be open.
 pub trait Shelf {
-    /// The bytes under each name, where told.
+    /// The bytes under each name, where reported.
     ghost held: { Self → Option Files };
 
-    /// The unread bytes of the open file, where told.
+    /// The unread bytes of the open file, where reported.
     ghost rest: { Self → Option (List ℕ) };
 
     /// Whether a file is open.
@@ -27,20 +27,24 @@ pub trait Shelf {
     /// How many calls of `open` there were, up to the last value of u64.
     ghost opens: { Self → ℕ };
 
+    /// How many calls of `read` there were, where reported, up to the last value of u64.
+    ghost reads: { Self → Option ℕ };
+
     /// How many calls have failed, up to the last value of u64.
     ghost faults: { Self → ℕ };
 
     /// Makes the named file the open one. After `Failed` no file is open.
     fn open(&mut self, name: &str) -> Result<(), Failed>
         ensures held { held self.new ≡ held self.old }
-        ensures rest { OnOk result (Leaves (told_at (held self.old) name.now) (rest self.new)) }
+        ensures rest { OnOk result (Leaves (reported_at (held self.old) name.now) (rest self.new)) }
         ensures is_open { is_open self.new ≡ is_ok result }
         ensures nothing_left { OnErr result (IsAtEnd (rest self.new)) }
         ensures given { given self.new ≡ 0 }
         ensures opens { opens self.new ≡ counted (opens self.old) 1 }
+        ensures reads { reads self.new ≡ reads self.old }
         ensures cause { HasCause (faults self.old) (faults self.new) result };
 
-    /// Fills the front of the buffer, and answers how many bytes of it: 0 at the end and with no open
+    /// Fills a prefix of the buffer, and answers how many bytes of it: 0 at the end and with no open
     /// file. After `Failed` the open file is as before.
     fn read(&mut self, buf: &mut [u8]) -> Result<usize, Failed>
         ensures held { held self.new ≡ held self.old }
@@ -51,6 +55,7 @@ pub trait Shelf {
         ensures at_end { rest self.old ≡ Some [] → IfOk result (λ n. n ≡ 0) }
         ensures given { Gives (given self.old) (given self.new) result }
         ensures opens { opens self.new ≡ opens self.old }
+        ensures reads { reads self.new ≡ counted_once (reads self.old) }
         ensures cause { HasCause (faults self.old) (faults self.new) result };
 }
 
@@ -64,11 +69,12 @@ pub struct MemShelf {
     place: usize,
     given: u64,
     opens: u64,
+    reads: u64,
     faults: u64,
 }
 
 impl MemShelf {
-    ghost use Rattle.tlb_edge.specs.MemShelf.{held_by, some_open, left_of, given_of, opens_of, faults_of, calls_of, failing_of};
+    ghost use Rattle.tlb_edge.specs.MemShelf.{held_by, some_open, left_of, given_of, opens_of, reads_of, faults_of, calls_of, failing_of};
 
     /// A shelf with these files, of which the first entry of a name counts. Its calls of `open` and
     /// `read` are numbered from 1, and one fails where its number is in `failing` or it opens a name
@@ -80,6 +86,7 @@ impl MemShelf {
         ensures rest { left_of result ≡ [] }
         ensures given { given_of result ≡ 0 }
         ensures opens { opens_of result ≡ 0 }
+        ensures reads { reads_of result ≡ 0 }
         ensures faults { faults_of result ≡ 0 }
         ensures calls { calls_of result ≡ 0 }
     {
@@ -91,13 +98,14 @@ impl MemShelf {
             place: 0,
             given: 0,
             opens: 0,
+            reads: 0,
             faults: 0,
         }
     }
 }
 
 impl Shelf for MemShelf {
-    ghost use Rattle.tlb_edge.specs.MemShelf.{held_by, some_open, left_of, given_of, opens_of, faults_of, calls_of, failing_of};
+    ghost use Rattle.tlb_edge.specs.MemShelf.{held_by, some_open, left_of, given_of, opens_of, reads_of, faults_of, calls_of, failing_of};
 
     ghost held = { λ s. Some (held_by s) };
 
@@ -109,6 +117,8 @@ impl Shelf for MemShelf {
 
     ghost opens = { opens_of };
 
+    ghost reads = { λ s. Some (reads_of s) };
+
     ghost faults = { faults_of };
 
     fn open(&mut self, name: &str) -> Result<(), Failed>
@@ -118,6 +128,7 @@ impl Shelf for MemShelf {
         ensures nothing_left { OnErr result (left_of self.new ≡ []) }
         ensures given { given_of self.new ≡ 0 }
         ensures opens { opens_of self.new ≡ counted (opens_of self.old) 1 }
+        ensures reads { reads_of self.new ≡ reads_of self.old }
         ensures cause { HasCause (faults_of self.old) (faults_of self.new) result }
 
         ensures fails { IsErr result
@@ -148,6 +159,7 @@ impl Shelf for MemShelf {
         ensures closed { some_open self.old ≡ false → IfOk result (λ n. n ≡ 0) }
         ensures given { Gives (given_of self.old) (given_of self.new) result }
         ensures opens { opens_of self.new ≡ opens_of self.old }
+        ensures reads { reads_of self.new ≡ counted (reads_of self.old) 1 }
         ensures cause { HasCause (faults_of self.old) (faults_of self.new) result }
 
         ensures fails { IsErr result ↔ Contains (failing_of self.old) (calls_of self.new) }
@@ -157,6 +169,7 @@ impl Shelf for MemShelf {
         ensures failing { failing_of self.new ≡ failing_of self.old }
     {
         self.calls = self.calls.saturating_add(1);
+        self.reads = self.reads.saturating_add(1);
         if is_listed(&self.failing, self.calls) {
             self.faults = self.faults.saturating_add(1);
             return Err(Failed);
@@ -176,10 +189,11 @@ pub struct SureShelf {
     place: usize,
     given: u64,
     opens: u64,
+    reads: u64,
 }
 
 impl SureShelf {
-    ghost use Rattle.tlb_edge.specs.SureShelf.{held_by, some_open, left_of, given_of, opens_of};
+    ghost use Rattle.tlb_edge.specs.SureShelf.{held_by, some_open, left_of, given_of, opens_of, reads_of};
 
     /// A shelf with these files, of which the first entry of a name counts.
     pub fn new(files: Vec<(String, Vec<u8>)>) -> SureShelf
@@ -188,6 +202,7 @@ impl SureShelf {
         ensures rest { left_of result ≡ [] }
         ensures given { given_of result ≡ 0 }
         ensures opens { opens_of result ≡ 0 }
+        ensures reads { reads_of result ≡ 0 }
     {
         SureShelf {
             files,
@@ -195,12 +210,13 @@ impl SureShelf {
             place: 0,
             given: 0,
             opens: 0,
+            reads: 0,
         }
     }
 }
 
 impl Shelf for SureShelf {
-    ghost use Rattle.tlb_edge.specs.SureShelf.{held_by, some_open, left_of, given_of, opens_of};
+    ghost use Rattle.tlb_edge.specs.SureShelf.{held_by, some_open, left_of, given_of, opens_of, reads_of};
 
     ghost held = { λ s. Some (held_by s) };
 
@@ -212,6 +228,8 @@ impl Shelf for SureShelf {
 
     ghost opens = { opens_of };
 
+    ghost reads = { λ s. Some (reads_of s) };
+
     ghost faults = { λ _. 0 };
 
     fn open(&mut self, name: &str) -> Result<(), Failed>
@@ -221,11 +239,12 @@ impl Shelf for SureShelf {
         ensures is_open { some_open self.new ≡ true }
         ensures given { given_of self.new ≡ 0 }
         ensures opens { opens_of self.new ≡ counted (opens_of self.old) 1 }
+        ensures reads { reads_of self.new ≡ reads_of self.old }
     {
         self.opens = self.opens.saturating_add(1);
         self.given = 0;
         self.place = 0;
-        // Behind the last entry an empty file is open.
+        // After the last entry an empty file is open.
         self.current = match find(&self.files, name) {
             Some(index) => Some(index),
             None => Some(self.files.len()),
@@ -241,7 +260,9 @@ impl Shelf for SureShelf {
         ensures is_open { some_open self.new ≡ some_open self.old }
         ensures given { Gives (given_of self.old) (given_of self.new) result }
         ensures opens { opens_of self.new ≡ opens_of self.old }
+        ensures reads { reads_of self.new ≡ counted (reads_of self.old) 1 }
     {
+        self.reads = self.reads.saturating_add(1);
         let count = fill(buf, left_of_entry(&self.files, self.current, self.place));
         self.place += count;
         self.given = self.given.saturating_add(count as u64);
@@ -288,10 +309,10 @@ pub(crate) fn is_listed(failing: &[u32], number: u64) -> bool
     failing.iter().any(|listed| u64::from(*listed) == number)
 }
 
-// Copies the front of what is left into the buffer, as much as there is room for.
+// Copies a prefix of what is left into the buffer, as much as there is room for.
 fn fill(buf: &mut [u8], left: &[u8]) -> usize
     ensures count { result ≡ min (length buf.old) (length left.now) }
-    ensures front { take result buf.new ≡ take result left.now }
+    ensures prefix { take result buf.new ≡ take result left.now }
 {
     let count = buf.len().min(left.len());
     buf[..count].copy_from_slice(&left[..count]);

@@ -1,7 +1,7 @@
 //! Where output is written.
 ghost use Rattle.std.specs.Prelude.{◌≡◌, ◌≤◌, ◌<◌, ◌⊎◌, ◌↔◌, ◌++◌, ℕ, List, [], length, Option, Some, None, IsOk, IsErr, IfOk, OnOk, OnErr, Contains, vec_len, vec_capacity};
-ghost use Rattle.tlb_edge.specs.Causes.{HasCause, counted, faults_after};
-ghost use Rattle.tlb_edge.specs.Moves.{Writes, WritesFront};
+ghost use Rattle.tlb_edge.specs.Causes.{HasCause, counted, counted_once, faults_after};
+ghost use Rattle.tlb_edge.specs.Moves.{Writes, WritesPrefix};
 
 use crate::shelf::{Failed, is_listed};
 use std::alloc::Global;
@@ -9,16 +9,20 @@ use tlb_memory::NoMemory;
 
 /// What takes the output.
 pub trait Sink {
-    /// All that was written, where told.
+    /// All that was written, where reported.
     ghost written: { Self → Option (List ℕ) };
+
+    /// How many calls of `put` there were, where reported, up to the last value of u64.
+    ghost puts: { Self → Option ℕ };
 
     /// How many calls have failed, which stays at the last value of u64.
     ghost faults: { Self → ℕ };
 
-    /// Appends the bytes. At `Failed` a front of them may have been appended.
+    /// Appends the bytes. At `Failed` a prefix of them may have been appended.
     fn put(&mut self, bytes: &[u8]) -> Result<(), Failed>
         ensures ok { OnOk result (Writes (written self.old) (written self.new) bytes.now) }
-        ensures err { OnErr result (WritesFront (written self.old) (written self.new) bytes.now) }
+        ensures err { OnErr result (WritesPrefix (written self.old) (written self.new) bytes.now) }
+        ensures puts { puts self.new ≡ counted_once (puts self.old) }
         ensures cause { HasCause (faults self.old) (faults self.new) result };
 }
 
@@ -70,6 +74,8 @@ impl Sink for MemSink {
 
     ghost written = { λ s. Some (written_by s) };
 
+    ghost puts = { λ s. Some (puts_of s) };
+
     ghost faults = { faults_of };
 
     /// Appends the whole piece or nothing, and takes no memory.
@@ -101,24 +107,37 @@ impl Sink for MemSink {
     }
 }
 
-/// Drops the bytes, and never fails.
+/// Drops the bytes, counts its calls, and never fails.
 #[derive(Clone, Copy, Debug, Default, PartialEq, Eq)]
-pub struct SureSink;
+pub struct SureSink {
+    puts: u64,
+}
 
 impl SureSink {
-    pub fn new() -> SureSink {
-        SureSink
+    ghost use Rattle.tlb_edge.specs.SureSink.{puts_of};
+
+    /// A sink of which no call was made.
+    pub fn new() -> SureSink
+        ensures { puts_of result ≡ 0 }
+    {
+        SureSink { puts: 0 }
     }
 }
 
 impl Sink for SureSink {
+    ghost use Rattle.tlb_edge.specs.SureSink.{puts_of};
+
     ghost written = { λ _. None };
+
+    ghost puts = { λ s. Some (puts_of s) };
 
     ghost faults = { λ _. 0 };
 
     fn put(&mut self, _bytes: &[u8]) -> Result<(), Failed>
-        ensures { IsOk result }
+        ensures ok { IsOk result }
+        ensures puts { puts_of self.new ≡ counted (puts_of self.old) 1 }
     {
+        self.puts = self.puts.saturating_add(1);
         Ok(())
     }
 }

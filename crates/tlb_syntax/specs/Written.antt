@@ -94,8 +94,8 @@ pub record Exceeds {X : Type 0} (G : Grammar X) (m : Bounds) (P : X → Type 0) 
 
 -- the name or the `_` of a declaration that begins with these lexemes stands behind so many: behind the `!`, or first
 pub data NameStands : List Lexeme → ℕ → Type 0 where
-  first : {h : Lexeme} {x : Option (List ℕ)} {s : List Lexeme} → Heads h x → NameStands (h ∷ s) 0
-  marked : {h : Lexeme} {x : Option (List ℕ)} {s : List Lexeme} → Heads h x → NameStands (sign Bang ∷ h ∷ s) 1
+  at_once : {h : Lexeme} {x : Option (List ℕ)} {s : List Lexeme} → Heads h x → NameStands (h ∷ s) 0
+  after_mark : {h : Lexeme} {x : Option (List ℕ)} {s : List Lexeme} → Heads h x → NameStands (sign Bang ∷ h ∷ s) 1
 
 -- the declaration that the later lexeme belongs to has so many lexemes before it
 pub record Begins (ls : List Lexeme) (start later : ℕ) : Type 0 where

@@ -1,0 +1,4 @@
+mod Counting
+mod Loaded
+mod Moved
+mod Piecewise
