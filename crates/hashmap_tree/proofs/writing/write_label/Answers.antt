@@ -1,4 +1,4 @@
-use Rattle.std.proofs.Common.{ℕ, List, ap, ◌≡◌, ◌<◌, ◌≤◌, ◌^◌, length, sym, ◌∙◌, subst, arith}
+use Rattle.std.proofs.Common.{ℕ, List, ap, ◌≡◌, ◌<◌, ◌^◌, length, sym, ◌∙◌, subst, arith}
 use Rattle.bit_slice.specs.BitLengths.{bit_length-below}
 use Rattle.bit_slice.specs.Bits.{bit_length}
 use Rattle.hashmap_labels.specs.Labels.{required_form}
