@@ -46,8 +46,6 @@ pub fn written_bag_holds()
 /// and its cells unfold to them, each after all that refer to it.
 pub fn each_cell_once()
     ensures count { (t : Tree) → IsGood t → unfolded t ≤ 262144 → cells (bag_of t) ≡ length (post t) }
-    ensures cells {
-        (t u : Tree) (i : ℕ) → IsGood t → unfolded t ≤ 262144 → slice_get (reverse (post t)) i ≡ Some u
-        → Unfolds (bag_of t) i u
-    }
+    ensures cells { (t u : Tree) (i : ℕ) → IsGood t → unfolded t ≤ 262144 → slice_get (reverse (post t)) i ≡ Some u
+        → Unfolds (bag_of t) i u }
 {}

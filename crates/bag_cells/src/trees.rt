@@ -92,10 +92,8 @@ fn cell_at(
     requires header { HasHeader raw.now header }
     requires cell { IsCell raw.now i place }
     requires later { length later.now + 1 + i ≡ header.cells }
-    ensures {
-        IfAnswered result (λ c. IsTree raw.now i place later.now c)
-            (λ e. refusal_of i (reported_mask raw.now place) (node raw.now place later.now) ≡ Some e)
-    }
+    ensures { IfAnswered result (λ c. IsTree raw.now i place later.now c)
+        (λ e. refusal_of i (reported_mask raw.now place) (node raw.now place later.now) ≡ Some e) }
 {
     let bits = bits_at(alloc, raw, place)?;
     let Some(kind) = kind_at(raw, place, bits.slice()) else {
