@@ -85,8 +85,13 @@ ArePairs (p ∷ ps) = IsPair p × ArePairs ps
 pub length-hashes : (ps : List ChildMark) → ArePairs ps → length (flat_map hash_bits ps) ≡ 256 * length ps
 length-hashes [] h = refl
 length-hashes (p ∷ ps) h =
-    omega (arith, length-append (hash_bits p) (flat_map hash_bits ps), length-bits_of p.hash, h.0.whole,
-    length-hashes ps h.1)
+    omega (
+      arith,
+      length-append (hash_bits p) (flat_map hash_bits ps),
+      length-bits_of p.hash,
+      h.0.whole,
+      length-hashes ps h.1,
+    )
 
 pub length-depths : (ps : List ChildMark) → length (flat_map depth_bits ps) ≡ 16 * length ps
 length-depths [] = refl

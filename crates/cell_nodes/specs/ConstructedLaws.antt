@@ -127,8 +127,11 @@ pruned-low : (m : ℕ) (ps : List ChildMark) (i : ℕ) → CanStore m ps → dep
 pruned-low m ps i h =
     let d : ChildMark = record { depth = 0; hash = [] } in
     ⊎_elim
-    (λ (l : set_bits i m < length ps). omega (arith, depth-stored m ps i d h l,
-    ArePairs-low ps (set_bits i m) d h.pairs l))
+    (λ (l : set_bits i m < length ps). omega (
+      arith,
+      depth-stored m ps i d h l,
+      ArePairs-low ps (set_bits i m) d h.pairs l,
+    ))
     (λ (l : length ps ≤ set_bits i m). omega (arith, depth-own m ps i h l))
     (cases_lt (set_bits i m) (length ps))
 
@@ -158,8 +161,13 @@ library-layout hash l =
 pub library-shallow : (hash : List ℕ) → IsShallow (library_of hash)
 library-shallow hash =
     let b = library_bits hash in
-    omega (arith, depth-tree_of Library b [] 0, depth-tree_of Library b [] 1, depth-tree_of Library b [] 2,
-    depth-tree_of Library b [] 3)
+    omega (
+      arith,
+      depth-tree_of Library b [] 0,
+      depth-tree_of Library b [] 1,
+      depth-tree_of Library b [] 2,
+      depth-tree_of Library b [] 3,
+    )
 
 pub proof-layout : (hash : List ℕ) (depth : ℕ) → length hash ≡ 32 → IsTrue (has_layout Proof (proof_bits hash depth) 1)
 proof-layout hash depth l =
@@ -269,7 +277,11 @@ pub stub-stores : (t : Tree) (i : ℕ) → IsGood t → i ≤ 2
 stub-stores t i g h = record {
   some = stub-some (mask t) i;
   low = stub-low (mask t) i h;
-  count = omega (arith, length-map (levels_in i (mask t)) (λ j. mark_at j (marks t)), length-levels_in i (mask t),
-    stub-bits (mask t) i h);
+  count = omega (
+    arith,
+    length-map (levels_in i (mask t)) (λ j. mark_at j (marks t)),
+    length-levels_in i (mask t),
+    stub-bits (mask t) i h,
+  );
   pairs = marks-pairs t i (mask t) g (omega arith);
 }

@@ -1,5 +1,5 @@
 -- A pruned tree is good where its tree is.
-use Rattle.std.specs.Prelude.{◌≡◌, ℕ, zero, suc, ◌+◌, ◌*◌, ◌/◌, ◌%◌, ◌-◌, ◌^◌, ◌≤◌, ◌<◌, bit_or, max, List, [], ◌∷◌}
+use Rattle.std.specs.Prelude.{◌≡◌, ℕ, zero, suc, ◌+◌, ◌*◌, ◌/◌, ◌%◌, ◌-◌, ◌^◌, ◌≤◌, ◌<◌, List, [], ◌∷◌}
 use Rattle.std.specs.Prelude.{length, map}
 use Rattle.std.specs.Int.{bit_at}
 use Rattle.std.specs.Int.Bits.{or_zero_r}
@@ -14,24 +14,24 @@ use Rattle.bit_slice.specs.Bits.{AreBits, spelled}
 use Rattle.bit_slice.specs.BitLists.{AreBits-append, AreBits-spelled}
 use Rattle.cell_hash.specs.declared.ChildMark.{ChildMark}
 use Rattle.cell_nodes.specs.declared.tree.Kind.{Kind}
-use Rattle.cell_nodes.specs.declared.tree.Kind.TheVariants.{Ordinary, Pruned, Library, Proof, Update}
-use Rattle.cell_nodes.specs.declared.tree.Tree.{Tree, out-Tree}
-use Rattle.cell_nodes.specs.BytesLaws.{ArePairs, AreBits-bits_of}
+use Rattle.cell_nodes.specs.declared.tree.Kind.TheVariants.{Ordinary, Pruned, Proof}
+use Rattle.cell_nodes.specs.declared.tree.Tree.{Tree}
+use Rattle.cell_nodes.specs.BytesLaws.{AreBits-bits_of}
 use Rattle.cell_nodes.specs.Constructed.{hash_bits, depth_bits, pruned_bits, stub}
-use Rattle.cell_nodes.specs.ConstructedLaws.{CanStore, stub-stores, pruned-layout, pruned-shallow, length-pruned}
+use Rattle.cell_nodes.specs.ConstructedLaws.{stub-stores, pruned-layout, pruned-shallow, length-pruned}
 use Rattle.cell_nodes.specs.ConstructedLaws.{depth-own}
 use Rattle.cell_nodes.specs.Equations.{out-tree_of, mask-tree_of, depth-tree_of}
-use Rattle.cell_nodes.specs.Good.{IsSound, IsGood, AllGood, none as no_trees, more as more_trees}
+use Rattle.cell_nodes.specs.Good.{IsGood, AllGood, none as no_trees, more as more_trees}
 use Rattle.cell_nodes.specs.GoodParts.{good-sound, good-depth, good-tree_of, all_good-head, all_good-tail}
 use Rattle.cell_nodes.specs.Layout.{has_layout}
 use Rattle.cell_nodes.specs.LevelsLaws.{bit_cases, length-levels_in, set_bits-within, set_bits-le}
-use Rattle.cell_nodes.specs.MarksLaws.{IsComputed, depth-lowest, depth-set, depth-unset}
+use Rattle.cell_nodes.specs.MarksLaws.{depth-lowest, depth-set, depth-unset}
 use Rattle.cell_nodes.specs.Prunes.{Prunes, same, hidden, ordinary, proof, AllPrune, none, more}
 use Rattle.cell_nodes.specs.PrunesLaws.{KeepsTo, good-below, prunes-keeps, stub-mark}
 use Rattle.cell_nodes.specs.Levels.{levels_in, set_bits}
 use Rattle.cell_nodes.specs.declared.tree.Tree.TheOpen.{Tree-F}
-use Rattle.cell_nodes.specs.Tree.{Marks, tree_of, marks, mark_at, mask, depth, deepest, depth_over, greatest}
-use Rattle.cell_nodes.specs.Tree.{union_of, level_below, IsShallow}
+use Rattle.cell_nodes.specs.Tree.{tree_of, marks, mark_at, mask, depth, depth_over, greatest}
+use Rattle.cell_nodes.specs.Tree.{union_of, IsShallow}
 
 -- ---- the depth of a node is one more than its children's, at each level
 
@@ -116,8 +116,16 @@ stub-no_deeper t i g h (suc k) =
     let c = stub-stores t i g h in
     let n = length-map (levels_in i (mask t)) (λ j. mark_at j (marks t)) in
     let w = set_bits-within (suc i) (i + suc k) m (omega arith) in
-    omega (arith, depth-own m ps (i + suc k) c (omega (arith, n, w, length-levels_in i (mask t),
-    stub-top (mask t) i h)))
+    omega (
+      arith,
+      depth-own m ps (i + suc k) c (omega (
+        arith,
+        n,
+        w,
+        length-levels_in i (mask t),
+        stub-top (mask t) i h,
+      )),
+    )
 
 mutual
   no_deeper : (t p : Tree) (i : ℕ) → Prunes t p i → IsGood t → mask t < 2 ^ i → IsNoDeeper t p i
@@ -131,8 +139,11 @@ mutual
       let m = mask-tree_of Proof bits (c ∷ []) in
       let z = or_zero_r (mask c) in
       let s : 2 ^ suc i ≡ 2 ^ i * 2 = pow-suc 2 i in
-      let n = no_deeper c q (suc i) one (all_good-head c [] (good-below Proof bits (c ∷ []) g)) (omega (arith, m,
-      z)) k in
+      let n = no_deeper c q (suc i) one (all_good-head c [] (good-below Proof bits (c ∷ []) g)) (omega (
+        arith,
+        m,
+        z,
+      )) k in
       let e : suc (i + k) ≡ suc i + k = omega arith in
       rw (depth-proof bits (q ∷ []) (i + k), depth-proof bits (c ∷ []) i, e) (omega arith)
 
@@ -141,8 +152,10 @@ mutual
   all_no_deeper ts ps i (none i') g h = ((λ k. omega arith), refl)
   all_no_deeper ts ps i (more t p us qs i' one all) g h =
       let n = no_deeper t p i one (all_good-head t us g) (omega (arith, le_or_l (mask t) (union_of (map marks us)))) in
-      let r = all_no_deeper us qs i all (all_good-tail t us g) (omega (arith,
-      le_or_r (mask t) (union_of (map marks us)))) in
+      let r = all_no_deeper us qs i all (all_good-tail t us g) (omega (
+        arith,
+        le_or_r (mask t) (union_of (map marks us)),
+      )) in
       (over-more t p us qs i n r.0 r.1, omega (arith, r.1))
 
 -- ---- the tree is good
@@ -215,8 +228,11 @@ mutual
       good-tree_of Proof bits (q ∷ []) s.0 s.1 (omega arith) s.3
       (shallow-pruned _ _ i (prunes-keeps _ _ i whole g h) (no_deeper _ _ i whole g h) g l)
       (more_trees q []
-      (prunes-good c q (suc i) one (all_good-head c [] (good-below Proof bits (c ∷ []) g)) (omega (arith, m,
-      z)) (omega arith))
+      (prunes-good c q (suc i) one (all_good-head c [] (good-below Proof bits (c ∷ []) g)) (omega (
+        arith,
+        m,
+        z,
+      )) (omega arith))
       no_trees)
 
   all-prunes-good : (ts ps : List Tree) (i : ℕ) → AllPrune ts ps i → AllGood ts → union_of (map marks ts) < 2 ^ i

@@ -189,8 +189,13 @@ stub-mark t i l g h k =
     let can = stub-stores t i g h in
     let place : set_bits l (mask t % 2 ^ i + 2 ^ i) ≡ set_bits l (mask t) = stub-same (mask t) i l h k in
     let inside : set_bits l (mask t % 2 ^ i + 2 ^ i) < length ps =
-    omega (arith, place, length-map (levels_in i (mask t)) F, length-levels_in i (mask t),
-    set_bits-within l i (mask t) k) in
+    omega (
+      arith,
+      place,
+      length-map (levels_in i (mask t)) F,
+      length-levels_in i (mask t),
+      set_bits-within l i (mask t) k,
+    ) in
     let found : get_or ps (set_bits l (mask t % 2 ^ i + 2 ^ i)) d ≡ F l =
     ap (λ (j : ℕ). get_or ps j d) place ∙ at-levels_in F (mask t) d (mark-steady t) i l k in
     let P : ChildMark → Type 0 = λ m. AreBytes m.hash in
@@ -228,8 +233,10 @@ node-keeps : (k : Kind) (b : List ℕ) (ts ps : List Tree) (i : ℕ) → IsCompu
     → KeepsTo (tree_of k b ts) (tree_of k b ps) i
 node-keeps k b ts ps i c e eq = record {
   mask_kept = rw (mask-tree_of k b ps, mask-tree_of k b ts) e;
-  marks_kept = λ l h. rw (marks-tree_of k b ps,
-    marks-tree_of k b ts) (marks_of-same k b (map marks ps) (map marks ts) i l c e h eq);
+  marks_kept = λ l h. rw (
+    marks-tree_of k b ps,
+    marks-tree_of k b ts,
+  ) (marks_of-same k b (map marks ps) (map marks ts) i l c e h eq);
 }
 
 half-low : (x q i : ℕ) → x % 2 ^ suc i ≡ q → x / 2 % 2 ^ i ≡ q / 2
@@ -258,8 +265,11 @@ mutual
       let m = mask-tree_of Proof bits (c ∷ []) in
       let z = or_zero_r (mask c) in
       let s : 2 ^ suc i ≡ 2 ^ i * 2 = pow-suc 2 i in
-      let k = prunes-keeps c q (suc i) one (all_good-head c [] (good-below Proof bits (c ∷ []) g)) (omega (arith, m,
-      z)) in
+      let k = prunes-keeps c q (suc i) one (all_good-head c [] (good-below Proof bits (c ∷ []) g)) (omega (
+        arith,
+        m,
+        z,
+      )) in
       node-keeps Proof bits (c ∷ []) (q ∷ []) i tt
       (rw (or_zero_r (mask q), z) (half-low (mask q) (mask c) i k.mask_kept))
       (λ j b. rw (k.marks_kept (j + 1) (omega arith)) refl)
@@ -268,8 +278,10 @@ mutual
       → AllKeepTo ts ps i
   all-keep ts ps i (none i') g h = record { masks_kept = omega (arith, one_le-pow i); marks_kept = λ l k. refl }
   all-keep ts ps i (more t p us qs i' one all) g h =
-      let a = prunes-keeps t p i one (all_good-head t us g) (omega (arith,
-      le_or_l (mask t) (union_of (map marks us)))) in
+      let a = prunes-keeps t p i one (all_good-head t us g) (omega (
+        arith,
+        le_or_l (mask t) (union_of (map marks us)),
+      )) in
       let b = all-keep us qs i all (all_good-tail t us g) (omega (arith, le_or_r (mask t) (union_of (map marks us)))) in
       record {
         masks_kept = low-or (mask p) (union_of (map marks qs)) i ∙ rw (a.mask_kept, b.masks_kept) refl;
