@@ -1,14 +1,20 @@
 -- The causes for which what is judged is refused, and their order.
-use Rattle.std.specs.Prelude.{◌≡◌, ◌||◌, List, [], ◌∷◌, ◌++◌, map, filter, Bool, false, Option, Some, None, Result, Ok, Err, ⊤}
+use Rattle.std.specs.Prelude.{◌≡◌, ◌||◌, List, [], ◌∷◌, ◌++◌, map, filter, Bool, false, Option, Some, None, Result, Ok}
+use Rattle.std.specs.Prelude.{Err, ⊤}
 use Rattle.kind_declarations.specs.declared.error.Cause.{Cause}
-use Rattle.kind_declarations.specs.declared.error.Cause.TheVariants.{Reserved, UnknownType, UnknownName, Arity, KindMismatch, OutputUnderRef, NotLinear, TwiceNamed, Undetermined, TooWide}
+use Rattle.kind_declarations.specs.declared.error.Cause.TheVariants.{Reserved, UnknownType, UnknownName, Arity}
+use Rattle.kind_declarations.specs.declared.error.Cause.TheVariants.{KindMismatch, OutputUnderRef, NotLinear}
+use Rattle.kind_declarations.specs.declared.error.Cause.TheVariants.{TwiceNamed, Undetermined, TooWide}
 use Rattle.kind_terms.specs.declared.part.Part.{Part}
 use Rattle.kind_declarations.specs.declared.error.Fault.{Fault}
 use Rattle.kind_declarations.specs.declared.error.Fault.TheVariants.{Refused, NoMemory}
 use Rattle.kind_rules.specs.ExpectedKinds.{Use}
-use Rattle.kind_declarations.specs.Headings.{Heading, Param, is_reserved, is_constructor_twice, is_other_param, is_no_param, is_input_twice, lacks_params}
-use Rattle.kind_rules.specs.Names.{is_field_twice, is_unknown_type, is_unknown_name, is_other_arity, is_other_field_used}
-use Rattle.kind_rules.specs.Numbers.{is_product_of_variables, is_type_for_number, is_number_for_type, is_other_basic_arity}
+use Rattle.kind_declarations.specs.Headings.{Heading, Param, is_reserved, is_constructor_twice, is_other_param}
+use Rattle.kind_declarations.specs.Headings.{is_no_param, is_input_twice, lacks_params}
+use Rattle.kind_rules.specs.Names.{is_field_twice, is_unknown_type, is_unknown_name, is_other_arity}
+use Rattle.kind_rules.specs.Names.{is_other_field_used}
+use Rattle.kind_rules.specs.Numbers.{is_product_of_variables, is_type_for_number, is_number_for_type}
+use Rattle.kind_rules.specs.Numbers.{is_other_basic_arity}
 use Rattle.kind_rules.specs.Known.{is_used_unknown, is_never_known, is_other_out, is_known_twice}
 use Rattle.kind_rules.specs.Outputs.{is_output_under_ref, is_output_inside, is_no_output}
 use Rattle.kind_rules.specs.Records.{is_misplaced_record}

@@ -1,5 +1,6 @@
 -- The headings of declarations: their names, and the parameters of their results.
-use Rattle.std.specs.Prelude.{ℕ, ◌&&◌, ◌||◌, not, List, Bool, true, false, Option, Some, None, bytes_eq, length, slice_get, nat_lt}
+use Rattle.std.specs.Prelude.{ℕ, ◌&&◌, ◌||◌, not, List, Bool, true, false, Option, Some, None, bytes_eq, length}
+use Rattle.std.specs.Prelude.{slice_get, nat_lt}
 use Rattle.std.specs.List.{list_any}
 use Rattle.tlb_syntax.specs.Tree.{ExprView, ExprList, ConstructorView, SchemaView}
 use Rattle.kind_terms.specs.Words.{Word, is_among, is_built_in, x_alone}

@@ -1,6 +1,9 @@
 -- What is judged in a schema, in the order of the text, each with what it sees: a node comes before its parts.
-use Rattle.std.specs.Prelude.{ℕ, ◌+◌, ◌==◌, List, [], ◌∷◌, ◌++◌, Bool, true, false, Option, Some, None, codes, decimal, if◌then◌else◌}
-use Rattle.tlb_syntax.specs.Tree.{ExprView, ExprList, ItemView, ItemList, TypeView, ConstructorView, SchemaView, lit, named, nat32, bits, below, up_to, plus, star, out, ref, group, no_exprs, an_expr, plain, when, when_bit, implicit, check, explicit, no_items, an_item}
+use Rattle.std.specs.Prelude.{ℕ, ◌+◌, ◌==◌, List, [], ◌∷◌, ◌++◌, Bool, true, false, Option, Some, None, codes, decimal}
+use Rattle.std.specs.Prelude.{if◌then◌else◌}
+use Rattle.tlb_syntax.specs.Tree.{ExprView, ExprList, ItemView, ItemList, TypeView, ConstructorView, SchemaView, lit}
+use Rattle.tlb_syntax.specs.Tree.{named, nat32, bits, below, up_to, plus, star, out, ref, group, no_exprs, an_expr}
+use Rattle.tlb_syntax.specs.Tree.{plain, when, when_bit, implicit, check, explicit, no_items, an_item}
 use Rattle.kind_terms.specs.declared.part.Part.{Part}
 use Rattle.kind_terms.specs.declared.part.Part.TheVariants as places
 use Rattle.kind_terms.specs.Positions.{ItemPosition, first_position, next_position, path_at}
@@ -144,8 +147,10 @@ abbrev mutual
   expr_nodes (bits es) a d = use_at a d (bits es) ++ arg_nodes es a (only_types d (NumberIn 32 ∷ [])) []
   expr_nodes (below es) a d = use_at a d (below es) ++ arg_nodes es a (only_types d (NumberIn greatest ∷ [])) []
   expr_nodes (up_to es) a d = use_at a d (up_to es) ++ arg_nodes es a (only_types d (NumberIn greatest ∷ [])) []
-  expr_nodes (plus x y) a d = use_at a d (plus x y) ++ (expr_nodes x a (expected_in_sum d) ++ expr_nodes y a (expected_in_sum d))
-  expr_nodes (star x y) a d = use_at a d (star x y) ++ (expr_nodes x a (expected_at_left d) ++ expr_nodes y a (expected_at_right d))
+  expr_nodes (plus x y) a d = use_at a d (plus x y)
+      ++ (expr_nodes x a (expected_in_sum d) ++ expr_nodes y a (expected_in_sum d))
+  expr_nodes (star x y) a d = use_at a d (star x y)
+      ++ (expr_nodes x a (expected_at_left d) ++ expr_nodes y a (expected_at_right d))
   expr_nodes (out e) a d = use_at a d (out e)
   expr_nodes (ref e) a d = use_at a d (ref e) ++ expr_nodes e a (expected_under_ref d)
   expr_nodes (group is) a d = use_at a d (group is) ++ only_types d (record_nodes is (first_inside a))

@@ -1,6 +1,7 @@
 -- The nodes after that of an expression where a type is expected, and those of numbers in a row.
 use Rattle.std.specs.Prelude.{List, [], ◌∷◌, ◌++◌, Option, Some}
-use Rattle.tlb_syntax.specs.Tree.{ExprView, ExprList, lit, named, nat32, bits, below, up_to, plus, star, out, ref, group, no_exprs, an_expr}
+use Rattle.tlb_syntax.specs.Tree.{ExprView, ExprList, lit, named, nat32, bits, below, up_to, plus, star, out, ref}
+use Rattle.tlb_syntax.specs.Tree.{group, no_exprs, an_expr}
 use Rattle.kind_terms.specs.Words.{Word}
 use Rattle.kind_terms.specs.declared.kind.TermKind.TheVariants.{NumberIn}
 use Rattle.kind_terms.specs.Params.{greatest}
@@ -8,7 +9,8 @@ use Rattle.kind_terms.specs.Types.{type_named, parameters, has_exprs}
 use Rattle.kind_rules.specs.declared.expected.TypePosition.{TypePosition}
 use Rattle.kind_rules.specs.declared.expected.TypePosition.TheVariants.{Inner}
 use Rattle.kind_rules.specs.ExpectedKinds.{a_number, a_type}
-use Rattle.kind_declarations.specs.Nodes.{ItemContext, Judged, arg_nodes, expr_nodes, first_inside, expected_number, record_nodes}
+use Rattle.kind_declarations.specs.Nodes.{ItemContext, Judged, arg_nodes, expr_nodes, first_inside, expected_number}
+use Rattle.kind_declarations.specs.Nodes.{record_nodes}
 use Rattle.kind_rules.specs.ExpectedKinds.{under}
 
 -- of a type's parts

@@ -72,4 +72,5 @@ after_name s i = record { path = path_by s; scope = scope_by s; fields = words s
 abbrev pub all_by : State → ConstructorView → List Judged
 all_by s c =
     record_nodes c.items (first_by s)
-    ++ output_nodes c.params (record { path = path_by s ++ places.Result ∷ []; scope = at_end (scope_by s) c.items; fields = [] })
+    ++ output_nodes c.params
+    (record { path = path_by s ++ places.Result ∷ []; scope = at_end (scope_by s) c.items; fields = [] })

@@ -14,8 +14,8 @@ use sqlite_items::Items;
 use std::alloc::Global;
 use tlb_syntax::Constructor;
 
-/// The items of a constructor, then its outputs, then its implicit fields once more, after all declarations of types. On a
-/// refusal the path leads to the item at fault.
+/// The items of a constructor, then its outputs, then its implicit fields once more, after all declarations of types.
+/// On a refusal the path leads to the item at fault.
 pub fn judge_constructor<'a>(
     alloc: Global,
     types: &Types<'a>,
@@ -23,7 +23,8 @@ pub fn judge_constructor<'a>(
     path: &mut Items<Shown<'a>>,
 ) -> Result<(), Fault>
     requires { IsConstructor (constructor_view constructor.now) }
-    ensures { Judges (constructor_nodes (map constructor_view types.now) (constructor_view constructor.now)) (map part_by path.new) result }
+    ensures { Judges (constructor_nodes (map constructor_view types.now) (constructor_view constructor.now))
+        (map part_by path.new) result }
 {
     judge_record(alloc, types, constructor, path)?;
     let known = inputs(alloc, constructor)?;

@@ -1,11 +1,13 @@
 //! Implicit fields that are never known.
 ghost use Rattle.std.specs.Prelude.{◌≡◌, ◌≤◌, ◌<◌, ◌+◌, ◌++◌, if◌then◌else◌, map, IfOk, OnOk};
 ghost use Rattle.tlb_syntax.specs.Limits.{AreExprs, AreItems, IsExpr, IsItem, IsType, item_count};
-ghost use Rattle.tlb_syntax.specs.View.{constructor as constructor_view, expr, exprs, field_type, item as item_view, items as items_view};
+ghost use Rattle.tlb_syntax.specs.View.{expr, exprs, field_type};
+ghost use Rattle.tlb_syntax.specs.View as view_spec;
 ghost use Rattle.kind_terms.specs.Scopes.{made_known};
 ghost use Rattle.kind_declarations.specs.EndingViews.{endings_at, position_at};
 ghost use Rattle.kind_declarations.specs.Faults.{Judges};
-ghost use Rattle.kind_declarations.specs.Nodes.{arg_endings, ending_at, expr_endings, item_endings, record_endings, type_endings};
+ghost use Rattle.kind_declarations.specs.Nodes.{arg_endings, ending_at, expr_endings, item_endings, record_endings};
+ghost use Rattle.kind_declarations.specs.Nodes.{type_endings};
 ghost use Rattle.kind_terms.specs.Positions.{first_position, is_unnamed as is_unnamed_item};
 ghost use Rattle.kind_terms.specs.Views.{part_by};
 
@@ -22,7 +24,10 @@ fn known_at_end<'a>(
     items: &'a [Item],
     inputs: Items<&'a Name>,
 ) -> Result<Items<&'a Name>, AllocError>
-    ensures { IfOk result (λ known. map (λ n. n.now) known ≡ map (λ n. n.now) inputs.entry ++ made_known (map constructor_view types.now) (items_view items.now)) }
+    ensures { IfOk result
+        (λ known. map (λ n. n.now) known
+        ≡ map (λ n. n.now) inputs.entry
+        ++ made_known (map view_spec.constructor types.now) (view_spec.items items.now)) }
 {
     let mut known = inputs;
     for item in items {
@@ -34,7 +39,7 @@ fn known_at_end<'a>(
 // The number of unnamed fields before the next item.
 fn unnamed_after(item: &Item, unnamed: u32) -> u32
     requires { unnamed < 255 }
-    ensures { result ≡ (if is_unnamed_item (item_view item.now) then unnamed + 1 else unnamed) }
+    ensures { result ≡ (if is_unnamed_item (view_spec.item item.now) then unnamed + 1 else unnamed) }
 {
     if is_unnamed(item) {
         unnamed + 1
@@ -53,9 +58,13 @@ pub fn judge_endings<'a>(
     inputs: Items<&'a Name>,
     path: &mut Items<Shown<'a>>,
 ) -> Result<(), Fault>
-    requires bounded { item_count (items_view items.now) ≤ 255 }
-    requires sized { AreItems (items_view items.now) }
-    ensures judged { Judges (record_endings (items_view items.now) (map constructor_view types.now) (first_position (map part_by path.old)) (map (λ n. n.now) inputs.entry ++ made_known (map constructor_view types.now) (items_view items.now))) (map part_by path.new) result }
+    requires bounded { item_count (view_spec.items items.now) ≤ 255 }
+    requires sized { AreItems (view_spec.items items.now) }
+    ensures judged { Judges
+        (record_endings (view_spec.items items.now) (map view_spec.constructor types.now)
+        (first_position (map part_by path.old))
+        (map (λ n. n.now) inputs.entry ++ made_known (map view_spec.constructor types.now) (view_spec.items items.now)))
+        (map part_by path.new) result }
     ensures kept { OnOk result (path.new ≡ path.old) }
 {
     let known = known_at_end(types, items, inputs)?;
@@ -71,9 +80,12 @@ fn judge_items<'a>(
     known: &[&'a Name],
     path: &mut Items<Shown<'a>>,
 ) -> Result<(), Fault>
-    requires bounded { item_count (items_view items.now) ≤ 255 }
-    requires sized { AreItems (items_view items.now) }
-    ensures judged { Judges (record_endings (items_view items.now) (map constructor_view types.now) (first_position (map part_by path.old)) (map (λ n. n.now) known.now)) (map part_by path.new) result }
+    requires bounded { item_count (view_spec.items items.now) ≤ 255 }
+    requires sized { AreItems (view_spec.items items.now) }
+    ensures judged { Judges
+        (record_endings (view_spec.items items.now) (map view_spec.constructor types.now)
+        (first_position (map part_by path.old))
+        (map (λ n. n.now) known.now)) (map part_by path.new) result }
     ensures kept { OnOk result (path.new ≡ path.old) }
 {
     let mut place: u32 = 1;
@@ -97,8 +109,10 @@ fn judge_item<'a>(
     known: &[&'a Name],
     path: &mut Items<Shown<'a>>,
 ) -> Result<(), Fault>
-    requires { IsItem (item_view item.now) }
-    ensures judged { Judges (endings_at (item_view item.now) (map constructor_view types.now) (position_at (map part_by path.old) place unnamed) (map (λ n. n.now) known.now)) (map part_by path.new) result }
+    requires { IsItem (view_spec.item item.now) }
+    ensures judged { Judges
+        (endings_at (view_spec.item item.now) (map view_spec.constructor types.now)
+        (position_at (map part_by path.old) place unnamed) (map (λ n. n.now) known.now)) (map part_by path.new) result }
     ensures kept { OnOk result (path.new ≡ path.old) }
 {
     path.push(show_item(item, place, unnamed))?;
@@ -116,8 +130,11 @@ fn judge_ending<'a>(
     known: &[&'a Name],
     path: &mut Items<Shown<'a>>,
 ) -> Result<(), Fault>
-    requires { IsItem (item_view item.now) }
-    ensures judged { Judges (ending_at (map part_by path.old) (map (λ n. n.now) known.now) (item_view item.now) ++ item_endings (item_view item.now) (map constructor_view types.now) (map part_by path.old)) (map part_by path.new) result }
+    requires { IsItem (view_spec.item item.now) }
+    ensures judged { Judges
+        (ending_at (map part_by path.old) (map (λ n. n.now) known.now) (view_spec.item item.now)
+        ++ item_endings (view_spec.item item.now) (map view_spec.constructor types.now) (map part_by path.old))
+        (map part_by path.new) result }
     ensures kept { OnOk result (path.new ≡ path.old) }
 {
     match item {
@@ -142,7 +159,9 @@ fn endings_in_type<'a>(
     path: &mut Items<Shown<'a>>,
 ) -> Result<(), Fault>
     requires { IsType (field_type t.now) }
-    ensures judged { Judges (type_endings (field_type t.now) (map constructor_view types.now) (map part_by path.old)) (map part_by path.new) result }
+    ensures judged { Judges
+        (type_endings (field_type t.now) (map view_spec.constructor types.now) (map part_by path.old))
+        (map part_by path.new) result }
     ensures kept { OnOk result (path.new ≡ path.old) }
 {
     match t {
@@ -167,7 +186,8 @@ fn endings_in<'a>(
     path: &mut Items<Shown<'a>>,
 ) -> Result<(), Fault>
     requires { IsExpr (expr e.now) }
-    ensures judged { Judges (expr_endings (expr e.now) (map constructor_view types.now) (map part_by path.old)) (map part_by path.new) result }
+    ensures judged { Judges (expr_endings (expr e.now) (map view_spec.constructor types.now) (map part_by path.old))
+        (map part_by path.new) result }
     ensures kept { OnOk result (path.new ≡ path.old) }
 {
     match e {
@@ -203,7 +223,8 @@ fn endings_in_all<'a>(
     path: &mut Items<Shown<'a>>,
 ) -> Result<(), Fault>
     requires { AreExprs (exprs es.now) }
-    ensures judged { Judges (arg_endings (exprs es.now) (map constructor_view types.now) (map part_by path.old)) (map part_by path.new) result }
+    ensures judged { Judges (arg_endings (exprs es.now) (map view_spec.constructor types.now) (map part_by path.old))
+        (map part_by path.new) result }
     ensures kept { OnOk result (path.new ≡ path.old) }
 {
     for e in es {

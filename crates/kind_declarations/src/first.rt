@@ -4,7 +4,8 @@ ghost use Rattle.tlb_syntax.specs.View.{expr};
 ghost use Rattle.kind_terms.specs.Forms.{out_name as out_name_of};
 ghost use Rattle.kind_declarations.specs.Faults.{causes, first};
 ghost use Rattle.kind_declarations.specs.Nodes.{a_use};
-ghost use Rattle.kind_rules.specs.Known.{is_known_twice as is_known_already, is_no_unknown as is_no_unknown_name, is_other_out_at, is_used_unknown as is_used_unknown_by, is_expected_variable as is_expected_variable_by};
+ghost use Rattle.kind_rules.specs.Known as known_spec;
+ghost use Rattle.kind_rules.specs.Known.{is_other_out_at};
 ghost use Rattle.kind_rules.specs.Numbers.{is_product as is_product_form, is_product_at};
 ghost use Rattle.kind_rules.specs.Views.{expected_by};
 ghost use Rattle.kind_declarations.specs.Views.{scope_by, use_by};
@@ -43,14 +44,15 @@ impl<'a, 't> Scope<'a, 't> {
 
     fn is_not_linear(&self, expected: Expected<'_>, e: &Expr) -> bool
         ensures { result
-            ≡ (is_product_at (expected_by expected.entry) (scope_by self.now) (expr e.now) || is_other_out_at (expected_by expected.entry) (expr e.now)) }
+            ≡ (is_product_at (expected_by expected.entry) (scope_by self.now) (expr e.now)
+            || is_other_out_at (expected_by expected.entry) (expr e.now)) }
     {
         self.is_product_in_place(expected, e) || is_other_out(expected, e)
     }
 
     // Whether the name is a variable of what is expected.
     fn is_expected_variable(&self, expected: Expected<'_>, name: &Name) -> bool
-        ensures { result ≡ is_expected_variable_by (expected_by expected.entry) (scope_by self.now) name.now }
+        ensures { result ≡ known_spec.is_expected_variable (expected_by expected.entry) (scope_by self.now) name.now }
     {
         match expected.kind {
             ExpectedKind::Number(_) => is_number(self.meaning_of(name)),
@@ -60,7 +62,7 @@ impl<'a, 't> Scope<'a, 't> {
     }
 
     fn is_used_unknown(&self, expected: Expected<'_>, e: &Expr) -> bool
-        ensures { result ≡ is_used_unknown_by (use_by self.now (expected_by expected.entry) (expr e.now)) }
+        ensures { result ≡ known_spec.is_used_unknown (use_by self.now (expected_by expected.entry) (expr e.now)) }
     {
         match bare_name(e) {
             None => false,
@@ -70,13 +72,13 @@ impl<'a, 't> Scope<'a, 't> {
 
     // Whether the x of `~x` is a number variable that is no longer to become known.
     fn is_no_unknown(&self, expected: Expected<'_>, name: &Name) -> bool
-        ensures { result ≡ is_no_unknown_name (expected_by expected.entry) (scope_by self.now) (Some name.now) }
+        ensures { result ≡ known_spec.is_no_unknown (expected_by expected.entry) (scope_by self.now) (Some name.now) }
     {
         is_number(self.meaning_of(name)) && (!self.is_own_unknown(name) || is_given(expected, name))
     }
 
     fn is_known_twice(&self, expected: Expected<'_>, e: &Expr) -> bool
-        ensures { result ≡ is_known_already (use_by self.now (expected_by expected.entry) (expr e.now)) }
+        ensures { result ≡ known_spec.is_known_twice (use_by self.now (expected_by expected.entry) (expr e.now)) }
     {
         if is_type_expected(expected) {
             return false;

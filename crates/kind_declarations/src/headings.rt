@@ -8,7 +8,9 @@ ghost use Rattle.kind_terms.specs.Types.{count, first_kinds};
 ghost use Rattle.kind_terms.specs.Views.{constructors_by, kinds_by};
 ghost use Rattle.kind_terms.specs.Words.{x_alone};
 ghost use Rattle.kind_declarations.specs.Faults.{Judges};
-ghost use Rattle.kind_declarations.specs.Headings.{differs_at, is_constructor_twice, is_fewer, is_reserved as is_reserved_in, is_variable_among, is_word, same_name};
+ghost use Rattle.kind_declarations.specs.Headings.{differs_at, is_constructor_twice, is_fewer};
+ghost use Rattle.kind_declarations.specs.Headings.{is_reserved as is_reserved_in, is_variable_among, is_word};
+ghost use Rattle.kind_declarations.specs.Headings.{same_name};
 ghost use Rattle.kind_declarations.specs.Nodes.{heading_nodes, result_path};
 ghost use Rattle.kind_declarations.specs.HeadingViews.{all_params, heading_by, param_cause};
 
@@ -60,7 +62,9 @@ fn line_of(type_name: &[u8], before: usize) -> Option<&'static [u8]>
 
 // Whether the declaration of a dictionary's type, after so many others, is the line of its number.
 fn is_allowed(alloc: Global, constructor: &Constructor, before: usize) -> Result<bool, NoMemory>
-    ensures { IfOk result (λ allowed. allowed ≡ is_line (slice_get (lines_of constructor.now.result) before) (constructor_view constructor.now)) }
+    ensures { IfOk result
+        (λ allowed. allowed
+        ≡ is_line (slice_get (lines_of constructor.now.result) before) (constructor_view constructor.now)) }
 {
     match line_of(constructor.result.text(), before) {
         None => Ok(false),
@@ -164,7 +168,9 @@ fn is_input_among(inputs: &[&Name], param: &Expr) -> bool
 }
 
 fn cause_at(fixed: Option<&[TermKind]>, at: usize, kind: TermKind, is_twice: bool) -> Option<Cause>
-    ensures { result ≡ param_cause (differs_at (option_map (λ kinds. kinds.now) fixed.entry) at kind) (not (has_kind kind)) is_twice }
+    ensures { result
+        ≡ param_cause
+        (differs_at (option_map (λ kinds. kinds.now) fixed.entry) at kind) (not (has_kind kind)) is_twice }
 {
     if is_other_param(fixed, at, kind) {
         Some(Cause::Arity)
@@ -189,7 +195,8 @@ fn fixed_by<'t>(earlier: Option<&'t Declared<'_>>) -> Option<&'t [TermKind]>
 
 #[tactic(auto, using(crate::proofs::Params::count_of_exprs))]
 fn lacks_params(constructor: &Constructor, fixed: Option<&[TermKind]>) -> bool
-    ensures { result ≡ is_fewer (option_map (λ kinds. kinds.now) fixed.entry) (count (constructor_view constructor.now).params) }
+    ensures { result
+        ≡ is_fewer (option_map (λ kinds. kinds.now) fixed.entry) (count (constructor_view constructor.now).params) }
 {
     match fixed {
         None => false,
@@ -227,7 +234,11 @@ pub fn judge_heading(
     types: &Types<'_>,
     constructor: &Constructor,
 ) -> Result<(), Fault>
-    ensures { Judges (heading_nodes (record { earlier = of_type (map constructor_view types.now) constructor.now.result; this = constructor_view constructor.now })) result_path result }
+    ensures { Judges
+        (heading_nodes (record {
+          earlier = of_type (map constructor_view types.now) constructor.now.result;
+          this = constructor_view constructor.now;
+        })) result_path result }
 {
     let earlier = types.declared(constructor.result.text());
     match is_reserved(alloc, constructor, earlier) {

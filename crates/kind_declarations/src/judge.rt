@@ -9,9 +9,11 @@ ghost use Rattle.kind_terms.specs.Words.{is_among as is_word_among};
 ghost use Rattle.kind_rules.specs.ExpectedKinds.{a_type};
 ghost use Rattle.kind_declarations.specs.Faults.{Judges};
 ghost use Rattle.kind_rules.specs.declared.expected.TypePosition.TheVariants.{Conditional};
-ghost use Rattle.kind_declarations.specs.Nodes.{arg_nodes, at, expr_nodes, first_inside, item_nodes, expected_argument, name_at, next, expected_number, record_nodes, type_nodes, use_at};
+ghost use Rattle.kind_declarations.specs.Nodes.{arg_nodes, at, expr_nodes, first_inside, item_nodes, expected_argument};
+ghost use Rattle.kind_declarations.specs.Nodes.{name_at, next, expected_number, record_nodes, type_nodes, use_at};
 ghost use Rattle.kind_declarations.specs.Parts.{part_nodes};
-ghost use Rattle.kind_declarations.specs.Views.{Follows, HasNamed, item_context, after_name, first_by, record_context, path_by, scope_by, words};
+ghost use Rattle.kind_declarations.specs.Views.{Follows, HasNamed, item_context, after_name, first_by, record_context};
+ghost use Rattle.kind_declarations.specs.Views.{path_by, scope_by, words};
 
 use crate::error::{Cause, Fault};
 use crate::row::{Row, keep_first};
@@ -53,7 +55,8 @@ impl<'a, 't> Scope<'a, 't> {
 
     // A type by itself, without its parts.
     fn judge_type_alone(&self, e: &Expr, position: TypePosition) -> Result<(), Fault>
-        ensures { Judges (use_at (item_context self.now) (Some (a_type position)) (expr e.now)) (path_by self.now) result }
+        ensures { Judges (use_at (item_context self.now) (Some (a_type position)) (expr e.now)) (path_by self.now)
+            result }
     {
         self.judge_use(e, Expected::type_at(position))
     }
@@ -67,7 +70,8 @@ impl<'a, 't> Scope<'a, 't> {
 
     // The name of a field, after records with these names of fields.
     fn judge_name(&mut self, name: &'a Name, inside: &[&Name]) -> Result<(), Fault>
-        ensures judged { Judges (name_at (path_by self.old) (words self.old.fields ++ words inside.now) (Some name.now)) (path_by self.new) result }
+        ensures judged { Judges (name_at (path_by self.old) (words self.old.fields ++ words inside.now) (Some name.now))
+            (path_by self.new) result }
         ensures added { OnOk result (self.new ≡ record self.old { fields = self.old.fields ++ name.entry ∷ [] }) }
     {
         if self.is_taken(name, inside) {
@@ -81,7 +85,8 @@ impl<'a, 't> Scope<'a, 't> {
     #[cycle(item)]
     pub fn judge_type(&mut self, e: &'a Expr, position: TypePosition) -> Result<(), Fault>
         requires { IsExpr (expr e.now) }
-        ensures judged { Judges (expr_nodes (expr e.now) (item_context self.old) (Some (a_type position))) (path_by self.new) result }
+        ensures judged { Judges (expr_nodes (expr e.now) (item_context self.old) (Some (a_type position)))
+            (path_by self.new) result }
         ensures kept { OnOk result (self.new ≡ self.old) }
     {
         self.judge_type_alone(e, position)?;
@@ -116,7 +121,8 @@ impl<'a, 't> Scope<'a, 't> {
     #[cycle(item)]
     fn judge_args(&mut self, args: &'a [Expr], kinds: &[TermKind]) -> Result<(), Fault>
         requires { AreExprs (exprs args.now) }
-        ensures judged { Judges (arg_nodes (exprs args.now) (item_context self.old) kinds.now []) (path_by self.new) result }
+        ensures judged { Judges (arg_nodes (exprs args.now) (item_context self.old) kinds.now []) (path_by self.new)
+            result }
         ensures kept { OnOk result (self.new ≡ self.old) }
     {
         let mut given = Items::new(self.alloc);
@@ -134,7 +140,9 @@ impl<'a, 't> Scope<'a, 't> {
     #[cycle(item)]
     fn judge_arg(&mut self, arg: &'a Expr, kind: TermKind, given: &[&Name]) -> Result<(), Fault>
         requires { IsExpr (expr arg.now) }
-        ensures judged { Judges (expr_nodes (expr arg.now) (item_context self.old) (expected_argument kind (words given.now))) (path_by self.new) result }
+        ensures judged { Judges
+            (expr_nodes (expr arg.now) (item_context self.old) (expected_argument kind (words given.now)))
+            (path_by self.new) result }
         ensures kept { OnOk result (self.new ≡ self.old) }
     {
         match kind {
@@ -161,7 +169,9 @@ impl<'a, 't> Scope<'a, 't> {
     #[cycle(item)]
     fn judge_conditional(&mut self, e: &'a Expr, condition: &Expr) -> Result<(), Fault>
         requires { IsExpr (expr e.now) }
-        ensures judged { Judges (expr_nodes (expr condition.now) (item_context self.old) expected_number ++ expr_nodes (expr e.now) (item_context self.old) (Some (a_type Conditional))) (path_by self.new) result }
+        ensures judged { Judges
+            (expr_nodes (expr condition.now) (item_context self.old) expected_number
+            ++ expr_nodes (expr e.now) (item_context self.old) (Some (a_type Conditional))) (path_by self.new) result }
         ensures kept { OnOk result (self.new ≡ self.old) }
     {
         self.judge_number(condition, GREATEST, None)?;
@@ -172,7 +182,9 @@ impl<'a, 't> Scope<'a, 't> {
     #[cycle(item)]
     fn judge_item(&mut self, item: &'a Item, inside: &[&Name]) -> Result<(), Fault>
         requires { IsItem (item_view item.now) }
-        ensures judged { Judges (item_nodes (item_view item.now) (after_name self.old (item_view item.now)) (words self.old.fields ++ words inside.now)) (path_by self.new) result }
+        ensures judged { Judges
+            (item_nodes (item_view item.now) (after_name self.old (item_view item.now))
+            (words self.old.fields ++ words inside.now)) (path_by self.new) result }
         ensures kept { OnOk result (HasNamed self.old self.new (item_view item.now)) }
     {
         match item {
@@ -199,9 +211,12 @@ impl<'a, 't> Scope<'a, 't> {
         requires limits { IsItem (item_view item.now) }
         requires place { row.old.place ≤ 255 }
         requires unnamed { row.old.unnamed ≤ 255 }
-        ensures judged { Judges (item_nodes (item_view item.now) (at (record_context self.old row.old) (item_view item.now)) (words self.old.fields ++ words row.old.inside)) (path_by self.new) result }
+        ensures judged { Judges
+            (item_nodes (item_view item.now) (at (record_context self.old row.old) (item_view item.now))
+            (words self.old.fields ++ words row.old.inside)) (path_by self.new) result }
         ensures follows { OnOk result (Follows self.old self.new) }
-        ensures next { OnOk result (record_context self.new row.new ≡ next (record_context self.old row.old) (item_view item.now)) }
+        ensures next { OnOk result
+            (record_context self.new row.new ≡ next (record_context self.old row.old) (item_view item.now)) }
     {
         self.path.push(show_item(item, row.place, row.unnamed))?;
         self.judge_item(item, row.inside.as_slice())?;
@@ -245,7 +260,8 @@ impl<'a, 't> Scope<'a, 't> {
     fn judge_inner(&mut self, list: &'a [Item]) -> Result<(), Fault>
         requires bounded { item_count (items list.now) ≤ 255 }
         requires limits { AreItems (items list.now) }
-        ensures judged { Judges (record_nodes (items list.now) (first_inside (item_context self.old))) (path_by self.new) result }
+        ensures judged { Judges (record_nodes (items list.now) (first_inside (item_context self.old)))
+            (path_by self.new) result }
         ensures kept { OnOk result (self.new ≡ self.old) }
     {
         let around = self.around;
@@ -264,7 +280,9 @@ impl<'a, 't> Scope<'a, 't> {
 
 // Adds what an item brings into scope.
 fn add_binding<'a>(item: &'a Item, bindings: &mut Items<Binding<'a>>) -> Result<(), AllocError>
-    ensures { OnOk result ((added : _) × (bindings.new ≡ bindings.old ++ added) × (map binding_of added ≡ declares_of (item_view item.now))) }
+    ensures { OnOk result
+        ((added : _) × (bindings.new ≡ bindings.old ++ added)
+        × (map binding_of added ≡ declares_of (item_view item.now))) }
 {
     match declares(item) {
         None => Ok(()),

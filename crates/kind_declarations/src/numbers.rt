@@ -19,7 +19,8 @@ use tlb_syntax::Expr;
 impl<'a, 't> Scope<'a, 't> {
     /// An expression by itself, without its parts.
     pub fn judge_use(&self, e: &Expr, expected: Expected<'_>) -> Result<(), Fault>
-        ensures { Judges (use_at (item_context self.now) (Some (expected_by expected.entry)) (expr e.now)) (map part_by self.now.path) result }
+        ensures { Judges (use_at (item_context self.now) (Some (expected_by expected.entry)) (expr e.now))
+            (map part_by self.now.path) result }
     {
         match self.first_cause(expected, e) {
             None => Ok(()),
@@ -30,7 +31,9 @@ impl<'a, 't> Scope<'a, 't> {
     // A number by itself, without its parts.
     #[tactic(auto, using(crate::proofs::NumberNodes::same_expected))]
     fn judge_number_alone(&self, e: &Expr, most: u32, sought: Option<&Name>) -> Result<(), Fault>
-        ensures { Judges (use_at (item_context self.now) (Some (a_number most (option_map (λ x. x.now) sought.entry))) (expr e.now)) (map part_by self.now.path) result }
+        ensures { Judges
+            (use_at (item_context self.now) (Some (a_number most (option_map (λ x. x.now) sought.entry))) (expr e.now))
+            (map part_by self.now.path) result }
     {
         self.judge_use(e, Expected::number(most, sought))
     }
@@ -38,7 +41,9 @@ impl<'a, 't> Scope<'a, 't> {
     /// An expression where a number is expected, in an equation that seeks this variable or elsewhere.
     #[cycle(number)]
     pub fn judge_number(&self, e: &Expr, most: u32, sought: Option<&Name>) -> Result<(), Fault>
-        ensures { Judges (expr_nodes (expr e.now) (item_context self.now) (Some (a_number most (option_map (λ x. x.now) sought.entry)))) (map part_by self.now.path) result }
+        ensures { Judges
+            (expr_nodes (expr e.now) (item_context self.now)
+            (Some (a_number most (option_map (λ x. x.now) sought.entry)))) (map part_by self.now.path) result }
     {
         match e {
             Expr::Sum(first, second, more) => {
@@ -68,7 +73,8 @@ impl<'a, 't> Scope<'a, 't> {
 
     #[cycle(number)]
     fn judge_terms(&self, terms: &[Expr], sought: Option<&Name>) -> Result<(), Fault>
-        ensures { Judges (number_nodes (exprs terms.now) (item_context self.now) (option_map (λ x. x.now) sought.entry)) (map part_by self.now.path) result }
+        ensures { Judges (number_nodes (exprs terms.now) (item_context self.now) (option_map (λ x. x.now) sought.entry))
+            (map part_by self.now.path) result }
     {
         for term in terms {
             self.judge_number(term, GREATEST, sought)?;
@@ -79,7 +85,9 @@ impl<'a, 't> Scope<'a, 't> {
     /// An expression at an output place, after outputs of the same type.
     #[tactic(auto, using(crate::proofs::NumberNodes::same_expected))]
     pub fn judge_output(&self, e: &Expr, before: &[&Name]) -> Result<(), Fault>
-        ensures { Judges (expr_nodes (expr e.now) (item_context self.now) (Some (an_output (map (λ x. x.now) before.now)))) (map part_by self.now.path) result }
+        ensures { Judges
+            (expr_nodes (expr e.now) (item_context self.now) (Some (an_output (map (λ x. x.now) before.now))))
+            (map part_by self.now.path) result }
     {
         self.judge_use(e, Expected::output(before))
     }

@@ -18,7 +18,8 @@ use tlb_syntax::{Constructor, Expr};
 impl<'a, 't> Scope<'a, 't> {
     // A parameter of a result: the number of an output.
     fn judge_param(&self, param: &Expr) -> Result<(), Fault>
-        ensures { Judges (output_nodes (an_expr (expr param.now) no_exprs) (item_context self.now)) (path_by self.now) result }
+        ensures { Judges (output_nodes (an_expr (expr param.now) no_exprs) (item_context self.now)) (path_by self.now)
+            result }
     {
         match param {
             Expr::Out(number) => self.judge_number(number.get(), GREATEST, None),
@@ -60,8 +61,8 @@ impl<'a, 't> Scope<'a, 't> {
     }
 }
 
-/// The items of a constructor, and its outputs, after all declarations of types. On a refusal the path leads to the item
-/// at fault, and else it is empty.
+/// The items of a constructor, and its outputs, after all declarations of types. On a refusal the path leads to the
+/// item at fault, and else it is empty.
 pub fn judge_record<'a, 't>(
     alloc: Global,
     types: &'t Types<'a>,
@@ -69,7 +70,8 @@ pub fn judge_record<'a, 't>(
     path: &mut Items<Shown<'a>>,
 ) -> Result<(), Fault>
     requires { IsConstructor (constructor_view constructor.now) }
-    ensures judged { Judges (record_and_outputs (map constructor_view types.now) (constructor_view constructor.now)) (map part_by path.new) result }
+    ensures judged { Judges (record_and_outputs (map constructor_view types.now) (constructor_view constructor.now))
+        (map part_by path.new) result }
     ensures kept { OnOk result (path.new ≡ []) }
 {
     let known = inputs(alloc, constructor)?;

@@ -39,8 +39,11 @@ impl<'a> Row<'a> {
         requires place { self.old.place ≤ 255 }
         requires unnamed { self.old.unnamed ≤ 255 }
         ensures place { OnOk result (self.new.place ≡ self.old.place + 1) }
-        ensures unnamed { OnOk result (self.new.unnamed ≡ (if is_unnamed_item (item_view item.now) then self.old.unnamed + 1 else self.old.unnamed)) }
-        ensures inside { OnOk result (words self.new.inside ≡ words self.old.inside ++ names_inside (item_view item.now)) }
+        ensures unnamed { OnOk result
+            (self.new.unnamed
+            ≡ (if is_unnamed_item (item_view item.now) then self.old.unnamed + 1 else self.old.unnamed)) }
+        ensures inside { OnOk result
+            (words self.new.inside ≡ words self.old.inside ++ names_inside (item_view item.now)) }
     {
         add_names_inside(item, &mut self.inside)?;
         self.place += 1;

@@ -4,7 +4,8 @@ ghost use Rattle.std.specs.List.{list_any};
 ghost use Rattle.tlb_syntax.specs.View.{expr, exprs};
 ghost use Rattle.kind_terms.specs.Forms.{parts_of_all};
 ghost use Rattle.kind_terms.specs.Params.{bare_name as bare_name_of};
-ghost use Rattle.kind_terms.specs.Scopes.{in_scope, is_implicit_number, is_known as is_known_in, is_own_unknown as is_own_unknown_in, meaning_of as meaning_of_name};
+ghost use Rattle.kind_terms.specs.Scopes.{in_scope, is_implicit_number};
+ghost use Rattle.kind_terms.specs.Scopes as scopes_spec;
 ghost use Rattle.kind_terms.specs.Types.{type_named};
 ghost use Rattle.kind_terms.specs.Views.{named_by};
 ghost use Rattle.kind_rules.specs.ExpectedKinds.{as_type, type_unless, meaning_by};
@@ -41,7 +42,16 @@ fn is_implicit(meaning: Option<Meaning>) -> bool
 impl<'a, 't> Scope<'a, 't> {
     /// The first item of a constructor, of which the inputs are known from the start.
     pub fn new(alloc: Global, types: &'t Types<'a>, inputs: Items<&'a Name>) -> Scope<'a, 't>
-        ensures { result ≡ record { alloc = alloc; types = types.entry; path = []; bindings = []; around = 0; known = inputs.entry; fields = [] } }
+        ensures { result
+            ≡ record {
+              alloc = alloc;
+              types = types.entry;
+              path = [];
+              bindings = [];
+              around = 0;
+              known = inputs.entry;
+              fields = [];
+            } }
     {
         Scope {
             alloc,
@@ -57,14 +67,14 @@ impl<'a, 't> Scope<'a, 't> {
     /// What a name stands for, if it is in scope.
     #[tactic(auto, using(crate::proofs::ScopeViews::meaning_of_seen))]
     pub fn meaning_of(&self, name: &Name) -> Option<Meaning>
-        ensures { result ≡ meaning_of_name (scope_by self.now) name.now }
+        ensures { result ≡ scopes_spec.meaning_of (scope_by self.now) name.now }
     {
         meaning_in(self.bindings.as_slice(), name)
     }
 
     #[tactic(auto, unfolding(crate::specs::Views::scope_of))]
     pub fn is_known(&self, name: &Name) -> bool
-        ensures { result ≡ is_known_in (scope_by self.now) name.now }
+        ensures { result ≡ scopes_spec.is_known (scope_by self.now) name.now }
     {
         is_among(self.known.as_slice(), name)
     }
@@ -84,7 +94,7 @@ impl<'a, 't> Scope<'a, 't> {
     /// Whether the name is an implicit number of the same record that is not known.
     #[tactic(auto, using(crate::proofs::ScopeViews::own_seen))]
     pub fn is_own_unknown(&self, name: &Name) -> bool
-        ensures { result ≡ is_own_unknown_in (scope_by self.now) name.now }
+        ensures { result ≡ scopes_spec.is_own_unknown (scope_by self.now) name.now }
     {
         is_implicit(meaning_in(self.own(), name)) && !self.is_known(name)
     }
@@ -103,7 +113,8 @@ impl<'a, 't> Scope<'a, 't> {
     #[tactic(auto, using(crate::proofs::ScopeViews::types_seen))]
     fn type_named(&self, name: &Name, has_arguments: bool) -> Option<TypeNamed<'t>>
         ensures { option_map named_by result
-            ≡ type_unless (not has_arguments && in_scope (scope_by self.now) name.now) (type_named (scope_by self.now).types name.now has_arguments) }
+            ≡ type_unless (not has_arguments && in_scope (scope_by self.now) name.now)
+            (type_named (scope_by self.now).types name.now has_arguments) }
     {
         if !has_arguments && self.meaning_of(name).is_some() {
             return None;

@@ -1,6 +1,8 @@
 -- The names of the fields of records in items.
 use Rattle.std.specs.Prelude.{List, [], ◌++◌}
-use Rattle.tlb_syntax.specs.Tree.{ExprView, ExprList, ItemView, ItemList, TypeView, lit, named, nat32, bits, below, up_to, plus, star, out, ref, group, no_exprs, an_expr, plain, when, when_bit, implicit, check, explicit, no_items, an_item}
+use Rattle.tlb_syntax.specs.Tree.{ExprView, ExprList, ItemView, ItemList, TypeView, lit, named, nat32, bits, below}
+use Rattle.tlb_syntax.specs.Tree.{up_to, plus, star, out, ref, group, no_exprs, an_expr, plain, when, when_bit}
+use Rattle.tlb_syntax.specs.Tree.{implicit, check, explicit, no_items, an_item}
 use Rattle.kind_terms.specs.Words.{Word}
 use Rattle.kind_terms.specs.Scopes.{field_names}
 

@@ -6,7 +6,8 @@ use Rattle.kind_terms.specs.Params.{bare_name}
 use Rattle.kind_terms.specs.Types.{TypeNamed, no_type, basic, declared, count}
 use Rattle.kind_terms.specs.Forms.{parts}
 use Rattle.kind_terms.specs.Scopes.{Scope, is_number_meaning, is_type_meaning}
-use Rattle.kind_rules.specs.ExpectedKinds.{Expected, Use, a_number, an_output, a_type, used_at, type_at, meaning_at, meaning_by, is_type_expected}
+use Rattle.kind_rules.specs.ExpectedKinds.{Expected, Use, a_number, an_output, a_type, used_at, type_at, meaning_at}
+use Rattle.kind_rules.specs.ExpectedKinds.{meaning_by, is_type_expected}
 
 -- a number variable in scope
 abbrev pub is_variable_in : Scope → ExprView → Bool
@@ -75,7 +76,8 @@ is_number_shaped (group is) = false
 -- A type stands where a number is expected: one by its form, a name that is a type, or a variable of types.
 abbrev pub is_type_for_number : Use → Bool
 is_type_for_number u =
-    not (is_type_expected u.expected) && (is_type_shaped u.at || is_some_type (type_at u) || is_type_meaning (meaning_at u))
+    not (is_type_expected u.expected)
+    && (is_type_shaped u.at || is_some_type (type_at u) || is_type_meaning (meaning_at u))
 
 -- A number stands where a type is expected: one by its form, or a variable of numbers.
 abbrev pub is_number_for_type : Use → Bool

@@ -10,7 +10,8 @@ use Rattle.kind_rules.specs.Numbers.{is_type_shaped, is_number_shaped, is_some_t
 use Rattle.kind_rules.specs.Outputs.{is_at_position, is_conditional_or_part, gives_outputs, is_no_output_at}
 use Rattle.kind_rules.specs.Records.{is_group, takes_no_record}
 
--- `is_mismatch` at an expression e where this is expected; its name is that of v, which is this type and has this meaning
+-- `is_mismatch` at an expression e where this is expected; its name is that of v, which is this type and has this
+-- meaning
 abbrev pub mismatches : Expected → Option TypeNamed → Option Meaning → ExprView → ExprView → Bool
 mismatches d t m e v =
     is_no_variable m

@@ -12,7 +12,8 @@ use tlb_syntax::{Expr, FieldType, Item};
 
 /// Adds the name of a field.
 pub fn add_field_name<'a>(item: &'a Item, names: &mut Items<&'a Name>) -> Result<(), AllocError>
-    ensures { OnOk result (map (λ x. x.now) names.new ≡ map (λ x. x.now) names.old ++ field_names (item_view item.now)) }
+    ensures { OnOk result
+        (map (λ x. x.now) names.new ≡ map (λ x. x.now) names.old ++ field_names (item_view item.now)) }
 {
     match field_name(item) {
         None => Ok(()),
@@ -69,7 +70,8 @@ fn add_names_of<'a>(list: &'a [Item], names: &mut Items<&'a Name>) -> Result<(),
 /// Adds the names of all fields of the records in an item.
 #[cycle(names)]
 pub fn add_names_inside<'a>(item: &'a Item, names: &mut Items<&'a Name>) -> Result<(), AllocError>
-    ensures { OnOk result (map (λ x. x.now) names.new ≡ map (λ x. x.now) names.old ++ names_inside (item_view item.now)) }
+    ensures { OnOk result
+        (map (λ x. x.now) names.new ≡ map (λ x. x.now) names.old ++ names_inside (item_view item.now)) }
 {
     match item {
         Item::Implicit(_, _) | Item::Check(_, _, _) => Ok(()),
@@ -79,7 +81,8 @@ pub fn add_names_inside<'a>(item: &'a Item, names: &mut Items<&'a Name>) -> Resu
 
 #[cycle(names)]
 fn add_names_in_type<'a>(t: &'a FieldType, names: &mut Items<&'a Name>) -> Result<(), AllocError>
-    ensures { OnOk result (map (λ x. x.now) names.new ≡ map (λ x. x.now) names.old ++ names_in_type (field_type t.now)) }
+    ensures { OnOk result
+        (map (λ x. x.now) names.new ≡ map (λ x. x.now) names.old ++ names_in_type (field_type t.now)) }
 {
     match t {
         FieldType::Plain(e) => add_names_in(e, names),

@@ -5,11 +5,13 @@ ghost use Rattle.kind_terms.specs.Params.{bare_name as bare_name_of};
 ghost use Rattle.kind_terms.specs.Scopes.{is_number_meaning, is_type_meaning};
 ghost use Rattle.kind_terms.specs.Types.{count};
 ghost use Rattle.kind_terms.specs.Views.{named_by};
-ghost use Rattle.kind_rules.specs.ExpectedKinds.{arguments, is_type_expected as is_type_expected_by, operand as operand_of, used as used_by};
-ghost use Rattle.kind_rules.specs.Names.{is_for_type as is_for_a_type, is_no_variable as is_other_meaning, names_none as names_no_type, takes_others as takes_other_count};
-ghost use Rattle.kind_rules.specs.Numbers.{is_number_shaped as is_number_form, is_other_basic as is_other_basic_form, is_some_type as is_a_type, is_type_shaped as is_type_form, takes_other_basic as takes_other_basic_count};
+ghost use Rattle.kind_rules.specs.ExpectedKinds.{arguments};
+ghost use Rattle.kind_rules.specs.ExpectedKinds as expected_kinds_spec;
+ghost use Rattle.kind_rules.specs.Names as names_spec;
+ghost use Rattle.kind_rules.specs.Numbers as numbers_spec;
 ghost use Rattle.kind_rules.specs.Known.{given_before, is_other_out_at, seeks as seeks_name};
-ghost use Rattle.kind_rules.specs.Outputs.{gives_outputs as gives_some_outputs, is_conditional_or_part, is_no_output_at, is_under_ref, is_at_position};
+ghost use Rattle.kind_rules.specs.Outputs.{gives_outputs as gives_some_outputs, is_conditional_or_part};
+ghost use Rattle.kind_rules.specs.Outputs.{is_no_output_at, is_under_ref, is_at_position};
 ghost use Rattle.kind_rules.specs.Records.{is_group as is_group_form, takes_no_record};
 ghost use Rattle.kind_rules.specs.Widths.{is_wide_at, is_wide_name as is_wide_type};
 ghost use Rattle.kind_terms.specs.Words.{is_among as is_word_among};
@@ -28,14 +30,14 @@ use tlb_syntax::Expr;
 pub type Named<'t> = Option<TypeNamed<'t>>;
 
 pub fn is_type_expected(expected: Expected<'_>) -> bool
-    ensures { result ≡ is_type_expected_by (expected_by expected.entry) }
+    ensures { result ≡ expected_kinds_spec.is_type_expected (expected_by expected.entry) }
 {
     matches!(expected.kind, ExpectedKind::TypeAt(_))
 }
 
 /// `~x` is judged together with its x, where no type is expected.
 pub fn used<'e>(expected: Expected<'_>, e: &'e Expr) -> &'e Expr
-    ensures { expr result.now ≡ used_by (expected_by expected.entry) (expr e.now) }
+    ensures { expr result.now ≡ expected_kinds_spec.used (expected_by expected.entry) (expr e.now) }
 {
     match expected.kind {
         ExpectedKind::TypeAt(_) => e,
@@ -45,7 +47,7 @@ pub fn used<'e>(expected: Expected<'_>, e: &'e Expr) -> &'e Expr
 
 // x for `~x`.
 fn operand(e: &Expr) -> &Expr
-    ensures { expr result.now ≡ operand_of (expr e.now) }
+    ensures { expr result.now ≡ expected_kinds_spec.operand (expr e.now) }
 {
     match e {
         Expr::Out(inner) => {
@@ -72,7 +74,7 @@ pub fn arg_count(e: &Expr) -> usize
 }
 
 fn names_none(named: Named<'_>) -> bool
-    ensures { result ≡ names_no_type (option_map named_by named.entry) }
+    ensures { result ≡ names_spec.names_none (option_map named_by named.entry) }
 {
     match named {
         None => false,
@@ -81,7 +83,7 @@ fn names_none(named: Named<'_>) -> bool
 }
 
 fn is_some_type(named: Named<'_>) -> bool
-    ensures { result ≡ is_a_type (option_map named_by named.entry) }
+    ensures { result ≡ numbers_spec.is_some_type (option_map named_by named.entry) }
 {
     match named {
         None => false,
@@ -91,25 +93,29 @@ fn is_some_type(named: Named<'_>) -> bool
 
 // Whether a name with so many arguments is to be a type.
 fn is_for_type(expected: Expected<'_>, args: usize) -> bool
-    ensures { result ≡ is_for_a_type (expected_by expected.entry) args }
+    ensures { result ≡ names_spec.is_for_type (expected_by expected.entry) args }
 {
     is_type_expected(expected) || args > 0
 }
 
 pub fn is_unknown_type(expected: Expected<'_>, named: Named<'_>, args: usize) -> bool
-    ensures { result ≡ (names_no_type (option_map named_by named.entry) && is_for_a_type (expected_by expected.entry) args) }
+    ensures { result
+        ≡ (names_spec.names_none (option_map named_by named.entry)
+        && names_spec.is_for_type (expected_by expected.entry) args) }
 {
     names_none(named) && is_for_type(expected, args)
 }
 
 pub fn is_unknown_name(expected: Expected<'_>, named: Named<'_>, args: usize) -> bool
-    ensures { result ≡ (names_no_type (option_map named_by named.entry) && not (is_for_a_type (expected_by expected.entry) args)) }
+    ensures { result
+        ≡ (names_spec.names_none (option_map named_by named.entry)
+        && not (names_spec.is_for_type (expected_by expected.entry) args)) }
 {
     names_none(named) && !is_for_type(expected, args)
 }
 
 pub fn takes_others(named: Named<'_>, args: usize) -> bool
-    ensures { result ≡ takes_other_count (option_map named_by named.entry) args }
+    ensures { result ≡ names_spec.takes_others (option_map named_by named.entry) args }
 {
     match named {
         None => false,
@@ -118,7 +124,7 @@ pub fn takes_others(named: Named<'_>, args: usize) -> bool
 }
 
 fn takes_other_basic(named: Named<'_>, args: usize) -> bool
-    ensures { result ≡ takes_other_basic_count (option_map named_by named.entry) args }
+    ensures { result ≡ numbers_spec.takes_other_basic (option_map named_by named.entry) args }
 {
     match named {
         None => false,
@@ -127,7 +133,7 @@ fn takes_other_basic(named: Named<'_>, args: usize) -> bool
 }
 
 fn is_no_variable(meaning: Option<Meaning>) -> bool
-    ensures { result ≡ is_other_meaning meaning }
+    ensures { result ≡ names_spec.is_no_variable meaning }
 {
     matches!(meaning, Some(Meaning::OtherField))
 }
@@ -149,7 +155,7 @@ pub fn is_type_variable(meaning: Option<Meaning>) -> bool
 
 /// Whether it is no number, whatever stands in it.
 fn is_type_shaped(e: &Expr) -> bool
-    ensures { result ≡ is_type_form (expr e.now) }
+    ensures { result ≡ numbers_spec.is_type_shaped (expr e.now) }
 {
     match e {
         Expr::Nat32
@@ -165,7 +171,7 @@ fn is_type_shaped(e: &Expr) -> bool
 
 /// Whether it is no type, whatever stands in it.
 fn is_number_shaped(e: &Expr) -> bool
-    ensures { result ≡ is_number_form (expr e.now) }
+    ensures { result ≡ numbers_spec.is_number_shaped (expr e.now) }
 {
     match e {
         Expr::Lit(_) | Expr::Out(_) => true,
@@ -186,7 +192,7 @@ fn is_group(e: &Expr) -> bool
 
 /// Whether a basic type has another number of arguments than it takes.
 fn is_other_basic(named: Named<'_>, e: &Expr) -> bool
-    ensures { result ≡ is_other_basic_form (option_map named_by named.entry) (expr e.now) }
+    ensures { result ≡ numbers_spec.is_other_basic (option_map named_by named.entry) (expr e.now) }
 {
     match e {
         Expr::Bits(args) | Expr::Below(args) | Expr::UpTo(args) => args.len() != 1,
@@ -299,7 +305,9 @@ pub fn is_too_wide(expected: Expected<'_>, named: Named<'_>, e: &Expr) -> bool
 }
 
 pub fn is_output_under_ref(expected: Expected<'_>, named: Named<'_>) -> bool
-    ensures { result ≡ (is_at_position is_under_ref (expected_by expected.entry) && gives_some_outputs (option_map named_by named.entry)) }
+    ensures { result
+        ≡ (is_at_position is_under_ref (expected_by expected.entry)
+        && gives_some_outputs (option_map named_by named.entry)) }
 {
     is_position_under_ref(expected) && gives_outputs(named)
 }
@@ -311,19 +319,24 @@ fn is_type_for_number(
     e: &Expr,
 ) -> bool
     ensures { result
-        ≡ (not (is_type_expected_by (expected_by expected.entry)) && (is_type_form (expr e.now) || is_a_type (option_map named_by named.entry) || is_type_meaning meaning)) }
+        ≡ (not (expected_kinds_spec.is_type_expected (expected_by expected.entry))
+        && (numbers_spec.is_type_shaped (expr e.now) || numbers_spec.is_some_type (option_map named_by named.entry)
+        || is_type_meaning meaning)) }
 {
     !is_type_expected(expected)
         && (is_type_shaped(e) || is_some_type(named) || is_type_variable(meaning))
 }
 
 fn is_number_for_type(expected: Expected<'_>, meaning: Option<Meaning>, e: &Expr) -> bool
-    ensures { result ≡ (is_type_expected_by (expected_by expected.entry) && (is_number_form (expr e.now) || is_number_meaning meaning)) }
+    ensures { result
+        ≡ (expected_kinds_spec.is_type_expected (expected_by expected.entry)
+        && (numbers_spec.is_number_shaped (expr e.now) || is_number_meaning meaning)) }
 {
     is_type_expected(expected) && (is_number_shaped(e) || is_number(meaning))
 }
 
-/// Whether a type, a number or an output stands where another of them is expected; `at` is the expression whose name is used.
+/// Whether a type, a number or an output stands where another of them is expected; `at` is the expression whose name
+/// is used.
 pub fn is_mismatch(
     expected: Expected<'_>,
     named: Named<'_>,
@@ -331,7 +344,8 @@ pub fn is_mismatch(
     e: &Expr,
     at: &Expr,
 ) -> bool
-    ensures { result ≡ mismatches (expected_by expected.entry) (option_map named_by named.entry) meaning (expr e.now) (expr at.now) }
+    ensures { result
+        ≡ mismatches (expected_by expected.entry) (option_map named_by named.entry) meaning (expr e.now) (expr at.now) }
 {
     is_no_variable(meaning)
         || is_type_for_number(expected, named, meaning, e)

@@ -1,6 +1,7 @@
 -- The declarations that the types of dictionaries may have.
 -- Source: these lines restate those of block.tlb.
-use Rattle.std.specs.Prelude.{ℕ, List, [], ◌∷◌, ◌++◌, Bool, false, not, Option, Some, None, codes, bytes_eq, slice_get, length, filter, if◌then◌else◌}
+use Rattle.std.specs.Prelude.{ℕ, List, [], ◌∷◌, ◌++◌, Bool, false, not, Option, Some, None, codes, bytes_eq, slice_get}
+use Rattle.std.specs.Prelude.{length, filter, if◌then◌else◌}
 use Rattle.tlb_syntax.specs.Tree.{ConstructorView, SchemaView}
 use Rattle.kind_terms.specs.Words.{Word, is_among}
 use Rattle.tlb_syntax.specs.Text.{constructor_text}

@@ -1,6 +1,7 @@
 -- Forms of expressions, and the expressions in them.
 use Rattle.std.specs.Prelude.{List, [], ◌∷◌, ◌++◌, Bool, true, false, Option, None}
-use Rattle.tlb_syntax.specs.Tree.{ExprView, ExprList, TypeView, lit, named, nat32, bits, below, up_to, plus, star, out, ref, group, no_exprs, an_expr, plain, when, when_bit}
+use Rattle.tlb_syntax.specs.Tree.{ExprView, ExprList, TypeView, lit, named, nat32, bits, below, up_to, plus, star, out}
+use Rattle.tlb_syntax.specs.Tree.{ref, group, no_exprs, an_expr, plain, when, when_bit}
 use Rattle.kind_terms.specs.Words.{Word}
 use Rattle.kind_terms.specs.Params.{bare_name}
 

@@ -1,10 +1,13 @@
 -- The parameters of a result.
 -- Source: the TON documentation on TL-B (parametrized types), and this project's rules.
-use Rattle.std.specs.Prelude.{ℕ, ◌-◌, ◌^◌, List, [], ◌∷◌, ◌++◌, Bool, true, false, not, Option, Some, None, bytes_eq, if◌then◌else◌}
+use Rattle.std.specs.Prelude.{ℕ, ◌-◌, ◌^◌, List, [], ◌∷◌, ◌++◌, Bool, true, false, not, Option, Some, None, bytes_eq}
+use Rattle.std.specs.Prelude.{if◌then◌else◌}
 use Rattle.std.specs.List.{list_any}
 use Rattle.tlb_syntax.specs.declared.tree.ParamKind.{ParamKind}
 use Rattle.tlb_syntax.specs.declared.tree.ParamKind.TheVariants.{Nat, Ty}
-use Rattle.tlb_syntax.specs.Tree.{ExprView, ExprList, ItemList, ConstructorView, lit, named, nat32, bits, below, up_to, plus, star, out, ref, group, no_exprs, an_expr, implicit, check, explicit, no_items, an_item}
+use Rattle.tlb_syntax.specs.Tree.{ExprView, ExprList, ItemList, ConstructorView, lit, named, nat32, bits, below, up_to}
+use Rattle.tlb_syntax.specs.Tree.{plus, star, out, ref, group, no_exprs, an_expr, implicit, check, explicit, no_items}
+use Rattle.tlb_syntax.specs.Tree.{an_item}
 use Rattle.kind_terms.specs.declared.kind.TermKind.{TermKind}
 use Rattle.kind_terms.specs.declared.kind.TermKind.TheVariants.{NumberIn, TypeIn, NumberOut, NoKind}
 use Rattle.kind_terms.specs.Words.{Word}

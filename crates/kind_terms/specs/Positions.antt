@@ -1,6 +1,7 @@
 -- Positions of items in their records, and how items are shown in a path.
 -- Source: this project's rules; a refusal says at which item it is by a path.
-use Rattle.std.specs.Prelude.{ℕ, ◌+◌, ◌==◌, List, [], ◌∷◌, ◌++◌, Bool, true, false, Option, Some, None, codes, decimal, if◌then◌else◌}
+use Rattle.std.specs.Prelude.{ℕ, ◌+◌, ◌==◌, List, [], ◌∷◌, ◌++◌, Bool, true, false, Option, Some, None, codes, decimal}
+use Rattle.std.specs.Prelude.{if◌then◌else◌}
 use Rattle.tlb_syntax.specs.Tree.{ItemView, implicit, check, explicit}
 use Rattle.kind_terms.specs.declared.part.Part.{Part}
 use Rattle.kind_terms.specs.declared.part.Part.TheVariants as places

@@ -1,9 +1,12 @@
 -- Names in scope, and the variables that are known.
 -- Source: the TON documentation on TL-B (implicit and explicit fields), and this project's rules.
-use Rattle.std.specs.Prelude.{◌&&◌, not, List, [], ◌∷◌, ◌++◌, Bool, true, false, Option, Some, None, is_some, bytes_eq, if◌then◌else◌}
+use Rattle.std.specs.Prelude.{◌&&◌, not, List, [], ◌∷◌, ◌++◌, Bool, true, false, Option, Some, None, is_some, bytes_eq}
+use Rattle.std.specs.Prelude.{if◌then◌else◌}
 use Rattle.tlb_syntax.specs.declared.tree.ParamKind.{ParamKind}
 use Rattle.tlb_syntax.specs.declared.tree.ParamKind.TheVariants.{Nat, Ty}
-use Rattle.tlb_syntax.specs.Tree.{ExprView, ExprList, ItemView, ItemList, TypeView, SchemaView, lit, named, nat32, bits, below, up_to, plus, star, out, ref, group, no_exprs, an_expr, plain, when, when_bit, implicit, check, explicit, no_items, an_item}
+use Rattle.tlb_syntax.specs.Tree.{ExprView, ExprList, ItemView, ItemList, TypeView, SchemaView, lit, named, nat32, bits}
+use Rattle.tlb_syntax.specs.Tree.{below, up_to, plus, star, out, ref, group, no_exprs, an_expr, plain, when, when_bit}
+use Rattle.tlb_syntax.specs.Tree.{implicit, check, explicit, no_items, an_item}
 use Rattle.kind_terms.specs.declared.scope.Meaning.{Meaning}
 use Rattle.kind_terms.specs.declared.scope.Meaning.TheVariants.{ImplicitNumber, FieldNumber, TypeVariable, OtherField}
 use Rattle.kind_terms.specs.declared.kind.TermKind.{TermKind}

@@ -1,6 +1,7 @@
 -- What a name is as a type.
 -- Source: the TON documentation on TL-B (built-in types), and this project's rules.
-use Rattle.std.specs.Prelude.{ℕ, suc, List, [], ◌∷◌, Bool, true, false, Option, Some, None, find, codes, bytes_eq, if◌then◌else◌}
+use Rattle.std.specs.Prelude.{ℕ, suc, List, [], ◌∷◌, Bool, true, false, Option, Some, None, find, codes, bytes_eq}
+use Rattle.std.specs.Prelude.{if◌then◌else◌}
 use Rattle.tlb_syntax.specs.Tree.{SchemaView, ExprList, no_exprs, an_expr}
 use Rattle.kind_terms.specs.Words.{Word, Family, families, is_among, has_width}
 use Rattle.kind_terms.specs.Dictionaries.{hashmap, hashmap_e, of_type}

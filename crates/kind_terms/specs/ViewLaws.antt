@@ -1,5 +1,6 @@
 -- The views of the program's expressions, form by form.
-use Rattle.std.proofs.Common.{◌≡◌, ap, sym, ◌∙◌, List, [], ◌∷◌, map, ℕ, suc, length, Bool, true, false, not, refl, rules, ◌↔◌}
+use Rattle.std.proofs.Common.{◌≡◌, ap, sym, ◌∙◌, List, [], ◌∷◌, map, ℕ, suc, length, Bool, true, false, not, refl}
+use Rattle.std.proofs.Common.{rules, ◌↔◌}
 use Rattle.std.proofs.Common.{drop, get_or, add-one, ◌+◌, ◌<◌, ◌≤◌}
 use Rattle.std.proofs.Math.Seq.{drop-cons}
 use Rattle.std.proofs.lemmas.List.{drop_all}
@@ -11,34 +12,44 @@ use Rattle.tlb_syntax.specs.declared.tree.Item.TheVariants.{Implicit, Check, Exp
 use Rattle.tlb_syntax.specs.declared.tree.FieldType.{FieldType}
 use Rattle.tlb_syntax.specs.declared.tree.ParamKind.{ParamKind}
 use Rattle.nat_solver.specs.declared.compare.Op.{Op}
-use Rattle.tlb_syntax.specs.declared.tree.Expr.TheVariants.{Lit, Named, Nat32, Bits, Below, UpTo, Sum, Star, Out, Ref, Group, rolls-Lit, rolls-Named, rolls-Nat32, rolls-Bits, rolls-Below, rolls-UpTo, rolls-Sum, rolls-Star, rolls-Out, rolls-Ref, rolls-Group}
+use Rattle.tlb_syntax.specs.declared.tree.Expr.TheVariants.{Lit, Named, Nat32, Bits, Below, UpTo, Sum, Star, Out, Ref}
+use Rattle.tlb_syntax.specs.declared.tree.Expr.TheVariants.{Group, rolls-Lit, rolls-Named, rolls-Nat32, rolls-Bits}
+use Rattle.tlb_syntax.specs.declared.tree.Expr.TheVariants.{rolls-Below, rolls-UpTo, rolls-Sum, rolls-Star, rolls-Out}
+use Rattle.tlb_syntax.specs.declared.tree.Expr.TheVariants.{rolls-Ref, rolls-Group}
 use Rattle.tlb_syntax.specs.declared.tree.Expr.TheOpen as open_forms
 use Rattle.tlb_syntax.specs.View.{expr, exprs, field_type, item, items, expr_step, type_step, item_step}
-use Rattle.tlb_syntax.specs.Tree.{ExprView, TypeView, ItemView, lit, named, nat32, bits, below, up_to, star, out, ref, group, sum_of, no_exprs, an_expr, no_items, an_item, implicit, check, explicit}
+use Rattle.tlb_syntax.specs.Tree.{ExprView, TypeView, ItemView, lit, named, nat32, bits, below, up_to, star, out, ref}
+use Rattle.tlb_syntax.specs.Tree.{group, sum_of, no_exprs, an_expr, no_items, an_item, implicit, check, explicit}
 
 pub seen_lit : (e : Expr) (n : ℕ) → e ≡ Lit n → expr e ≡ lit n
 seen_lit e n is =
-    ap expr (is ∙ sym (rolls-Lit n)) ∙ fold-roll-Expr ExprView TypeView ItemView expr_step type_step item_step (open_forms.Lit n)
+    ap expr (is ∙ sym (rolls-Lit n))
+        ∙ fold-roll-Expr ExprView TypeView ItemView expr_step type_step item_step (open_forms.Lit n)
 
 pub seen_named : (e : Expr) (x : List ℕ) (es : List Expr) → e ≡ Named x es → expr e ≡ named x (exprs es)
 seen_named e x es is =
-    ap expr (is ∙ sym (rolls-Named x es)) ∙ fold-roll-Expr ExprView TypeView ItemView expr_step type_step item_step (open_forms.Named x es)
+    ap expr (is ∙ sym (rolls-Named x es))
+        ∙ fold-roll-Expr ExprView TypeView ItemView expr_step type_step item_step (open_forms.Named x es)
 
 pub seen_nat32 : (e : Expr) → e ≡ Nat32 → expr e ≡ nat32
 seen_nat32 e is =
-    ap expr (is ∙ sym rolls-Nat32) ∙ fold-roll-Expr ExprView TypeView ItemView expr_step type_step item_step open_forms.Nat32
+    ap expr (is ∙ sym rolls-Nat32)
+        ∙ fold-roll-Expr ExprView TypeView ItemView expr_step type_step item_step open_forms.Nat32
 
 pub seen_bits : (e : Expr) (es : List Expr) → e ≡ Bits es → expr e ≡ bits (exprs es)
 seen_bits e es is =
-    ap expr (is ∙ sym (rolls-Bits es)) ∙ fold-roll-Expr ExprView TypeView ItemView expr_step type_step item_step (open_forms.Bits es)
+    ap expr (is ∙ sym (rolls-Bits es))
+        ∙ fold-roll-Expr ExprView TypeView ItemView expr_step type_step item_step (open_forms.Bits es)
 
 pub seen_below : (e : Expr) (es : List Expr) → e ≡ Below es → expr e ≡ below (exprs es)
 seen_below e es is =
-    ap expr (is ∙ sym (rolls-Below es)) ∙ fold-roll-Expr ExprView TypeView ItemView expr_step type_step item_step (open_forms.Below es)
+    ap expr (is ∙ sym (rolls-Below es))
+        ∙ fold-roll-Expr ExprView TypeView ItemView expr_step type_step item_step (open_forms.Below es)
 
 pub seen_up_to : (e : Expr) (es : List Expr) → e ≡ UpTo es → expr e ≡ up_to (exprs es)
 seen_up_to e es is =
-    ap expr (is ∙ sym (rolls-UpTo es)) ∙ fold-roll-Expr ExprView TypeView ItemView expr_step type_step item_step (open_forms.UpTo es)
+    ap expr (is ∙ sym (rolls-UpTo es))
+        ∙ fold-roll-Expr ExprView TypeView ItemView expr_step type_step item_step (open_forms.UpTo es)
 
 pub seen_sum : (e a b : Expr) (es : List Expr) → e ≡ Sum a b es → expr e ≡ sum_of (expr a) (expr b) (map expr es)
 seen_sum e a b es is =
@@ -47,19 +58,23 @@ seen_sum e a b es is =
 
 pub seen_star : (e : Expr) (a b : Expr) → e ≡ Star a b → expr e ≡ star (expr a) (expr b)
 seen_star e a b is =
-    ap expr (is ∙ sym (rolls-Star a b)) ∙ fold-roll-Expr ExprView TypeView ItemView expr_step type_step item_step (open_forms.Star a b)
+    ap expr (is ∙ sym (rolls-Star a b))
+        ∙ fold-roll-Expr ExprView TypeView ItemView expr_step type_step item_step (open_forms.Star a b)
 
 pub seen_out : (e : Expr) (a : Expr) → e ≡ Out a → expr e ≡ out (expr a)
 seen_out e a is =
-    ap expr (is ∙ sym (rolls-Out a)) ∙ fold-roll-Expr ExprView TypeView ItemView expr_step type_step item_step (open_forms.Out a)
+    ap expr (is ∙ sym (rolls-Out a))
+        ∙ fold-roll-Expr ExprView TypeView ItemView expr_step type_step item_step (open_forms.Out a)
 
 pub seen_ref : (e : Expr) (a : Expr) → e ≡ Ref a → expr e ≡ ref (expr a)
 seen_ref e a is =
-    ap expr (is ∙ sym (rolls-Ref a)) ∙ fold-roll-Expr ExprView TypeView ItemView expr_step type_step item_step (open_forms.Ref a)
+    ap expr (is ∙ sym (rolls-Ref a))
+        ∙ fold-roll-Expr ExprView TypeView ItemView expr_step type_step item_step (open_forms.Ref a)
 
 pub seen_group : (e : Expr) (list : List Item) → e ≡ Group list → expr e ≡ group (items list)
 seen_group e list is =
-    ap expr (is ∙ sym (rolls-Group list)) ∙ fold-roll-Expr ExprView TypeView ItemView expr_step type_step item_step (open_forms.Group list)
+    ap expr (is ∙ sym (rolls-Group list))
+        ∙ fold-roll-Expr ExprView TypeView ItemView expr_step type_step item_step (open_forms.Group list)
 
 pub has_exprs_seen : (es : List Expr) (b : Bool) → IsTrue b ↔ (es ≡ []) → not b ≡ has_exprs (exprs es)
 has_exprs_seen [] true h = refl
@@ -98,5 +113,6 @@ seen_implicit i x k is = rw is (search (the_lemmas, rules))
 pub seen_check : (i : Item) (a : Expr) (op : Op) (b : Expr) → i ≡ Check a op b → item i ≡ check (expr a) op (expr b)
 seen_check i a op b is = rw is (search (the_lemmas, rules))
 
-pub seen_explicit : (i : Item) (x : Option (List ℕ)) (t : FieldType) → i ≡ Explicit x t → item i ≡ explicit x (field_type t)
+pub seen_explicit : (i : Item) (x : Option (List ℕ)) (t : FieldType) → i ≡ Explicit x t
+    → item i ≡ explicit x (field_type t)
 seen_explicit i x t is = rw is (search (the_lemmas, rules))

@@ -1,6 +1,7 @@
 -- Names that the schema language has for itself.
 -- Source: the TON documentation on TL-B (built-in types).
-use Rattle.std.specs.Prelude.{ℕ, ◌==◌, ◌&&◌, ◌||◌, not, List, [], ◌∷◌, Bool, false, Option, Some, None, is_some, codes, bytes_eq, drop, length, nat_eq, nat_le, if◌then◌else◌}
+use Rattle.std.specs.Prelude.{ℕ, ◌==◌, ◌&&◌, ◌||◌, not, List, [], ◌∷◌, Bool, false, Option, Some, None, is_some, codes}
+use Rattle.std.specs.Prelude.{bytes_eq, drop, length, nat_eq, nat_le, if◌then◌else◌}
 use Rattle.std.specs.List.{list_all, list_any, starts_with}
 use Rattle.std.specs.Char.{is_ascii_digit}
 use Rattle.tlb_syntax.specs.Lexeme.{decimal_onto}

@@ -1,7 +1,8 @@
 //! The kinds of parameters.
 ghost use Rattle.std.specs.Prelude.{◌≡◌, IfOk};
 ghost use Rattle.tlb_syntax.specs.View.{constructor as constructor_view, expr, items};
-ghost use Rattle.kind_terms.specs.Params.{has_outputs as have_outputs, implicit_kind as implicit_kind_in, is_same_kind, kind_of as kind_of_param, kinds as kinds_of_params};
+ghost use Rattle.kind_terms.specs.Params.{has_outputs as have_outputs, implicit_kind as implicit_kind_in, is_same_kind};
+ghost use Rattle.kind_terms.specs.Params.{kind_of as kind_of_param, kinds as kinds_of_params};
 
 use crate::shape::{bare_name, is_literal, is_out, variable_of};
 use bit_slice::Name;

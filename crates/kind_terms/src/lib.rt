@@ -1,6 +1,6 @@
-//! What the rules on a TL-B schema's kinds and its guard speak of: names of the language, the kinds of parameters, forms of
-//! expressions, names in scope, what is known, and the types of a schema. The language is that of the TON documentation on
-//! TL-B; where that leaves a point open, the definitions of this crate fix it.
+//! What the rules on a TL-B schema's kinds and its guard speak of: names of the language, the kinds of parameters,
+//! forms of expressions, names in scope, what is known, and the types of a schema. The language is that of the TON
+//! documentation on TL-B; where that leaves a point open, the definitions of this crate fix it.
 #![tactic(auto)]
 
 mod kind;

@@ -7,7 +7,9 @@ ghost use Rattle.kind_terms.specs.Closed.{closed as closed_value, is_zero};
 ghost use Rattle.kind_terms.specs.Forms.{is_field_of_numbers as is_type_of_numbers, parts, parts_of_all};
 ghost use Rattle.kind_terms.specs.Outs.{joined as join, outs_by, outs_of};
 ghost use Rattle.kind_terms.specs.Scopes.{all_given_out, given_out, makes_known, outputs_of, own_number, type_outputs};
-ghost use Rattle.kind_terms.specs.Sought.{can_be_sought as may_be_sought, cancels as is_cancelling, holds_out as has_out, sides, sought as sought_by, sought_in as sought_by_equation, unknown_of as unknown_by, uses};
+ghost use Rattle.kind_terms.specs.Sought.{can_be_sought as may_be_sought, cancels as is_cancelling};
+ghost use Rattle.kind_terms.specs.Sought.{holds_out as has_out, sides, sought as sought_by};
+ghost use Rattle.kind_terms.specs.Sought.{sought_in as sought_by_equation, unknown_of as unknown_by, uses};
 
 use crate::kind::TermKind;
 use crate::numbers::closed;
@@ -211,8 +213,8 @@ fn sought_in<'a>(left: &'a Expr, right: &'a Expr) -> Option<&'a Name>
     }
 }
 
-/// The variable that a constraint seeks: the x of its one `~`, where it is an equation in which x occurs once and not under
-/// a factor 0.
+/// The variable that a constraint seeks: the x of its one `~`, where it is an equation in which x occurs once and not
+/// under a factor 0.
 pub fn sought<'a>(left: &'a Expr, op: Op, right: &'a Expr) -> Option<&'a Name>
     ensures { option_map (λ x. x.now) result ≡ sought_by (expr left.now) op (expr right.now) }
 {
@@ -231,7 +233,8 @@ fn add_output<'a>(
     arg: &'a Expr,
     known: &mut Items<&'a Name>,
 ) -> Result<(), AllocError>
-    ensures names { OnOk result (map (λ x. x.now) known.new ≡ map (λ x. x.now) known.old ++ given_out kind (expr arg.now)) }
+    ensures names { OnOk result
+        (map (λ x. x.now) known.new ≡ map (λ x. x.now) known.old ++ given_out kind (expr arg.now)) }
     ensures kept { OnOk result (take (length known.old) known.new ≡ known.old) }
 {
     match kind {
@@ -250,7 +253,8 @@ fn add_outputs<'a>(
     args: &'a [Expr],
     known: &mut Items<&'a Name>,
 ) -> Result<(), AllocError>
-    ensures names { OnOk result (map (λ x. x.now) known.new ≡ map (λ x. x.now) known.old ++ all_given_out kinds.now (exprs args.now)) }
+    ensures names { OnOk result
+        (map (λ x. x.now) known.new ≡ map (λ x. x.now) known.old ++ all_given_out kinds.now (exprs args.now)) }
     ensures kept { OnOk result (take (length known.old) known.new ≡ known.old) }
 {
     let mut rest = kinds;
@@ -270,7 +274,9 @@ fn add_outputs_of<'a>(
     e: &'a Expr,
     known: &mut Items<&'a Name>,
 ) -> Result<(), AllocError>
-    ensures names { OnOk result (map (λ x. x.now) known.new ≡ map (λ x. x.now) known.old ++ outputs_of (map constructor types.now) (expr e.now)) }
+    ensures names { OnOk result
+        (map (λ x. x.now) known.new
+        ≡ map (λ x. x.now) known.old ++ outputs_of (map constructor types.now) (expr e.now)) }
     ensures kept { OnOk result (take (length known.old) known.new ≡ known.old) }
 {
     match e {
@@ -297,7 +303,10 @@ fn add_number<'a>(
     t: &FieldType,
     known: &mut Items<&'a Name>,
 ) -> Result<(), AllocError>
-    ensures names { OnOk result (map (λ x. x.now) known.new ≡ map (λ x. x.now) known.old ++ own_number (is_type_of_numbers (field_type t.now)) (option_map (λ x. x.now) name.entry)) }
+    ensures names { OnOk result
+        (map (λ x. x.now) known.new
+        ≡ map (λ x. x.now) known.old
+        ++ own_number (is_type_of_numbers (field_type t.now)) (option_map (λ x. x.now) name.entry)) }
     ensures kept { OnOk result (take (length known.old) known.new ≡ known.old) }
 {
     match name {
@@ -318,7 +327,9 @@ pub fn add_known<'a>(
     item: &'a Item,
     known: &mut Items<&'a Name>,
 ) -> Result<(), AllocError>
-    ensures names { OnOk result (map (λ x. x.now) known.new ≡ map (λ x. x.now) known.old ++ makes_known (map constructor types.now) (item_view item.now)) }
+    ensures names { OnOk result
+        (map (λ x. x.now) known.new
+        ≡ map (λ x. x.now) known.old ++ makes_known (map constructor types.now) (item_view item.now)) }
     ensures kept { OnOk result (take (length known.old) known.new ≡ known.old) }
 {
     match item {
@@ -339,7 +350,9 @@ fn add_type_outputs<'a>(
     t: &'a FieldType,
     known: &mut Items<&'a Name>,
 ) -> Result<(), AllocError>
-    ensures names { OnOk result (map (λ x. x.now) known.new ≡ map (λ x. x.now) known.old ++ type_outputs (map constructor types.now) (field_type t.now)) }
+    ensures names { OnOk result
+        (map (λ x. x.now) known.new
+        ≡ map (λ x. x.now) known.old ++ type_outputs (map constructor types.now) (field_type t.now)) }
     ensures kept { OnOk result (take (length known.old) known.new ≡ known.old) }
 {
     match t {

@@ -2,7 +2,8 @@
 ghost use Rattle.std.specs.Prelude.{◌≡◌, map, option_map, option_to_list, Some};
 ghost use Rattle.tlb_syntax.specs.View.{item};
 ghost use Rattle.kind_terms.specs.Params.{option_list};
-ghost use Rattle.kind_terms.specs.Scopes.{declares as declared_by, field_names, is_number_meaning, meaning_in as meaning_among};
+ghost use Rattle.kind_terms.specs.Scopes.{declares as declared_by, field_names, is_number_meaning};
+ghost use Rattle.kind_terms.specs.Scopes.{meaning_in as meaning_among};
 ghost use Rattle.kind_terms.specs.Views.{binding_of};
 ghost use Rattle.kind_terms.specs.Words.{is_among as is_word_among};
 

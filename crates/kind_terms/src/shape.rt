@@ -1,8 +1,11 @@
 //! Questions on the outermost form of an expression.
 ghost use Rattle.std.specs.Prelude.{◌≡◌, option_map};
 ghost use Rattle.tlb_syntax.specs.View.{expr, field_type};
-ghost use Rattle.kind_terms.specs.Params.{bare_name as bare_name_of, is_literal as is_literal_form, variable_of as variable_in};
-ghost use Rattle.kind_terms.specs.Forms.{is_field_of_numbers as is_type_of_numbers, is_of_numbers as is_form_of_numbers, is_out as is_out_form, out_name as out_name_of};
+ghost use Rattle.kind_terms.specs.Params.{bare_name as bare_name_of, is_literal as is_literal_form};
+ghost use Rattle.kind_terms.specs.Params.{variable_of as variable_in};
+ghost use Rattle.kind_terms.specs.Forms.{is_field_of_numbers as is_type_of_numbers};
+ghost use Rattle.kind_terms.specs.Forms.{is_of_numbers as is_form_of_numbers, is_out as is_out_form};
+ghost use Rattle.kind_terms.specs.Forms.{out_name as out_name_of};
 
 use bit_slice::Name;
 use tlb_syntax::{Expr, FieldType};

@@ -3,7 +3,9 @@ ghost use Rattle.std.specs.Prelude.{◌≡◌, [], ◌∷◌, ◌++◌, map, opt
 ghost use Rattle.tlb_syntax.specs.View.{constructor};
 ghost use Rattle.tlb_syntax.specs.Tree.{SchemaView};
 ghost use Rattle.kind_terms.specs.Dictionaries.{of_type};
-ghost use Rattle.kind_terms.specs.Types.{basic as is_basic_with, declared as is_declared_with, family_kinds as kinds_of_family, family_named, first_kinds, no_type as is_no_type, parameters as parameters_of, type_named};
+ghost use Rattle.kind_terms.specs.Types.{basic as is_basic_with, declared as is_declared_with};
+ghost use Rattle.kind_terms.specs.Types.{family_kinds as kinds_of_family, family_named, first_kinds};
+ghost use Rattle.kind_terms.specs.Types.{no_type as is_no_type, parameters as parameters_of, type_named};
 ghost use Rattle.kind_terms.specs.Views.{constructors_by, kinds_by, named_by};
 ghost use Rattle.kind_terms.specs.TypeIndex.{IsTypeIndex};
 
@@ -135,7 +137,9 @@ fn first_declared<'a>(
     by_name: &mut HashMap<&'a [u8], Declared<'a>>,
     added: &'a Constructor,
 ) -> Result<(), AllocError>
-    ensures { OnOk result ((s : SchemaView) → of_type s added.now.result ≡ [] → IsTypeIndex by_name.old s → IsTypeIndex by_name.new (s ++ constructor added.now ∷ [])) }
+    ensures { OnOk result
+        ((s : SchemaView) → of_type s added.now.result ≡ [] → IsTypeIndex by_name.old s
+        → IsTypeIndex by_name.new (s ++ constructor added.now ∷ [])) }
 {
     let kinds = kinds(alloc, added)?;
     let mut constructors = Items::new(alloc);
@@ -153,7 +157,8 @@ fn add_to<'a>(
     by_name: &mut HashMap<&'a [u8], Declared<'a>>,
     added: &'a Constructor,
 ) -> Result<(), AllocError>
-    ensures { OnOk result ((s : SchemaView) → IsTypeIndex by_name.old s → IsTypeIndex by_name.new (s ++ constructor added.now ∷ [])) }
+    ensures { OnOk result
+        ((s : SchemaView) → IsTypeIndex by_name.old s → IsTypeIndex by_name.new (s ++ constructor added.now ∷ [])) }
 {
     match by_name.get_mut(added.result.text()) {
         None => first_declared(alloc, by_name, added),

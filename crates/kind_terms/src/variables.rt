@@ -11,7 +11,8 @@ use tlb_syntax::{Constructor, Expr};
 
 /// Adds the variable of an input.
 pub fn add_variable<'a>(inputs: &mut Items<&'a Name>, param: &'a Expr) -> Result<(), AllocError>
-    ensures { OnOk result (map (λ n. n.now) inputs.new ≡ map (λ n. n.now) inputs.old ++ option_list (variable_in (expr param.now))) }
+    ensures { OnOk result
+        (map (λ n. n.now) inputs.new ≡ map (λ n. n.now) inputs.old ++ option_list (variable_in (expr param.now))) }
 {
     if let Some(name) = variable_of(param) {
         inputs.push(name)?;

@@ -5,7 +5,9 @@ ghost use Rattle.std.specs.Char.{is_ascii_digit};
 ghost use Rattle.tlb_syntax.specs.Lexeme.{decimal_onto};
 ghost use Rattle.kind_terms.specs.Dictionaries.{hashmap, hashmap_e, is_dictionary as is_dictionary_name};
 ghost use Rattle.kind_terms.specs.Closed.{exceeds as is_past, is_wide_in as is_wide_of};
-ghost use Rattle.kind_terms.specs.Words.{families, is_among, has_width as has_a_width, is_built_in as is_built_in_name, is_plain_number as is_plain, number_after, has_some_width as has_a_positive_width};
+ghost use Rattle.kind_terms.specs.Words.{families, is_among, has_width as has_a_width, is_built_in as is_built_in_name};
+ghost use Rattle.kind_terms.specs.Words.{is_plain_number as is_plain, number_after};
+ghost use Rattle.kind_terms.specs.Words.{has_some_width as has_a_positive_width};
 ghost use Rattle.kind_terms.specs.Types.{is_family as is_family_name};
 
 fn are_digits(bytes: &[u8]) -> bool

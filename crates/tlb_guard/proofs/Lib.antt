@@ -15,5 +15,5 @@ pub mod EmptyRules
 pub mod ParameterRules
 pub mod CalledParameters
 pub mod ExposedParameters
-pub mod Exposures
+pub mod ExposureLists
 pub mod FirstUnguarded

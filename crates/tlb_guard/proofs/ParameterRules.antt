@@ -68,9 +68,9 @@ parameter_some w place of n e = by_cases (nat_lt place w) refl e
     by_cases true is h = (ltb-true place w is, cc)
     by_cases false is h = absurd (cc)
 
-pub parameter_from : (w item_index n : ℕ) (o : Option ℕ) → parameter_at w place o ≡ Some n → (m : ℕ) × (o ≡ Some m) × (place < w) × (n ≡ m * w + place)
-parameter_from w item_index n None e = absurd (cc)
-parameter_from w item_index n (Some of) e = let h = parameter_some w place of n e in (of, refl, h.0, h.1)
+pub parameter_from : (w place n : ℕ) (o : Option ℕ) → parameter_at w place o ≡ Some n → (m : ℕ) × (o ≡ Some m) × (place < w) × (n ≡ m * w + place)
+parameter_from w place n None e = absurd (cc)
+parameter_from w place n (Some of) e = let h = parameter_some w place of n e in (of, refl, h.0, h.1)
 
 same_row : (w a b c d : ℕ) → b < w → d < w → a * w + b ≡ c * w + d → a ≡ c
 same_row w a b c d lt below e = sym (div-mul-add a w b lt) ∙ ap (λ n. n / w) e ∙ div-mul-add c w d below
@@ -118,7 +118,7 @@ module _ (s : SchemaView) (x : Word) (number place : ℕ) (through : List ℕ) (
       forth : (t : Test ℕ) (p : Parameter) (n : ℕ) → parameter_number s p ≡ Some n → ((head == n) && list_all t through) ≡ true → (is_type_parameter s p && test t p) ≡ true
       forth t p n e h =
           let a = and_parts (head == n) (list_all t through) h in
-          let q = parameter_from (width s) p.item_index n (place_of s p.of) e in
+          let q = parameter_from (width s) p.place n (place_of s p.of) e in
           let same : number * width s + place ≡ q.0 * width s + p.place = sym row.1 ∙ eqb-true head n a.0 ∙ q.3 in
           let number_is : number ≡ q.0 = same_row (width s) number place q.0 p.place row.0 q.2 same in
           let place_is : place ≡ p.place = same_column (width s) number place q.0 p.place row.0 q.2 same in

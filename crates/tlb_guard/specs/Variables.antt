@@ -42,7 +42,7 @@ at_place x place through t p = bytes_eq x p.of && ((p.place == place) && list_al
 
 -- the parameters of that variable among the first n
 abbrev pub called_among : ConstructorView → Word → List ℕ → ℕ → Test ℕ → Parameter → Bool
-called_among c x through n t p = bytes_eq c.result p.of && ((nat_lt p.item_index n && is_called_at c x p.place) && list_all t through)
+called_among c x through n t p = bytes_eq c.result p.of && ((nat_lt p.place n && is_called_at c x p.place) && list_all t through)
 
 abbrev pub called : ConstructorView → Word → List ℕ → Test ℕ → Parameter → Bool
 called c x through t p = bytes_eq c.result p.of && (is_called_at c x p.place && list_all t through)

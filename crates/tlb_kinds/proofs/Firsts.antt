@@ -10,15 +10,12 @@ use Rattle.kind_declarations.specs.Nodes.{Judged}
 use Rattle.tlb_kinds.specs.declared.error.KindError.{KindError}
 use Rattle.tlb_kinds.specs.Answers.{IsFirst, Finds, IsJudged, IsPassed, IsRefused}
 use Rattle.tlb_kinds.specs.Refusals.{first_refusal, IsKinded}
+use Rattle.tlb_kinds.specs.RefusalLaws.{refused_not_kinded}
 use Rattle.tlb_kinds.specs.Spots.{refusal_at, refusals_at, spot, refusal}
 
 none_first : {X : Type 0} (xs : List X) → first xs ≡ None → xs ≡ []
 none_first [] e = refl
 none_first (x ∷ xs) e = cc
-
--- a refused schema has a refusal
-pub refused_not_kinded : (s : SchemaView) (e : KindError) → first_refusal s ≡ Some e → IsKinded s → ⊥
-refused_not_kinded s e is good = let other : None ≡ Some e = sym (ap first good) ∙ is in cc
 
 -- further refusals come later
 first_more : {X : Type 0} (xs ys : List X) (x : X) → first xs ≡ Some x → first (xs ++ ys) ≡ Some x

@@ -2,3 +2,4 @@ pub mod Spots
 pub mod Refusals
 pub mod Answers
 pub mod Laws
+pub mod RefusalLaws

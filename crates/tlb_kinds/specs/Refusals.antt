@@ -48,8 +48,8 @@ ordinary s = filter (λ (c : ConstructorView). not c.exotic) s
 abbrev pub kept_of : SchemaView → SchemaView
 kept_of s = without_dictionaries (ordinary s)
 
--- The refusals of a schema in their order: those of the headings of all declarations of ordinary cells, then those of the
--- items of each declaration that is not passed over, then that of the guard.
+-- The refusals of a schema in their order: those of the headings of all declarations of ordinary cells, then those of
+-- the items of each declaration that is not passed over, then that of the guard.
 unfoldable pub refusals : SchemaView → List KindError
 refusals s = of_headings [] (ordinary s) ++ refusals_within (kept_of s)
 

@@ -5,7 +5,9 @@ use Rattle.kind_terms.specs.declared.part.Part.{Part}
 use Rattle.kind_terms.specs.Dictionaries.{of_type}
 use Rattle.kind_terms.specs.Words.{Word}
 use Rattle.kind_declarations.specs.declared.error.Cause.{Cause}
-use Rattle.kind_declarations.specs.declared.error.Cause.TheVariants.{Reserved, UnknownType, UnknownName, Arity, KindMismatch, OutputUnderRef, NotLinear, TwiceNamed, Undetermined, TooWide}
+use Rattle.kind_declarations.specs.declared.error.Cause.TheVariants.{Reserved, UnknownType, UnknownName, Arity}
+use Rattle.kind_declarations.specs.declared.error.Cause.TheVariants.{KindMismatch, OutputUnderRef, NotLinear}
+use Rattle.kind_declarations.specs.declared.error.Cause.TheVariants.{TwiceNamed, Undetermined, TooWide}
 use Rattle.kind_declarations.specs.Headings.{Heading}
 use Rattle.kind_terms.specs.Positions.{ItemPosition, path_at, first_position, next_position}
 use Rattle.kind_declarations.specs.Nodes.{Judged}

@@ -7,7 +7,8 @@ ghost use Rattle.kind_declarations.specs.Faults.{Judges};
 ghost use Rattle.kind_declarations.specs.Nodes.{Judged};
 ghost use Rattle.kind_terms.specs.Views.{part_by};
 ghost use Rattle.tlb_kinds.specs.Answers.{Finds, IsFirst, IsJudged, IsPassed, IsRefused};
-ghost use Rattle.tlb_kinds.specs.Refusals.{IsKinded, first_refusal, of_contents, of_guard, of_headings, ordinary as ordinary_of, refusals_within};
+ghost use Rattle.tlb_kinds.specs.Refusals.{IsKinded, first_refusal, of_contents, of_guard, of_headings};
+ghost use Rattle.tlb_kinds.specs.Refusals.{ordinary as ordinary_of, refusals_within};
 ghost use Rattle.tlb_kinds.specs.Spots.{heading, refusals_at};
 ghost use Rattle.tlb_kinds.specs.declared.error.KindError.{KindError as Refused};
 
@@ -64,7 +65,8 @@ fn refusal(
 ) -> KindError
     requires { length before.now ≤ 4096 }
     ensures { (js : List Judged) → Judges js (map part_by path.now) (Err fault)
-        → IsFirst (refusals_at (heading (map constructor_view before.now) (constructor_view constructor.now)) js) result }
+        → IsFirst (refusals_at (heading (map constructor_view before.now) (constructor_view constructor.now)) js)
+            result }
 {
     match fault {
         Fault::NoMemory => KindError::NoMemory,
@@ -94,7 +96,8 @@ fn judge_headings(alloc: Global, constructors: &[Constructor]) -> Result<(), Kin
 fn judge_contents(alloc: Global, constructors: &[Constructor]) -> Result<(), KindError>
     requires bounded { length constructors.now ≤ 4096 }
     requires within { AreConstructors (map constructor_view constructors.now) }
-    ensures { Finds (of_contents (map constructor_view constructors.now) [] (map constructor_view constructors.now)) result }
+    ensures { Finds (of_contents (map constructor_view constructors.now) [] (map constructor_view constructors.now))
+        result }
 {
     let types = Types::of(alloc, constructors)?;
     for (index, constructor) in constructors.iter().enumerate() {
@@ -181,9 +184,9 @@ fn judge(alloc: Global, schema: Schema) -> Result<Schema, KindError>
     Ok(kept)
 }
 
-/// The schema without its declarations of exotic cells and of dictionaries, or its first refusal. The schema is one within
-/// the limits, as a text gives it; a refused schema is let go. Declarations of exotic cells are passed over: no rule is
-/// judged of them, they declare no type, and they count for no constructor's number.
+/// The schema without its declarations of exotic cells and of dictionaries, or its first refusal. The schema is one
+/// within the limits, as a text gives it; a refused schema is let go. Declarations of exotic cells are passed over: no
+/// rule is judged of them, they declare no type, and they count for no constructor's number.
 #[tactic(auto, using(crate::proofs::Firsts::passed_from, crate::proofs::Firsts::refused_from))]
 pub fn kind_check(alloc: Global, schema: Schema) -> Result<Kinded, KindError>
     requires { IsWithinLimits (schema_view schema) }

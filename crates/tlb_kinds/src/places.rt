@@ -4,7 +4,8 @@ ghost use Rattle.tlb_syntax.specs.View.{constructor as constructor_view, items a
 ghost use Rattle.kind_terms.specs.Dictionaries.{of_type};
 ghost use Rattle.kind_terms.specs.Positions.{unnamed_name as name_of_unnamed, first_position};
 ghost use Rattle.kind_terms.specs.Views.{part_by};
-ghost use Rattle.tlb_kinds.specs.Spots.{heading, item_spot as spot_of_item, parts_by, path_to, shown_name, spot as spot_of};
+ghost use Rattle.tlb_kinds.specs.Spots.{heading, item_spot as spot_of_item, parts_by, path_to, shown_name};
+ghost use Rattle.tlb_kinds.specs.Spots.{spot as spot_of};
 
 use crate::spot::{FieldPath, Spot};
 use bit_slice::Name;
@@ -88,7 +89,10 @@ pub fn spot(
     path: &[Shown<'_>],
 ) -> Result<Spot, NoMemory>
     requires { length before.now ≤ 4096 }
-    ensures { IfOk result (λ found. found ≡ spot_of (heading (map constructor_view before.now) (constructor_view constructor.now)) (map part_by path.now)) }
+    ensures { IfOk result
+        (λ found. found
+        ≡ spot_of (heading (map constructor_view before.now) (constructor_view constructor.now))
+        (map part_by path.now)) }
 {
     let number = number_after(before, &constructor.result);
     Ok(Spot {
@@ -125,7 +129,9 @@ pub fn item_spot(
 ) -> Result<Spot, NoMemory>
     requires bounded { length before.now ≤ 4096 }
     requires items { length constructor.now.items ≤ 255 }
-    ensures { IfOk result (λ found. found ≡ spot_of_item (heading (map constructor_view before.now) (constructor_view constructor.now)) at) }
+    ensures { IfOk result
+        (λ found. found
+        ≡ spot_of_item (heading (map constructor_view before.now) (constructor_view constructor.now)) at) }
 {
     match shown_at(constructor.items.as_slice(), at) {
         Some(shown) => spot(alloc, before, constructor, &[shown]),

@@ -1,5 +1,5 @@
 use Rattle.std.proofs.Common.{take}
-use Rattle.tlb_guard.proofs.Exposures.{ExposuresOf}
+use Rattle.tlb_guard.proofs.ExposureLists.{ExposuresOf}
 use Rattle.tlb_guard.proofs.exposures.exposures_of.Given as goal
 
 abbrev pub invariant-loop-constructor : goal.invariant-loop-constructor

@@ -11,7 +11,7 @@ holds_variable-returns-then-holds_variable-2 t c =
     let s = scope_by c.args.self.now in
     let two : c.if-holds_variable.value ≡ (holds_variable s (expr c.in-Sum.first) || holds_variable s (expr c.in-Sum.second)) =
     elim c.if-holds_variable.branch [
-      holds_variable-then-holds_variable w ↦ first_holds s _ _ _ _ _ c.get.ensures c.holds_variable.ensures w.if-holds_variable.true w.value-is
+      | holds_variable-then-holds_variable w ↦ first_holds s _ _ _ _ _ c.get.ensures c.holds_variable.ensures w.if-holds_variable.true w.value-is
       | holds_variable-else-holds_variable w ↦
           second_holds s _ _ _ _ _ _ _ c.get.ensures c.holds_variable.ensures w.if-holds_variable.false w.get-else-holds_variable.ensures
           w.holds_variable-else-holds_variable.ensures w.value-is
@@ -23,7 +23,7 @@ holds_variable-returns-else-holds_variable-2 t c =
     let s = scope_by c.args.self.now in
     let two : c.if-holds_variable.value ≡ (holds_variable s (expr c.in-Sum.first) || holds_variable s (expr c.in-Sum.second)) =
     elim c.if-holds_variable.branch [
-      holds_variable-then-holds_variable w ↦ first_holds s _ _ _ _ _ c.get.ensures c.holds_variable.ensures w.if-holds_variable.true w.value-is
+      | holds_variable-then-holds_variable w ↦ first_holds s _ _ _ _ _ c.get.ensures c.holds_variable.ensures w.if-holds_variable.true w.value-is
       | holds_variable-else-holds_variable w ↦
           second_holds s _ _ _ _ _ _ _ c.get.ensures c.holds_variable.ensures w.if-holds_variable.false w.get-else-holds_variable.ensures
           w.holds_variable-else-holds_variable.ensures w.value-is

@@ -12,7 +12,7 @@ use Rattle.tlb_guard.specs.Numbering.{parameter_at, place_of, types_in, views, w
 use Rattle.tlb_guard.specs.Scoping.{names}
 use Rattle.tlb_guard.specs.Views.{Exposes, KeepsExposures}
 use Rattle.tlb_syntax.specs.Tree.{named}
-use Rattle.tlb_guard.proofs.Exposures.{ExposuresOfArguments, keeps_twice, no_terms, named_no_type, named_type, argument_below, args_more, args_less}
+use Rattle.tlb_guard.proofs.ExposureLists.{ExposuresOfArguments, keeps_twice, no_terms, named_no_type, named_type, argument_below, args_more, args_less}
 use Rattle.tlb_guard.proofs.Numberings.{own_number}
 use Rattle.tlb_guard.proofs.exposures.Exposures.+exposures.Goals as goal
 use Rattle.tlb_guard.proofs.exposures.Exposures.+exposures.Goals.{of_name-in-Some+in_ok-push-2+in_ok-of_args, of_name-in_default, of_args-in-Some+in_ok-of_arg, of_args-in_default}

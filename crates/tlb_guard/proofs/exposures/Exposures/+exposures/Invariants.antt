@@ -3,7 +3,7 @@ use Rattle.tlb_syntax.specs.View.{exprs, items}
 use Rattle.tlb_guard.specs.Numbering.{views, word_at}
 use Rattle.tlb_guard.specs.Scoping.{IsScopePrefix}
 use Rattle.tlb_guard.specs.Views.{KeepsExposures}
-use Rattle.tlb_guard.proofs.Exposures.{ExposuresOfRest, ExposuresOfArguments, EmptyRest}
+use Rattle.tlb_guard.proofs.ExposureLists.{ExposuresOfRest, ExposuresOfArguments, EmptyRest}
 use Rattle.tlb_guard.proofs.exposures.Exposures.+exposures.Given as goal
 
 abbrev pub invariant-of_items-loop-i : goal.invariant-of_items-loop-i

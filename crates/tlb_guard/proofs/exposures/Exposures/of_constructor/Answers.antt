@@ -1,7 +1,7 @@
 use Rattle.std.proofs.Common.{true, false, refl}
 use Rattle.tlb_syntax.specs.View.{item}
 use Rattle.tlb_guard.specs.Empty.{may_be_empty_item}
-use Rattle.tlb_guard.proofs.Exposures.{gathered_none, gathered_more, gathered_last, gathered_at, empty_is}
+use Rattle.tlb_guard.proofs.ExposureLists.{gathered_none, gathered_more, gathered_last, gathered_at, empty_is}
 use Rattle.tlb_guard.proofs.exposures.Exposures.of_constructor.Goals as goal
 
 pub returns-then-not-branch-clause-within : goal.returns-then-not-branch-clause-within

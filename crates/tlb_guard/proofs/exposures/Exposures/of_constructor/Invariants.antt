@@ -1,4 +1,4 @@
-use Rattle.tlb_guard.proofs.Exposures.{Gathered}
+use Rattle.tlb_guard.proofs.ExposureLists.{Gathered}
 use Rattle.tlb_guard.proofs.exposures.Exposures.of_constructor.Given as goal
 
 abbrev pub invariant-loop-place : goal.invariant-loop-place
