@@ -1,5 +1,5 @@
 -- The last byte of completed bits.
-use Rattle.std.proofs.Common.{◌≡◌, ◌≢◌, ◌∙◌, ℕ, zero, suc, ◌+◌, ◌-◌, ◌*◌, ◌/◌, ◌%◌, ◌^◌, ◌<◌, ◌≤◌, List, length, map, refl, ap, sym, subst, ⊎_elim, arith}
+use Rattle.std.proofs.Common.{◌≡◌, ◌≢◌, ◌∙◌, ℕ, zero, suc, ◌+◌, ◌-◌, ◌*◌, ◌/◌, ◌%◌, ◌^◌, ◌<◌, List, length, map, refl, ap, subst, ⊎_elim, arith}
 use Rattle.std.specs.List.{range_with_len}
 use Rattle.std.specs.Int.{bit_at, trailing_zeros, w8}
 use Rattle.std.proofs.lemmas.Bool.{cases_order}
@@ -19,7 +19,7 @@ completed_byte-lt bits k h =
     ap_bound : (v n : ℕ) → n ≡ 8 → v < 2 ^ n → v < 2 ^ 8
     ap_bound v n e h = subst (λ (m : ℕ). v < 2 ^ m) e h
 
--- the bit that completes the bits, and those behind it
+-- the bit that completes the bits, and those after it
 one_at : (bits : List ℕ) (k : ℕ) → AreBits bits → k < 8 → 8 * (length bits / 8) + k ≡ length bits → bit_at (completed_byte bits (length bits / 8)) (7 - k) ≡ 1
 one_at bits k h l e =
     bit_at-completed_byte bits (length bits / 8) k h l ∙ ap (λ (j : ℕ). completed_bit bits j) e ∙ completed_bit-end bits

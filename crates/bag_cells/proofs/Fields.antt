@@ -1,13 +1,11 @@
 -- The header of a bag that is written, read again.
-use Rattle.std.proofs.Common.{◌≡◌, ◌≢◌, ◌∙◌, ℕ, zero, suc, ◌+◌, ◌-◌, ◌*◌, ◌/◌, ◌%◌, ◌^◌, ◌<◌, ◌≤◌, Bool, true, false, List, [], ◌∷◌, ◌++◌, length, slice_index, append_assoc, refl, ap, sym, subst, arith}
-use Rattle.std.specs.Prelude.{Option, Some, None, nat_lt, nat_le, ◌==◌, not, ◌||◌, ◌&&◌, if◌then◌else◌}
-use Rattle.std.proofs.lemmas.Bool.{lt-ltb, le-ltb, le-leb, lt-leb, ne_eqb, eq-eqb}
+use Rattle.std.proofs.Common.{◌≡◌, ◌≢◌, ◌∙◌, ℕ, zero, suc, ◌+◌, ◌*◌, ◌/◌, ◌%◌, ◌^◌, ◌<◌, ◌≤◌, Bool, true, false, List, [], ◌∷◌, ◌++◌, length, slice_index, append_assoc, refl, ap, sym, arith}
+use Rattle.std.specs.Prelude.{None, nat_lt, nat_le, ◌==◌, ◌&&◌}
+use Rattle.std.proofs.lemmas.Bool.{le-ltb, lt-leb, ne_eqb}
 use Rattle.std.proofs.lemmas.List.{length-append, get_or_at}
 use Rattle.std.proofs.Math.Nat.{pow-succ'}
-use Rattle.cell_nodes.specs.declared.tree.Tree.{Tree}
 use Rattle.bag_cells.specs.Numbers.{number_at}
-use Rattle.bag_cells.specs.First.{or_else, first_of}
-use Rattle.bag_cells.specs.Header.{has_index, has_sum, flags, size, off_bytes, header_end, cells, roots, absent, data_size, root, index_size, data_start, data_end, whole_size, differs, magic_differs, start_refusal, count_refusal, length_refusal, sum_refusal, root_refusal, header_refusal}
+use Rattle.bag_cells.specs.Header.{has_index, has_sum, flags, size, off_bytes, header_end, cells, roots, absent, data_size, root, data_start, data_end, whole_size, differs, magic_differs, start_refusal, count_refusal, length_refusal, sum_refusal, root_refusal, header_refusal}
 use Rattle.bag_cells.specs.Written.{number_bytes, width_of, header_bytes}
 use Rattle.bag_cells.proofs.Widths.{length-number_bytes, width-fits, one_le-width}
 
@@ -25,7 +23,7 @@ number_at-written raw front rest from (suc w) v e p h =
     let b : slice_index raw (from + w) ≡ v % 256 = ap (λ (x : List ℕ). slice_index x (from + w)) g ∙ get_or_at (front ++ high) (v % 256) rest 0 (from + w) n in
     omega arith
 
--- what the header of a bag of n cells tells, with that content behind it
+-- what the header of a bag of n cells tells, with that content after it
 pub record HasFields (raw : List ℕ) (n : ℕ) (content : List ℕ) : Type 0 where
   pub magic : magic_differs raw ≡ false
   pub flags_are : slice_index raw 4 ≡ width_of n

@@ -1,4 +1,4 @@
--- The place that a refused hexadecimal text is told by.
+-- The place that a refused hexadecimal text is reported by.
 use Rattle.std.proofs.Common.{◌≡◌, ◌∙◌, ℕ, zero, suc, ◌+◌, ◌*◌, ◌%◌, ◌==◌, ◌<◌, ◌≢◌, Bool, true, false, if◌then◌else◌, List, [], ◌∷◌, length, get_or, refl, sym, subst, ap, arith}
 use Rattle.std.specs.Prelude.{Option, Some, None, is_some, Result, Ok, Err}
 use Rattle.std.proofs.lemmas.Bool.Decides.{nat_tests}
@@ -24,14 +24,14 @@ pairs_of i high low rest = refl
 record Refused (i : ℕ) (text : List ℕ) (e : FromHexError) : Type 0 where
   digit : ℕ
   place : ℕ
-  told : e ≡ InvalidHexCharacter digit (i + place)
+  reported : e ≡ InvalidHexCharacter digit (i + place)
   first : IsFirstBad text place
 
 at_high : (i high low : ℕ) (rest : List ℕ) (e : FromHexError) → hex_digit_value high ≡ None → InvalidHexCharacter high i ≡ e → Refused i (high ∷ low ∷ rest) e
 at_high i high low rest e h k = let here : i ≡ i + 0 = omega arith in record {
   digit = high;
   place = 0;
-  told = sym k ∙ ap (λ (p : ℕ). InvalidHexCharacter high p) here;
+  reported = sym k ∙ ap (λ (p : ℕ). InvalidHexCharacter high p) here;
   first = record { within = omega arith; bad = ap is_some h; before = λ j l. absurd (omega arith) };
 }
 
@@ -44,7 +44,7 @@ at_low : (i high low : ℕ) (rest : List ℕ) (v : ℕ) (e : FromHexError) → h
 at_low i high low rest v e g h k = record {
   digit = low;
   place = 1;
-  told = sym k;
+  reported = sym k;
   first = record { within = omega arith; bad = ap is_some h; before = below_one high low rest (ap is_some g) };
 }
 
@@ -62,7 +62,7 @@ at_rest i high low rest v w e g h r =
     record {
       digit = r.digit;
       place = suc (suc r.place);
-      told = r.told ∙ ap (λ (p : ℕ). InvalidHexCharacter r.digit p) moved;
+      reported = r.reported ∙ ap (λ (p : ℕ). InvalidHexCharacter r.digit p) moved;
       first = record {
         within = omega (arith, r.first.within);
         bad = r.first.bad;
@@ -96,8 +96,8 @@ refused_with e = Err e
 same_error : (a b : BagError) → refused_with a ≡ refused_with b → a ≡ b
 same_error a b h = cc
 
-place_told : (size place p : ℕ) (digit : ℕ) (e : FromHexError) → e ≡ InvalidHexCharacter digit p → BadHex (bad_place size e) ≡ BadHex place → place ≡ p
-place_told size place p digit e h k =
+place_reported : (size place p : ℕ) (digit : ℕ) (e : FromHexError) → e ≡ InvalidHexCharacter digit p → BadHex (bad_place size e) ≡ BadHex place → place ≡ p
+place_reported size place p digit e h k =
     let q : bad_place size e ≡ p = ap (bad_place size) h in
     let r : bad_place size e ≡ place = same_place (bad_place size e) place k in
     sym r ∙ q
@@ -114,7 +114,7 @@ by_length text place true r e d h = odd (is_odd (length text) e) (sym (same_plac
 by_length text place false (Ok raw) e d h = absurd (cc)
 by_length text place false (Err cause) e d h =
     let found = refused_at 0 text cause (is_even (length text) e) d in
-    let told = place_told (length text) place (0 + found.place) found.digit cause found.told
+    let reported = place_reported (length text) place (0 + found.place) found.digit cause found.reported
     (same_error (BadHex (bad_place (length text) cause)) (BadHex place) h) in
     let at : found.place ≡ place = omega arith in
     even (is_even (length text) e) (subst (λ (p : ℕ). IsFirstBad text p) at found.first)

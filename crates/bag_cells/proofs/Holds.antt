@@ -15,30 +15,33 @@ use Rattle.cell_nodes.specs.GoodParts.{good-sound}
 use Rattle.bag_cells.specs.First.{first_before, last_before}
 use Rattle.bag_cells.specs.Form.{raw_of}
 use Rattle.bag_cells.specs.Header.{size, cells, root, data_start, data_end, header_refusal}
-use Rattle.bag_cells.specs.Cells.{ref_count, has_stored_hashes, told_mask, is_completed, last_byte, ref_at, cell_size, is_malformed, goes_back, refusal_at, cell_refusal, start, left_refusal}
+use Rattle.bag_cells.specs.Cells.{ref_count, has_stored_hashes, reported_mask, is_completed, last_byte, ref_at, cell_size, is_malformed, goes_back, refusal_at, cell_refusal, start, left_refusal}
 use Rattle.bag_cells.specs.Trees.{cell_bits, cell_kind, one, picked, node_of, node, trees, refusal_of, node_refusal, root_tree, sprawl_of, sprawl_refusal}
 use Rattle.bag_cells.specs.Bag.{refusal, BagHolds}
 use Rattle.bag_cells.specs.Known.{IsLater, IsCell}
-use Rattle.bag_cells.specs.Post.{stands, post}
-use Rattle.bag_cells.specs.Post.{place as place_in}
-use Rattle.bag_cells.specs.Listing.{AllStand}
+use Rattle.cell_pool.specs.Post.{stands, post}
+use Rattle.cell_pool.specs.Post.{place as place_in}
+use Rattle.cell_pool.specs.Listing.{AllStand}
 use Rattle.bag_cells.specs.Written.{width_of, cell_bytes, cell_data, header_bytes, bag_over, bag_of}
 use Rattle.bag_cells.proofs.Rows.{first_before-none, last_before-none}
 use Rattle.bag_cells.proofs.Refusals.{not_refused}
 use Rattle.bag_cells.proofs.Laid.{well, left_none}
-use Rattle.bag_cells.proofs.Unfolding.{root_unfolds}
+use Rattle.bag_cells.specs.Unfolds.{Unfolds}
+use Rattle.bag_cells.proofs.Unfolding.{root_unfolds, made_unfolds}
 use Rattle.bag_cells.proofs.Picks.{picked-more, trees-more, refusal_before}
-use Rattle.bag_cells.proofs.Places.{place-within}
-use Rattle.bag_cells.proofs.Posts.{ordered-post}
-use Rattle.bag_cells.proofs.Kept.{some-at, take-some, stands-at, place-reverse}
-use Rattle.bag_cells.proofs.Once.{at-place, behind-post, post-good}
+use Rattle.cell_pool.specs.PlaceLaws.{place-within}
+use Rattle.cell_pool.specs.PostLaws.{ordered-post}
+use Rattle.cell_pool.specs.PlaceLaws.{some-at, take-some, stands-at, at-place}
+use Rattle.cell_pool.specs.ReverseLaws.{place-reverse}
+use Rattle.cell_pool.specs.OnceLaws.{post-good}
+use Rattle.cell_pool.specs.GrowthLaws.{length-post}
 use Rattle.bag_cells.proofs.Widths.{width-bound, width-fits, one_le-width}
 use Rattle.bag_cells.proofs.Fields.{HasFields, HasEnds, fields, ends}
 use Rattle.bag_cells.proofs.Completed.{last-used}
 use Rattle.bag_cells.proofs.Reread.{IsPlaced, IsReread, reread, bits-reread, kind-reread, ref-reread, size-reread, length-cell}
-use Rattle.bag_cells.proofs.Lists.{within, at-reverse, reverse-at, place-front, place-before, written-split, length-written, length-few, few-post, last-post, some-post}
+use Rattle.bag_cells.proofs.Lists.{within, at-reverse, reverse-at, place-front, place-before, written-split, length-written, length-few, last-post, some-post}
 
--- the cells of the tree stand behind the header
+-- the cells of the tree stand after the header
 pub record IsBag (raw : List ℕ) (t : Tree) : Type 0 where
   pub head : List ℕ
   pub bytes_are : raw ≡ head ++ flat_map (cell_bytes (size raw) (reverse (post t))) (reverse (post t))
@@ -119,7 +122,7 @@ child-before (t ∷ ts) us (suc j) c h k = child-before ts us j c h.1 k
 before-at : (t u c : Tree) (i j : ℕ) → slice_get (reverse (post t)) i ≡ Some u → slice_get (out-Tree u).children j ≡ Some c → stands (take (length (post t) - 1 - i) (post t)) c ≡ true
 before-at t u c i j h k =
     let n = length (post t) - 1 - i in
-    child-before (out-Tree u).children (take n (post t)) j c (behind-post t n u (at-reverse (post t) i u h)) k
+    child-before (out-Tree u).children (take n (post t)) j c ((ordered-post t).before n u (at-reverse (post t) i u h)) k
 
 stands-front : (ts : List Tree) (k : ℕ) (c : Tree) → stands (take k ts) c ≡ true → stands ts c ≡ true
 stands-front [] zero c h = absurd (cc)
@@ -259,9 +262,9 @@ trees-at raw t (suc k) b l =
     ∙ ap (λ (x : List Tree). x ++ u ∷ []) before
     ∙ sym (take-some (post t) k u some.1)
 
-node-accepted : (i told : ℕ) (u : Tree) → told ≡ mask u → IsSound u → refusal_of i told (Some u) ≡ None
-node-accepted i told u e sound =
-    let same : (mask u == told) ≡ true = eq-eqb (mask u) told (sym e) in
+node-accepted : (i reported : ℕ) (u : Tree) → reported ≡ mask u → IsSound u → refusal_of i reported (Some u) ≡ None
+node-accepted i reported u e sound =
+    let same : (mask u == reported) ≡ true = eq-eqb (mask u) reported (sym e) in
     let deep : nat_lt 1024 (deepest u) ≡ false = le-ltb 1024 (deepest u) sound.shallow in
     rw (same, deep) refl
 
@@ -273,9 +276,9 @@ node-none raw t i b l =
     let u = some.0 in
     let r = reread-at raw t u i b some.1 in
     refusal_before raw i k (omega (arith, b.cells_are))
-    ∙ ap (λ (x : List Tree). refusal_of i (told_mask raw (start raw i)) (node raw (start raw i) x)) (trees-at raw t k b (omega (arith, b.cells_are)))
-    ∙ ap (λ (o : Option Tree). refusal_of i (told_mask raw (start raw i)) o) (node-at raw t u i b some.1)
-    ∙ node-accepted i (told_mask raw (start raw i)) u r.mask_is (sound-at t u i b.good some.1)
+    ∙ ap (λ (x : List Tree). refusal_of i (reported_mask raw (start raw i)) (node raw (start raw i) x)) (trees-at raw t k b (omega (arith, b.cells_are)))
+    ∙ ap (λ (o : Option Tree). refusal_of i (reported_mask raw (start raw i)) o) (node-at raw t u i b some.1)
+    ∙ node-accepted i (reported_mask raw (start raw i)) u r.mask_is (sound-at t u i b.good some.1)
 
 root-at : (raw : List ℕ) (t : Tree) → IsBag raw t → root_tree raw ≡ Some t
 root-at raw t b =
@@ -328,7 +331,7 @@ bag-is t g l =
     let content = cell_data w order in
     let count : n ≡ length (post t) = length-reverse (post t) in
     let some : 1 ≤ n = omega (arith, some-post t) in
-    let few : n ≤ 262144 = omega (arith, few-post t) in
+    let few : n ≤ 262144 = omega (arith, length-post t) in
     let narrow : w ≤ 4 = width-bound n 4 (omega arith) (omega arith) in
     let short : length content ≤ n * 146 = length-few (cell_bytes w order) 146 order (λ i u h. cell-short w order u narrow (sound-at t u i g h)) in
     let small : width_of (length content) ≤ 8 = width-bound (length content) 8 (omega arith) (omega arith) in
@@ -364,3 +367,20 @@ bag-holds t g l =
       accepted = taken;
       unfolded = root_unfolds (bag_of t) t taken (root-at (bag_of t) t b);
     }
+
+-- it has as many cells as the tree has distinct subtrees
+pub cells-counted : (t : Tree) → IsGood t → unfolded t ≤ 262144 → cells (bag_of t) ≡ length (post t)
+cells-counted t g l = let b = bag-is t g l in b.cells_are
+
+-- and they unfold to these, from the last to the first
+pub cells-unfold : (t u : Tree) (i : ℕ) → IsGood t → unfolded t ≤ 262144 → slice_get (reverse (post t)) i ≡ Some u → Unfolds (bag_of t) i u
+cells-unfold t u i g l h =
+    let raw = bag_of t in
+    let b = bag-is t g l in
+    let n = length (post t) in
+    let found : slice_get (trees raw (cells raw)) (n - 1 - i) ≡ Some u =
+    ap (λ (j : ℕ). slice_get (trees raw j) (n - 1 - i)) b.cells_are
+    ∙ ap (λ (x : List Tree). slice_get x (n - 1 - i)) (trees-at raw t n b (omega arith) ∙ take_all n (post t) (omega arith))
+    ∙ at-reverse (post t) i u h in
+    let same : cells raw - 1 - (n - 1 - i) ≡ i = omega (arith, b.cells_are, within (reverse (post t)) i u h, length-reverse (post t)) in
+    subst (λ (j : ℕ). Unfolds raw j u) same (made_unfolds raw (n - 1 - i) u (accepted raw t b l) found)

@@ -8,14 +8,8 @@ pub mod Answered
 pub mod Held
 pub mod Nones
 pub mod Unfolding
-pub mod Same
-pub mod Places
-pub mod Posts
-pub mod Walks
 pub mod Widths
-pub mod Kept
 pub mod Pushed
-pub mod Once
 pub mod Fields
 pub mod Completed
 pub mod Reread
@@ -23,3 +17,4 @@ pub mod Lists
 pub mod Holds
 pub mod HexPlaces
 pub mod Sized
+pub mod Ordered

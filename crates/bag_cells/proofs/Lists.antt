@@ -1,4 +1,4 @@
--- Places in lists of trees, in a reversed list, and in lists that are written one behind the other.
+-- Places in lists of trees, in a reversed list, and in lists that are written one after the other.
 use Rattle.std.proofs.Common.{◌≡◌, ◌∙◌, ℕ, zero, suc, ◌+◌, ◌-◌, ◌*◌, ◌<◌, ◌≤◌, Bool, true, false, List, [], ◌∷◌, ◌++◌, length, map, take, drop, reverse, get_or, append_assoc, refl, ap, sym, subst, ⊎_elim, arith}
 use Rattle.std.specs.Prelude.{Option, Some, None, slice_get, not, cond}
 use Rattle.std.specs.List.{flat_map}
@@ -8,12 +8,12 @@ use Rattle.std.proofs.lemmas.List.Concat.{flat_map-append}
 use Rattle.cell_nodes.specs.declared.tree.Tree.{Tree, out-Tree}
 use Rattle.cell_nodes.specs.Tree.{total, unfolded}
 use Rattle.cell_nodes.specs.Equations.{unfolded-out}
-use Rattle.bag_cells.specs.Post.{stands, place, without, joined, post}
-use Rattle.bag_cells.specs.Listing.{added, added_all}
-use Rattle.bag_cells.proofs.Same.{EachOf, tree_induction}
-use Rattle.bag_cells.proofs.Places.{place-within, place-append_left}
-use Rattle.bag_cells.proofs.Posts.{post-out, stands-post}
-use Rattle.bag_cells.proofs.Kept.{some-at, take-some, stands-at}
+use Rattle.cell_pool.specs.Post.{stands, place, without, joined, post}
+use Rattle.cell_pool.specs.Listing.{added, added_all}
+use Rattle.cell_pool.specs.SameLaws.{EachOf, tree_induction}
+use Rattle.cell_pool.specs.PlaceLaws.{place-within, place-append_left}
+use Rattle.cell_pool.specs.PostLaws.{post-out, stands-post}
+use Rattle.cell_pool.specs.PlaceLaws.{some-at, take-some, stands-at}
 
 at-get_or : (ts : List Tree) (i : ℕ) (t : Tree) → slice_get ts i ≡ Some t → get_or ts i t ≡ t
 at-get_or [] i t h = absurd (cc)
@@ -58,7 +58,7 @@ length-take-most (t ∷ ts) (suc k) = omega (arith, length-take-most ts k)
 pub place-before : (ts : List Tree) (k : ℕ) (t : Tree) → stands (take k ts) t ≡ true → place ts t < k
 place-before ts k t h = omega (arith, place-front ts k t h, place-within (take k ts) t h, length-take-most ts k)
 
--- ---- lists that are written one behind the other
+-- ---- lists that are written one after the other
 
 pub written-split : (f : Tree → List ℕ) (ts : List Tree) (i : ℕ) (t : Tree) → slice_get ts i ≡ Some t → flat_map f ts ≡ flat_map f (take i ts) ++ (f t ++ flat_map f (drop (suc i) ts))
 written-split f [] i t h = absurd (cc)
@@ -78,27 +78,6 @@ length-few f most [] h = omega arith
 length-few f most (t ∷ ts) h =
     let e : suc (length ts) * most ≡ most + length ts * most = omega arith in
     omega (arith, length-append (f t) (flat_map f ts), h 0 t refl, length-few f most ts (λ i u k. h (suc i) u k))
-
--- ---- how many distinct subtrees there are
-
-length-without : (seen ts : List Tree) → length (without seen ts) ≤ length ts
-length-without seen [] = omega arith
-length-without seen (t ∷ ts) = ⊎_elim
-    (λ (e : stands seen t ≡ true). rw e (omega (arith, length-without seen ts)))
-    (λ (e : stands seen t ≡ false). rw e (omega (arith, length-without seen ts)))
-    (cases_Bool (stands seen t))
-
-few-all : (seen ts : List Tree) → EachOf (λ t. length (post t) ≤ unfolded t) ts → length (added_all seen ts) ≤ length seen + total (map unfolded ts)
-few-all seen [] each = omega arith
-few-all seen (t ∷ ts) each =
-    omega (arith, few-all (added seen t) ts each.1, each.0, length-append seen (without seen (post t)), length-without seen (post t))
-
-few_step : (t : Tree) → EachOf (λ c. length (post c) ≤ unfolded c) (out-Tree t).children → length (post t) ≤ unfolded t
-few_step t each =
-    omega (arith, ap length (post-out t), length-append (joined [] (map post (out-Tree t).children)) (t ∷ []), few-all [] (out-Tree t).children each, unfolded-out t)
-
-pub few-post : (t : Tree) → length (post t) ≤ unfolded t
-few-post = tree_induction (λ t. length (post t) ≤ unfolded t) few_step
 
 -- the tree itself is the last
 pub last-post : (t : Tree) → slice_get (post t) (length (post t) - 1) ≡ Some t

@@ -5,7 +5,7 @@ use Rattle.std.proofs.lemmas.Bool.Decides.{nat_tests}
 use Rattle.cell_nodes.specs.declared.tree.Tree.{Tree}
 use Rattle.bag_cells.specs.First.{or_else, first_of, first_before, last_before}
 use Rattle.bag_cells.specs.Header.{cells, root, start_refusal, count_refusal, length_refusal, sum_refusal, root_refusal, header_refusal, header_end}
-use Rattle.bag_cells.specs.Cells.{start, told_mask, cell_refusal, left_refusal}
+use Rattle.bag_cells.specs.Cells.{start, reported_mask, cell_refusal, left_refusal}
 use Rattle.bag_cells.specs.Trees.{one, node, trees, refusal_of, node_refusal, sprawl_refusal}
 use Rattle.bag_cells.specs.Bag.{refusal}
 use Rattle.bag_cells.specs.declared.error.BagError.{BagError}
@@ -37,9 +37,9 @@ first_before-each row (suc n) j h l =
     (λ (m : j < n). first_before-each row n j (none_first (first_before row n) (row n) h) m)
     (none_second (first_before row n) (row n) h)
 
-one-length : (i told : ℕ) (o : Option Tree) → refusal_of i told o ≡ None → length (one o) ≡ 1
-one-length i told None h = absurd (cc)
-one-length i told (Some t) h = refl
+one-length : (i reported : ℕ) (o : Option Tree) → refusal_of i reported o ≡ None → length (one o) ≡ 1
+one-length i reported None h = absurd (cc)
+one-length i reported (Some t) h = refl
 
 -- each of the last n cells has a tree
 pub trees-length : (raw : List ℕ) (n : ℕ) → n ≤ cells raw → ((j : ℕ) → j < cells raw → node_refusal raw j ≡ None) → length (trees raw n) ≡ n
@@ -50,7 +50,7 @@ trees-length raw (suc n) h each =
     let whole : i + 1 + n ≡ cells raw = omega arith in
     let inside : i < cells raw = omega arith in
     let found = sym (refusal_before raw i n whole) ∙ each i inside in
-    let last = one-length i (told_mask raw (start raw i)) (node raw (start raw i) (trees raw n)) found in
+    let last = one-length i (reported_mask raw (start raw i)) (node raw (start raw i) (trees raw n)) found in
     omega (arith, trees-length raw n (omega arith) each, last, length-append (trees raw n) (one (node raw (start raw i) (trees raw n))))
 
 le_false : (m n : ℕ) → nat_le m n ≡ false → n < m

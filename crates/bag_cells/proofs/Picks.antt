@@ -4,7 +4,7 @@ use Rattle.std.specs.Prelude.{Option, Some, slice_get}
 use Rattle.std.proofs.lemmas.Option.{slice_get_read}
 use Rattle.cell_nodes.specs.declared.tree.Tree.{Tree}
 use Rattle.bag_cells.specs.Header.{cells}
-use Rattle.bag_cells.specs.Cells.{told_mask, ref_at, start}
+use Rattle.bag_cells.specs.Cells.{reported_mask, ref_at, start}
 use Rattle.bag_cells.specs.Trees.{picked, node, trees, refusal_of, node_refusal}
 use Rattle.bag_cells.specs.Known.{IsLater}
 use Rattle.bag_cells.specs.declared.error.BagError.{BagError}
@@ -21,7 +21,7 @@ trees-more raw n t h = rw (add-one, h) refl
 
 -- the refusal of the cell before the last n, whose trees are known
 pub refusal_before : (raw : List ℕ) (i n : ℕ) → i + 1 + n ≡ cells raw
-    → node_refusal raw i ≡ refusal_of i (told_mask raw (start raw i)) (node raw (start raw i) (trees raw n))
+    → node_refusal raw i ≡ refusal_of i (reported_mask raw (start raw i)) (node raw (start raw i) (trees raw n))
 unfolding node_refusal
 refusal_before raw i n h =
     let e : cells raw - 1 - i ≡ n = omega arith in
@@ -35,11 +35,11 @@ picked_at raw i cell place later t h count e is =
     (slice_get_read later (length later) place t refl (omega (arith, h.later, h.there)) is)
 
 pub refusal_now : (raw : List ℕ) (i n place : ℕ) (later : List Tree) (r : Option BagError) → i + 1 + n ≡ cells raw → place ≡ start raw i → later ≡ trees raw n
-    → refusal_of i (told_mask raw place) (node raw place later) ≡ r → node_refusal raw i ≡ r
+    → refusal_of i (reported_mask raw place) (node raw place later) ≡ r → node_refusal raw i ≡ r
 refusal_now raw i n place later r h p l found =
     refusal_before raw i n h
-    ∙ subst (λ (q : ℕ). refusal_of i (told_mask raw q) (node raw q (trees raw n)) ≡ r) p
-    (subst (λ (ts : List Tree). refusal_of i (told_mask raw place) (node raw place ts) ≡ r) l found)
+    ∙ subst (λ (q : ℕ). refusal_of i (reported_mask raw q) (node raw q (trees raw n)) ≡ r) p
+    (subst (λ (ts : List Tree). refusal_of i (reported_mask raw place) (node raw place ts) ≡ r) l found)
 
 pub trees_now : (raw : List ℕ) (i n place : ℕ) (later : List Tree) (t : Tree) → i + 1 + n ≡ cells raw → place ≡ start raw i → later ≡ trees raw n
     → node raw place later ≡ Some t → trees raw (n + 1) ≡ trees raw n ++ t ∷ []

@@ -1,28 +1,28 @@
 -- A cell of a bag that is written, read again.
-use Rattle.std.proofs.Common.{◌≡◌, ◌≢◌, ◌∙◌, ℕ, zero, suc, ◌+◌, ◌-◌, ◌*◌, ◌/◌, ◌%◌, ◌^◌, ◌<◌, ◌≤◌, Bool, true, false, cond, List, [], ◌∷◌, ◌++◌, length, map, take, drop, slice_index, append_assoc, refl, ap, sym, subst, ⊎_elim, arith}
-use Rattle.std.specs.Prelude.{Option, Some, None, slice_get, ◌==◌, not, ◌&&◌, IsTrue, if◌then◌else◌}
-use Rattle.std.specs.List.{flat_map, range_with_len}
+use Rattle.std.proofs.Common.{◌≡◌, ◌≢◌, ◌∙◌, ℕ, zero, suc, ◌+◌, ◌-◌, ◌*◌, ◌/◌, ◌%◌, ◌^◌, ◌<◌, ◌≤◌, Bool, true, false, List, [], ◌∷◌, ◌++◌, length, map, take, drop, slice_index, append_assoc, refl, ap, sym, ⊎_elim, arith}
+use Rattle.std.specs.Prelude.{Some, slice_get, ◌==◌, IsTrue, if◌then◌else◌}
+use Rattle.std.specs.List.{flat_map}
 use Rattle.std.specs.Int.{trailing_zeros, w8}
-use Rattle.std.proofs.lemmas.Bool.{cases_eq, eq-eqb, ne_eqb, eqb-true, and_parts}
+use Rattle.std.proofs.lemmas.Bool.{cases_Bool, cases_eq, eq-eqb, ne_eqb, eqb-true, and_parts}
 use Rattle.std.proofs.lemmas.List.{length-append, length-map, get_or_at, take_at, drop_at, get_or_append_left, get_or-append-add}
 use Rattle.std.proofs.lemmas.List.FromFn.{get_or-map-range_with_len}
-use Rattle.bit_slice.specs.Bits.{AreBits, bit_number, bits_from, completed, completed_byte}
+use Rattle.bit_slice.specs.Bits.{bit_number, bits_from, completed, completed_byte}
 use Rattle.bit_slice.specs.Completion.{completed-by_index, length-completed, bits_from-completed}
 use Rattle.cell_nodes.specs.declared.tree.Kind.{Kind}
-use Rattle.cell_nodes.specs.declared.tree.Kind.TheVariants.{Ordinary, Pruned, Library, Proof}
+use Rattle.cell_nodes.specs.declared.tree.Kind.TheVariants.{Ordinary, Pruned, Library, Proof, Update}
 use Rattle.cell_nodes.specs.declared.tree.Tree.{Tree, out-Tree}
-use Rattle.cell_nodes.specs.Layout.{has_layout, exotic_kind}
+use Rattle.cell_nodes.specs.Layout.{byte_of, has_layout, exotic_kind}
+use Rattle.cell_nodes.specs.LayoutLaws.{pruned_layout}
 use Rattle.cell_nodes.specs.Tree.{mask, is_exotic}
 use Rattle.cell_nodes.specs.Good.{IsSound}
-use Rattle.bag_cells.specs.Numbers.{number_at}
 use Rattle.bag_cells.specs.Header.{size}
-use Rattle.bag_cells.specs.Cells.{first_descriptor, second_descriptor, ref_count, is_exotic as is_marked_exotic, has_stored_hashes, told_mask, is_completed, byte_count, last_byte, ref_at, cell_size}
+use Rattle.bag_cells.specs.Cells.{second_descriptor, ref_count, is_exotic as is_marked_exotic, has_stored_hashes, reported_mask, is_completed, byte_count, last_byte, ref_at, cell_size}
 use Rattle.bag_cells.specs.Trees.{data_bytes, bit_count, cell_bits, cell_kind}
-use Rattle.bag_cells.specs.Post.{place as place_in}
+use Rattle.cell_pool.specs.Post.{place as place_in}
 use Rattle.bag_cells.specs.Written.{number_bytes, descriptor_of, ref_bytes, cell_bytes}
 use Rattle.bag_cells.proofs.Widths.{length-number_bytes}
 use Rattle.bag_cells.proofs.Fields.{number_at-written}
-use Rattle.bag_cells.proofs.Completed.{last-used, lowest-one}
+use Rattle.bag_cells.proofs.Completed.{lowest-one}
 
 -- the bytes of the cell stand at the place
 pub record IsPlaced (raw : List ℕ) (place : ℕ) (order : List Tree) (u : Tree) : Type 0 where
@@ -36,7 +36,7 @@ pub record IsReread (raw : List ℕ) (place : ℕ) (u : Tree) : Type 0 where
   pub refs_are : ref_count raw place ≡ length (out-Tree u).children
   pub exotic_is : is_marked_exotic raw place ≡ is_exotic (out-Tree u).kind
   pub no_hashes : has_stored_hashes raw place ≡ false
-  pub mask_is : told_mask raw place ≡ mask u
+  pub mask_is : reported_mask raw place ≡ mask u
   pub count_is : byte_count raw place ≡ (length (out-Tree u).bits + 7) / 8
   pub second_is : second_descriptor raw place ≡ length (out-Tree u).bits / 8 + (length (out-Tree u).bits + 7) / 8
   pub data_are : data_bytes raw place ≡ completed (out-Tree u).bits
@@ -65,10 +65,10 @@ laid raw place order u p =
     p.bytes_are
     ∙ ap (λ (l : List ℕ). p.front ++ ((descriptor_of u).0 ∷ ((descriptor_of u).1 ∷ l))) (append_assoc (completed (out-Tree u).bits) (ref_bytes (size raw) order (out-Tree u).children) p.rest)
 
--- the bytes behind the descriptor bytes
-behind_two : (raw : List ℕ) (place : ℕ) (order : List Tree) (u : Tree) (p : IsPlaced raw place order u) → raw
+-- the bytes after the descriptor bytes
+after_two : (raw : List ℕ) (place : ℕ) (order : List Tree) (u : Tree) (p : IsPlaced raw place order u) → raw
     ≡ (p.front ++ (descriptor_of u).0 ∷ (descriptor_of u).1 ∷ []) ++ (completed (out-Tree u).bits ++ (ref_bytes (size raw) order (out-Tree u).children ++ p.rest))
-behind_two raw place order u p =
+after_two raw place order u p =
     laid raw place order u p
     ∙ sym (append_assoc p.front ((descriptor_of u).0 ∷ (descriptor_of u).1 ∷ []) (completed (out-Tree u).bits ++ (ref_bytes (size raw) order (out-Tree u).children ++ p.rest)))
 
@@ -94,7 +94,7 @@ reread raw place order u sound p =
     ∙ get_or_at (p.front ++ d.0 ∷ []) d.1 (completed b ++ (refs ++ p.rest)) 0 (place + 1) one_on in
     let count : byte_count raw place ≡ (length b + 7) / 8 = omega (arith, second) in
     let dropped : drop (place + 2) raw ≡ completed b ++ (refs ++ p.rest) =
-    ap (λ (l : List ℕ). drop (place + 2) l) (behind_two raw place order u p) ∙ drop_at (p.front ++ d.0 ∷ d.1 ∷ []) (completed b ++ (refs ++ p.rest)) (place + 2) two_on in
+    ap (λ (l : List ℕ). drop (place + 2) l) (after_two raw place order u p) ∙ drop_at (p.front ++ d.0 ∷ d.1 ∷ []) (completed b ++ (refs ++ p.rest)) (place + 2) two_on in
     record {
       refs_are = ap (λ (y : ℕ). y % 8) first ∙ refs-bits r (mask u) x few;
       exotic_is = ap (λ (y : ℕ). y / 8 % 2 == 1) first ∙ exotic-bit r (mask u) x few;
@@ -109,7 +109,7 @@ reread raw place order u sound p =
           let at : place + 1 + byte_count raw place ≡ place + 2 + length b / 8 = omega (arith, count) in
           let inside : length b / 8 < length (completed b) = omega (arith, length-completed b) in
           ap (λ (i : ℕ). slice_index raw i) at
-          ∙ ap (λ (l : List ℕ). slice_index l (place + 2 + length b / 8)) (behind_two raw place order u p)
+          ∙ ap (λ (l : List ℕ). slice_index l (place + 2 + length b / 8)) (after_two raw place order u p)
           ∙ past_front (p.front ++ d.0 ∷ d.1 ∷ []) (completed b ++ (refs ++ p.rest)) (place + 2) (length b / 8) two_on
           ∙ get_or_append_left (completed b) (refs ++ p.rest) 0 (length b / 8) inside
           ∙ last-completed b part;
@@ -148,26 +148,39 @@ bits-reread raw place u sound r =
     ∙ ap (λ (n : ℕ). bits_from (completed (out-Tree u).bits) 0 n) (count-reread raw place u sound r)
     ∙ bits_from-completed (out-Tree u).bits sound.bits
 
+-- a pruned branch has the type 1
+no_pruned : (b : List ℕ) (refs n : ℕ) → byte_of 0 b ≡ n → n ≢ 1 → has_layout Pruned b refs ≡ false
+no_pruned b refs n e ne = ⊎_elim
+    (λ (t : has_layout Pruned b refs ≡ true). absurd (ne (sym e ∙ (pruned_layout b refs t).type_is)))
+    (λ (f : has_layout Pruned b refs ≡ false). f)
+    (cases_Bool (has_layout Pruned b refs))
+
 exotic_kind-of : (k : Kind) (b : List ℕ) (refs : ℕ) → IsTrue (has_layout k b refs) → is_exotic k ≡ true → exotic_kind b refs ≡ Some k
 exotic_kind-of Ordinary b refs h x = absurd (cc)
 exotic_kind-of Pruned b refs h x = rw h refl
 exotic_kind-of Library b refs h x =
-    let front = and_parts _ _ (and_parts _ _ h).0 in
-    let e : length b ≡ 264 = eqb-true (length b) 264 front.0 in
-    let no : has_layout Pruned b refs ≡ false = rw e refl in
+    let no = no_pruned b refs 2 (eqb-true (byte_of 0 b) 2 (and_parts _ _ h).1) (λ e. cc) in
     rw (no, h) refl
 exotic_kind-of Proof b refs h x =
-    let front = and_parts _ _ (and_parts _ _ h).0 in
-    let e : length b ≡ 280 = eqb-true (length b) 280 front.0 in
-    let no : has_layout Pruned b refs ≡ false = rw e refl in
+    let prefix = and_parts _ _ (and_parts _ _ h).0 in
+    let e : length b ≡ 280 = eqb-true (length b) 280 prefix.0 in
+    let no = no_pruned b refs 3 (eqb-true (byte_of 0 b) 3 (and_parts _ _ h).1) (λ k. cc) in
     let none : has_layout Library b refs ≡ false = rw e refl in
     rw (no, none, h) refl
+exotic_kind-of Update b refs h x =
+    let prefix = and_parts _ _ (and_parts _ _ h).0 in
+    let e : length b ≡ 552 = eqb-true (length b) 552 prefix.0 in
+    let no = no_pruned b refs 4 (eqb-true (byte_of 0 b) 4 (and_parts _ _ h).1) (λ k. cc) in
+    let none : has_layout Library b refs ≡ false = rw e refl in
+    let none' : has_layout Proof b refs ≡ false = rw e refl in
+    rw (no, none, none', h) refl
 
 chosen : (k : Kind) (b : List ℕ) (refs : ℕ) → IsTrue (has_layout k b refs) → (if is_exotic k then exotic_kind b refs else Some Ordinary) ≡ Some k
 chosen Ordinary b refs h = refl
 chosen Pruned b refs h = exotic_kind-of Pruned b refs h refl
 chosen Library b refs h = exotic_kind-of Library b refs h refl
 chosen Proof b refs h = exotic_kind-of Proof b refs h refl
+chosen Update b refs h = exotic_kind-of Update b refs h refl
 
 pub kind-reread : (raw : List ℕ) (place : ℕ) (u : Tree) → IsSound u → IsReread raw place u → cell_kind raw place ≡ Some (out-Tree u).kind
 unfolding cell_kind
@@ -219,7 +232,7 @@ ref-reread raw place order u k c p r h fits =
     let split = ref-split s order (out-Tree u).children k c h in
     let front = p.front ++ d.0 ∷ d.1 ∷ [] in
     let one = number_bytes s (place_in order c) in
-    let e = behind_two raw place order u p
+    let e = after_two raw place order u p
     ∙ ap (λ (l : List ℕ). front ++ (completed b ++ (l ++ p.rest))) split.2
     ∙ ap (λ (l : List ℕ). front ++ (completed b ++ l)) (append_assoc split.0 (one ++ split.1) p.rest)
     ∙ ap (λ (l : List ℕ). front ++ (completed b ++ (split.0 ++ l))) (append_assoc one split.1 p.rest)

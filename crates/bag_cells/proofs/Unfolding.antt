@@ -118,3 +118,8 @@ root_unfolds raw t accepted h =
     let same : cells raw - 1 - (cells raw - 1 - root raw) ≡ root raw = omega arith in
     subst (λ (c : ℕ). Unfolds raw c t) same
     (trees_unfold raw (cells raw) (omega arith) accepted (λ j l. last_before-each (node_refusal raw) (cells raw) j all l) (cells raw - 1 - root raw) t h)
+
+-- each tree that is made is the unfolding of its cell
+pub made_unfolds : (raw : List ℕ) (p : ℕ) (t : Tree) → refusal raw ≡ None → slice_get (trees raw (cells raw)) p ≡ Some t → Unfolds raw (cells raw - 1 - p) t
+made_unfolds raw p t accepted h =
+    trees_unfold raw (cells raw) (omega arith) accepted (λ j l. last_before-each (node_refusal raw) (cells raw) j (node_refusals-none raw accepted) l) p t h

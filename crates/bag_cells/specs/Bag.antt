@@ -11,7 +11,7 @@ use Rattle.bag_cells.specs.declared.error.BagError.{BagError}
 use Rattle.bag_cells.specs.declared.error.BagError.TheVariants.{NoMemory}
 
 -- The first refusal that the raw bytes give: that of the header, then of the cells from the first to the last,
--- then of what is left behind them, then of the cells' trees from the last cell to the first, then of the root's.
+-- then of what is left after them, then of the cells' trees from the last cell to the first, then of the root's.
 unfoldable pub refusal : List ℕ → Option BagError
 refusal raw = first_of (
     header_refusal raw
@@ -33,7 +33,7 @@ pub data BagRefused (file : List ℕ) (error : BagError) : Type 0 where
   form : raw_of file ≡ Err error → BagRefused file error
   content : (raw : List ℕ) → raw_of file ≡ Ok raw → refusal raw ≡ Some error → BagRefused file error
 
--- whatever the answer is but want of memory, it is so
+-- whatever the answer is but out of memory, it is so
 abbrev pub IfAnswered : {X : Type 0} → Result X BagError → (X → Type 0) → (BagError → Type 0) → Type 0
 IfAnswered (Ok x) P Q = P x
 IfAnswered (Err e) P Q = e ≢ NoMemory → Q e

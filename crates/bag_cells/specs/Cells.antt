@@ -5,7 +5,8 @@
 -- d1 is r + 8 s + 16 h + 32 m with r references, s = 1 for an exotic cell, h = 1 where hashes are stored and the
 -- mask m. d2 is floor(b / 8) + ceil(b / 8) for b bits. Where b is no multiple of 8 the last data byte is completed
 -- by one 1 bit and then zeros.
-use Rattle.std.specs.Prelude.{ℕ, zero, suc, ◌+◌, ◌*◌, ◌/◌, ◌%◌, ◌==◌, nat_lt, nat_le, Bool, false, ◌||◌, ◌&&◌, Option, Some, None, List, slice_index, if◌then◌else◌}
+use Rattle.std.specs.Prelude.{ℕ, zero, suc, ◌+◌, ◌*◌, ◌/◌, ◌%◌, ◌==◌, nat_lt, nat_le, Bool, false, ◌||◌, ◌&&◌, Option}
+use Rattle.std.specs.Prelude.{Some, None, List, slice_index, if◌then◌else◌}
 use Rattle.bag_cells.specs.Numbers.{number_at}
 use Rattle.bag_cells.specs.Header.{size, cells, data_start, data_end}
 use Rattle.bag_cells.specs.declared.error.BagError.{BagError}
@@ -29,8 +30,8 @@ is_exotic raw place = first_descriptor raw place / 8 % 2 == 1
 abbrev pub has_stored_hashes : List ℕ → ℕ → Bool
 has_stored_hashes raw place = first_descriptor raw place / 16 % 2 == 1
 
-abbrev pub told_mask : List ℕ → ℕ → ℕ
-told_mask raw place = first_descriptor raw place / 32
+abbrev pub reported_mask : List ℕ → ℕ → ℕ
+reported_mask raw place = first_descriptor raw place / 32
 
 abbrev pub is_completed : List ℕ → ℕ → Bool
 is_completed raw place = second_descriptor raw place % 2 == 1
@@ -49,7 +50,7 @@ ref_at raw place k = number_at raw (place + 2 + byte_count raw place + k * size 
 unfoldable pub cell_size : List ℕ → ℕ → ℕ
 cell_size raw place = 2 + byte_count raw place + ref_count raw place * size raw
 
--- the place where cell i begins: the cells stand one behind the other
+-- the place where cell i begins: the cells stand one after the other
 unfoldable pub start : List ℕ → ℕ → ℕ
 start raw zero = data_start raw
 start raw (suc i) = start raw i + cell_size raw (start raw i)

@@ -2,9 +2,11 @@
 --
 -- Source: the first byte of the magic b5ee9c72 of a serialized bag of cells (`serialized_boc` of crypto/tl/boc.tlb
 -- in the TON sources) tells the forms apart; RFC 4648, sections 4 and 8.
-use Rattle.std.specs.Prelude.{ℕ, ◌==◌, Bool, ◌||◌, Result, Ok, Err, List, [], ◌∷◌, length, slice_index, if◌then◌else◌, ◌≡◌, ◌<◌, ◌%◌, true, false}
+use Rattle.std.specs.Prelude.{ℕ, ◌==◌, Bool, ◌||◌, Result, Ok, Err, List, [], ◌∷◌, length, slice_index, if◌then◌else◌}
+use Rattle.std.specs.Prelude.{◌≡◌, ◌<◌, ◌%◌, true, false}
 use Rattle.hex.specs.declared.error.FromHexError.{FromHexError}
-use Rattle.hex.specs.declared.error.FromHexError.TheVariants.{InvalidHexCharacter, OddLength, InvalidStringLength, OutOfMemory}
+use Rattle.hex.specs.declared.error.FromHexError.TheVariants.{InvalidHexCharacter, OddLength, InvalidStringLength}
+use Rattle.hex.specs.declared.error.FromHexError.TheVariants.{OutOfMemory}
 use Rattle.hex.specs.Hex.{decode_of as hex_decoded, is_hex_digit}
 use Rattle.base64.specs.declared.decode.DecodeError.{DecodeError}
 use Rattle.base64.specs.GeneralPurpose.{decode_of as base64_decoded}
@@ -64,7 +66,7 @@ pub record IsFirstBad (text : List ℕ) (place : ℕ) : Type 0 where
   pub bad : is_hex_digit (slice_index text place) ≡ false
   pub before : (earlier : ℕ) → earlier < place → is_hex_digit (slice_index text earlier) ≡ true
 
--- the place that is told of a text that is no hexadecimal text: its length where that is odd, else its first bad place
+-- the place that is reported of a text that is no hexadecimal text: its length where that is odd, else its first bad place
 pub data IsBadHex (text : List ℕ) (place : ℕ) : Type 0 where
   odd : length text % 2 ≡ 1 → place ≡ length text → IsBadHex text place
   even : length text % 2 ≡ 0 → IsFirstBad text place → IsBadHex text place

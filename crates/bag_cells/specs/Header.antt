@@ -8,12 +8,14 @@
 --   cell_data:(tot_cells_size * [ uint8 ]) crc32c:has_crc32c?uint32
 -- The numbers are big-endian, and the sum is little-endian. This profile takes one root and no absent cells, and
 -- reads neither the cache bit nor the index.
-use Rattle.std.specs.Prelude.{ℕ, ◌+◌, ◌*◌, ◌/◌, ◌%◌, ◌==◌, nat_lt, nat_le, Bool, not, ◌||◌, ◌&&◌, Option, Some, None, List, [], ◌∷◌, length, take, slice_index, if◌then◌else◌}
+use Rattle.std.specs.Prelude.{ℕ, ◌+◌, ◌*◌, ◌/◌, ◌%◌, ◌==◌, nat_lt, nat_le, Bool, not, ◌||◌, ◌&&◌, Option, Some, None}
+use Rattle.std.specs.Prelude.{List, [], ◌∷◌, length, take, slice_index, if◌then◌else◌}
 use Rattle.tlb_sums.specs.Crc.{crc32c_of}
 use Rattle.bag_cells.specs.Numbers.{number_at, little_endian}
 use Rattle.bag_cells.specs.First.{first_of}
 use Rattle.bag_cells.specs.declared.error.BagError.{BagError}
-use Rattle.bag_cells.specs.declared.error.BagError.TheVariants.{BadMagic, Truncated, BadHeader, TooManyCells, ManyRoots, AbsentCells, Trailing, BadSum}
+use Rattle.bag_cells.specs.declared.error.BagError.TheVariants.{BadMagic, Truncated, BadHeader, TooManyCells}
+use Rattle.bag_cells.specs.declared.error.BagError.TheVariants.{ManyRoots, AbsentCells, Trailing, BadSum}
 
 -- ---- the fields
 
@@ -34,7 +36,7 @@ size raw = slice_index raw 4 % 8
 unfoldable pub off_bytes : List ℕ → ℕ
 off_bytes raw = slice_index raw 5
 
--- the place behind the length of the cell data, where the number of the root stands
+-- the place after the length of the cell data, where the number of the root stands
 unfoldable pub header_end : List ℕ → ℕ
 header_end raw = 6 + 3 * size raw + off_bytes raw
 
@@ -68,7 +70,7 @@ data_end raw = data_start raw + data_size raw
 unfoldable pub whole_size : List ℕ → ℕ
 whole_size raw = data_end raw + (if has_sum raw then 4 else 0)
 
--- the sum that is kept behind the cell data, and the sum of the bytes before it
+-- the sum that is kept after the cell data, and the sum of the bytes before it
 unfoldable pub kept_sum : List ℕ → ℕ
 kept_sum raw = little_endian raw (data_end raw)
 

@@ -1,10 +1,13 @@
 -- What reading has found out of the raw bytes so far.
-use Rattle.std.specs.Prelude.{◌/◌, ◌%◌, ◌≡◌, ℕ, ◌-◌, nat_lt, Bool, ◌&&◌, ◌+◌, ◌*◌, ◌<◌, ◌≤◌, true, Some, None, List, length, slice_index}
+use Rattle.std.specs.Prelude.{◌/◌, ◌%◌, ◌≡◌, ℕ, ◌-◌, nat_lt, Bool, ◌&&◌, ◌+◌, ◌*◌, ◌<◌, ◌≤◌, true, Some, None, List}
+use Rattle.std.specs.Prelude.{length, slice_index}
 use Rattle.cell_nodes.specs.declared.tree.Tree.{Tree}
 use Rattle.bag_cells.specs.Form.{is_white}
 use Rattle.bag_cells.specs.First.{first_before, last_before}
-use Rattle.bag_cells.specs.Header.{size, off_bytes, header_end, cells, root, data_start, data_end, start_refusal, count_refusal, length_refusal, root_refusal, header_refusal}
-use Rattle.bag_cells.specs.Cells.{ref_count, ref_at, is_completed, last_byte, told_mask, cell_size, refusal_at, cell_refusal, start, left_refusal}
+use Rattle.bag_cells.specs.Header.{size, off_bytes, header_end, cells, root, data_start, data_end, start_refusal}
+use Rattle.bag_cells.specs.Header.{count_refusal, length_refusal, root_refusal, header_refusal}
+use Rattle.bag_cells.specs.Cells.{ref_count, ref_at, is_completed, last_byte, reported_mask, cell_size, refusal_at}
+use Rattle.bag_cells.specs.Cells.{cell_refusal, start, left_refusal}
 use Rattle.bag_cells.specs.Trees.{trees, picked, node, refusal_of, node_refusal, root_tree, sprawl_refusal}
 use Rattle.bag_cells.specs.Bag.{refusal}
 use Rattle.bag_cells.specs.declared.header.Header.{Header}
@@ -78,7 +81,7 @@ pub record EndsAt (raw : List ℕ) (i place stop : ℕ) : Type 0 where
   pub stop_is : stop ≡ place + cell_size raw place
   pub within : stop ≤ data_end raw
 
--- these are the places where the cells begin, and nothing is left behind them
+-- these are the places where the cells begin, and nothing is left after them
 pub record AreStarts (raw starts : List ℕ) : Type 0 where
   pub accepted : first_before (cell_refusal raw) (cells raw) ≡ None
   pub nothing_left : left_refusal raw ≡ None
@@ -94,7 +97,7 @@ pub record ArePicked (raw : List ℕ) (place : ℕ) (later found : List Tree) : 
 -- this is the tree of cell i at the place
 pub record IsTree (raw : List ℕ) (i place : ℕ) (later : List Tree) (tree : Tree) : Type 0 where
   pub node_is : node raw place later ≡ Some tree
-  pub accepted : refusal_of i (told_mask raw place) (node raw place later) ≡ None
+  pub accepted : refusal_of i (reported_mask raw place) (node raw place later) ≡ None
 
 -- these are the trees of all cells
 pub record AreTrees (raw : List ℕ) (found : List Tree) : Type 0 where

@@ -7,7 +7,5 @@ pub mod Trees
 pub mod Unfolds
 pub mod Bag
 pub mod Known
-pub mod Post
-pub mod Listing
-pub mod Nodes
 pub mod Written
+pub mod Listed

@@ -1,7 +1,8 @@
 -- The trees of the cells of a bag, and the refusals of a cell by its tree.
 --
 -- Source: TON documentation, "Cells as data storage" and "Exotic cells".
-use Rattle.std.specs.Prelude.{ℕ, zero, suc, ◌+◌, ◌-◌, ◌*◌, ◌/◌, ◌==◌, nat_lt, not, Option, Some, None, List, [], ◌∷◌, ◌++◌, take, drop, slice_get, if◌then◌else◌}
+use Rattle.std.specs.Prelude.{ℕ, zero, suc, ◌+◌, ◌-◌, ◌*◌, ◌/◌, ◌==◌, nat_lt, not, Option, Some, None, List, [], ◌∷◌}
+use Rattle.std.specs.Prelude.{◌++◌, take, drop, slice_get, if◌then◌else◌}
 use Rattle.std.specs.Int.{trailing_zeros, w8}
 use Rattle.bit_slice.specs.Bits.{bits_from}
 use Rattle.cell_nodes.specs.declared.tree.Kind.{Kind}
@@ -10,7 +11,8 @@ use Rattle.cell_nodes.specs.declared.tree.Tree.{Tree}
 use Rattle.cell_nodes.specs.Layout.{exotic_kind}
 use Rattle.cell_nodes.specs.Tree.{tree_of, mask, deepest, unfolded}
 use Rattle.bag_cells.specs.Header.{cells, root}
-use Rattle.bag_cells.specs.Cells.{second_descriptor, byte_count, is_completed, last_byte, is_exotic, told_mask, ref_count, ref_at, start}
+use Rattle.bag_cells.specs.Cells.{second_descriptor, byte_count, is_completed, last_byte, is_exotic, reported_mask}
+use Rattle.bag_cells.specs.Cells.{ref_count, ref_at, start}
 use Rattle.bag_cells.specs.declared.error.BagError.{BagError}
 use Rattle.bag_cells.specs.declared.error.BagError.TheVariants.{BadExotic, BadMask, TooDeep, Sprawl}
 
@@ -67,15 +69,15 @@ root_tree raw = slice_get (trees raw (cells raw)) (cells raw - 1 - root raw)
 
 -- of cell i with that mask in its first descriptor byte, by its tree
 abbrev pub refusal_of : ℕ → ℕ → Option Tree → Option BagError
-refusal_of i told None = Some (BadExotic i)
-refusal_of i told (Some tree) =
-    if not (mask tree == told) then Some (BadMask i)
+refusal_of i reported None = Some (BadExotic i)
+refusal_of i reported (Some tree) =
+    if not (mask tree == reported) then Some (BadMask i)
     else if nat_lt 1024 (deepest tree) then Some (TooDeep i)
     else None
 
 unfoldable pub node_refusal : List ℕ → ℕ → Option BagError
 node_refusal raw i =
-    refusal_of i (told_mask raw (start raw i)) (node raw (start raw i) (trees raw (cells raw - 1 - i)))
+    refusal_of i (reported_mask raw (start raw i)) (node raw (start raw i) (trees raw (cells raw - 1 - i)))
 
 -- the unfolded tree of the root has more than 262,144 cells
 abbrev pub sprawl_of : Option Tree → Option BagError

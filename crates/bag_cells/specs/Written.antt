@@ -3,13 +3,14 @@
 --
 -- Source: TON documentation, "Bag of cells" and "Cells as data storage"; `serialized_boc#b5ee9c72` of
 -- crypto/tl/boc.tlb in the TON sources.
-use Rattle.std.specs.Prelude.{ℕ, zero, suc, ◌+◌, ◌/◌, ◌%◌, nat_lt, List, [], ◌∷◌, ◌++◌, length, map, reverse, if◌then◌else◌}
+use Rattle.std.specs.Prelude.{ℕ, zero, suc, ◌+◌, ◌/◌, ◌%◌, nat_lt, List, [], ◌∷◌, ◌++◌, length, map, reverse}
+use Rattle.std.specs.Prelude.{if◌then◌else◌}
 use Rattle.std.specs.List.{flat_map}
 use Rattle.bit_slice.specs.Bits.{completed}
 use Rattle.cell_hash.specs.Representation.{descriptor}
 use Rattle.cell_nodes.specs.declared.tree.Tree.{Tree, out-Tree}
 use Rattle.cell_nodes.specs.Tree.{is_exotic, mask}
-use Rattle.bag_cells.specs.Post.{place, post}
+use Rattle.cell_pool.specs.Post.{place, post}
 
 -- ---- numbers
 

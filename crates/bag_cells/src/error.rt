@@ -6,7 +6,7 @@ use tlb_memory::NoMemory;
 /// hexadecimal form and of the raw bytes elsewhere. Cells are named by their numbers in the bag, from 0.
 #[derive(Clone, Copy, Debug, PartialEq, Eq)]
 pub enum BagError {
-    /// The text has an odd number of bytes, which is told, or its byte at the place is no digit.
+    /// The text has an odd number of bytes, which is reported, or its byte at the place is no digit.
     BadHex(u64),
     /// The text is no padded standard base64.
     BadBase64,
@@ -34,7 +34,7 @@ pub enum BagError {
     BackReference(u64),
     /// The cell is exotic, and has the layout of no exotic cell.
     BadExotic(u64),
-    /// The mask that is told of the cell isn't its own.
+    /// The mask that is reported of the cell isn't its own.
     BadMask(u64),
     /// A depth of the cell is above 1024.
     TooDeep(u64),

@@ -1,6 +1,7 @@
 //! The header of a bag.
 ghost use Rattle.std.specs.Prelude.{◌≡◌, ◌≤◌, ◌<◌, ◌+◌, length, MatchResult, None, Some};
-ghost use Rattle.bag_cells.specs.Header.{size, header_end, differs, magic_differs, start_refusal, count_refusal, length_refusal, sum_refusal, root_refusal, header_refusal};
+ghost use Rattle.bag_cells.specs.Header.{size, header_end, differs, magic_differs, start_refusal, count_refusal};
+ghost use Rattle.bag_cells.specs.Header.{length_refusal, sum_refusal, root_refusal, header_refusal};
 ghost use Rattle.bag_cells.specs.Known.{HasSizes, HasCount, HasExtent, IsRoot, HasHeader};
 
 use crate::bytes::{little_endian, number_at};

@@ -1,12 +1,14 @@
 //! Laws of bags: functions of no parameters, whose contracts speak of the definitions alone.
-ghost use Rattle.std.specs.Prelude.{◌≡◌, ◌<◌, ◌≤◌, ◌^◌, ◌⊎◌, ℕ, List, Err, Some, slice_get, true};
+ghost use Rattle.std.specs.Prelude.{◌≡◌, ◌<◌, ◌≤◌, ◌^◌, ◌⊎◌, ℕ, List, Err, Some, slice_get, length, reverse};
 ghost use Rattle.cell_nodes.specs.declared.tree.Tree.{Tree};
 ghost use Rattle.cell_nodes.specs.Good.{IsGood};
 ghost use Rattle.cell_nodes.specs.Tree.{unfolded};
 ghost use Rattle.bag_cells.specs.Form.{raw_of_hex, IsBadHex};
 ghost use Rattle.bag_cells.specs.declared.error.BagError.TheVariants as refusals;
 ghost use Rattle.bag_cells.specs.Bag.{BagHolds, BagRefused};
-ghost use Rattle.bag_cells.specs.Post.{same, post, IsSubtree};
+ghost use Rattle.cell_pool.specs.Post.{post};
+ghost use Rattle.bag_cells.specs.Header.{cells};
+ghost use Rattle.bag_cells.specs.Unfolds.{Unfolds};
 ghost use Rattle.bag_cells.specs.Written.{width_of, bag_of};
 ghost use Rattle.bag_cells.specs.declared.error.BagError.{BagError as Refusal};
 
@@ -22,22 +24,10 @@ pub fn at_least_one()
     ensures { (file : List ℕ) → ((t : Tree) × BagHolds file t) ⊎ ((e : Refusal) × BagRefused file e) }
 {}
 
-/// A hexadecimal text of an odd length is told by its length, another by the place of its first byte that is no digit.
+/// A hexadecimal text of an odd length is reported by its length, another by the place of its first byte that is no
+/// digit.
 pub fn bad_hex_place()
     ensures { (text : List ℕ) (place : ℕ) → raw_of_hex text ≡ Err (refusals.BadHex place) → IsBadHex text place }
-{}
-
-/// The list of distinct subtrees has each subtree, has nothing else, and has none twice.
-pub fn each_subtree_once()
-    ensures each { (t u : Tree) → IsSubtree u t → (i : ℕ) × (slice_get (post t) i ≡ Some u) }
-    ensures only { (t u : Tree) (i : ℕ) → slice_get (post t) i ≡ Some u → IsSubtree u t }
-    ensures once { (t u : Tree) (i j : ℕ) → slice_get (post t) i ≡ Some u → slice_get (post t) j ≡ Some u → i ≡ j }
-{}
-
-/// The test for equal trees tells equality.
-pub fn same_is_equality()
-    ensures equal { (t u : Tree) → same t u ≡ true → t ≡ u }
-    ensures itself { (t : Tree) → same t t ≡ true }
 {}
 
 /// A number fits into its bytes, and into no fewer; it has at least one.
@@ -50,4 +40,14 @@ pub fn width_is_least()
 /// The bag that is written for a good tree of at most 262,144 cells holds that tree.
 pub fn written_bag_holds()
     ensures { (t : Tree) → IsGood t → unfolded t ≤ 262144 → BagHolds (bag_of t) t }
+{}
+
+/// The bag that is written lists each distinct cell exactly once: it has as many cells as the tree has distinct subtrees,
+/// and its cells unfold to them, each after all that refer to it.
+pub fn each_cell_once()
+    ensures count { (t : Tree) → IsGood t → unfolded t ≤ 262144 → cells (bag_of t) ≡ length (post t) }
+    ensures cells {
+        (t u : Tree) (i : ℕ) → IsGood t → unfolded t ≤ 262144 → slice_get (reverse (post t)) i ≡ Some u
+        → Unfolds (bag_of t) i u
+    }
 {}

@@ -14,7 +14,6 @@ mod error;
 mod form;
 mod header;
 pub mod laws;
-mod post;
 mod raw;
 mod trees;
 mod write;
@@ -57,9 +56,9 @@ fn read(alloc: Global, file: &[u8]) -> Result<Cell, BagError>
 pub fn read_bag(alloc: Global, file: &[u8]) -> Result<Cell, BagError>
     // What is answered holds of the file.
     ensures holds { IfAnswered result (λ c. BagHolds file.now c) (λ e. BagRefused file.now e) }
-    // The tree that the file holds is answered, unless memory is wanted.
+    // The tree that the file holds is answered, unless out of memory.
     ensures tree { (t : Tree) → BagHolds file.now t → IfAnswered result (λ c. c ≡ t) (λ _. ⊥) }
-    // The refusal of the file is answered, unless memory is wanted.
+    // The refusal of the file is answered, unless out of memory.
     ensures refused { (e : Refusal) → BagRefused file.now e → IfAnswered result (λ _. ⊥) (λ found. found ≡ e) }
     // The unfolded tree has at most 262,144 cells.
     ensures small { IfAnswered result (λ c. unfolded c ≤ 262144) (λ _. ⊤) }

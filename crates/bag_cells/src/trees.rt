@@ -1,7 +1,7 @@
 //! The cells of a bag as shared nodes, from the last to the first.
 ghost use Rattle.std.specs.Prelude.{◌≡◌, ◌≤◌, ◌<◌, ◌+◌, ◌-◌, ◌*◌, length, true, IfSome, IsTrue, None, Some};
 ghost use Rattle.cell_nodes.specs.Layout.{has_layout};
-ghost use Rattle.bag_cells.specs.Cells.{byte_count, ref_count, is_completed, last_byte, told_mask};
+ghost use Rattle.bag_cells.specs.Cells.{byte_count, ref_count, is_completed, last_byte, reported_mask};
 ghost use Rattle.bag_cells.specs.Trees.{bit_count, cell_bits, cell_kind, picked, node, refusal_of};
 ghost use Rattle.bag_cells.specs.Bag.{IfAnswered, refusal};
 ghost use Rattle.bag_cells.specs.Known.{HasHeader, IsCell, ArePicked, IsTree, AreStarts, AreTrees};
@@ -92,7 +92,8 @@ fn cell_at(
     requires header { HasHeader raw.now header }
     requires cell { IsCell raw.now i place }
     requires later { length later.now + 1 + i ≡ header.cells }
-    ensures { IfAnswered result (λ c. IsTree raw.now i place later.now c) (λ e. refusal_of i (told_mask raw.now place) (node raw.now place later.now) ≡ Some e) }
+    ensures { IfAnswered result (λ c. IsTree raw.now i place later.now c)
+        (λ e. refusal_of i (reported_mask raw.now place) (node raw.now place later.now) ≡ Some e) }
 {
     let bits = bits_at(alloc, raw, place)?;
     let Some(kind) = kind_at(raw, place, bits.slice()) else {

@@ -1,17 +1,19 @@
 //! The bytes of the bag of a tree.
-ghost use Rattle.std.specs.Prelude.{◌≡◌, ◌≤◌, ◌<◌, ◌+◌, ◌-◌, ◌++◌, ◌∷◌, [], IfOk, IfSome, OnOk, slice_get, length, map, reverse};
+ghost use Rattle.std.specs.Prelude.{◌≡◌, ◌<◌, ◌++◌, ◌∷◌, [], IfOk, IfSome, OnOk, slice_get, slice_index, length, map};
 ghost use Rattle.std.specs.List.{All, flat_map};
 ghost use Rattle.bit_slice.specs.Bits.{completed};
-ghost use Rattle.cell_nodes.specs.declared.tree.Tree.{out-Tree};
-ghost use Rattle.cell_nodes.specs.Tree.{is_exotic, unfolded};
+ghost use Rattle.cell_nodes.specs.Tree.{is_exotic};
+ghost use Rattle.cell_pool.specs.Nodes.{node_tree};
+ghost use Rattle.cell_pool.specs.Visited.{tree_at, trees_at};
 ghost use Rattle.bag_cells.specs.Bag.{BagHolds};
-ghost use Rattle.bag_cells.specs.Post.{place};
-ghost use Rattle.bag_cells.specs.Written.{number_bytes, width_of, descriptor_of, cell_bytes, cell_data, header_bytes, bag_over, bag_of};
+ghost use Rattle.bag_cells.specs.Listed.{EachOnce, ArePlaces, IsListed};
+ghost use Rattle.bag_cells.specs.Written.{number_bytes, width_of, descriptor_of, cell_bytes, cell_data, header_bytes};
+ghost use Rattle.bag_cells.specs.Written.{bag_over, bag_of};
 
-use crate::post::{Listing, listing_of};
 use bit_slice::BitSlice;
 use cell_hash::descriptor;
-use cell_nodes::{Cell, Kind};
+use cell_nodes::Kind;
+use cell_pool::{NodeId, Pool, PoolNode};
 use std::alloc::{AllocError, Global};
 use tlb_memory::NoMemory;
 
@@ -54,13 +56,22 @@ fn push_completed(bytes: &mut Vec<u8>, bits: BitSlice<'_>) -> Result<(), NoMemor
     Ok(())
 }
 
-/// Adds the references to the cells of these numbers in post order.
-fn push_refs(bytes: &mut Vec<u8>, size: u8, cells: usize, numbers: &[usize]) -> Result<(), NoMemory>
-    requires { All (λ n. n < cells) numbers.now }
-    ensures { OnOk result (bytes.new.items ≡ bytes.old.items ++ flat_map (number_bytes size) (map (λ n. cells - 1 - n) numbers.now)) }
+/// Adds the references to the nodes of these numbers, each by the place of its node.
+fn push_refs(
+    bytes: &mut Vec<u8>,
+    size: u8,
+    places: &[usize],
+    children: &[NodeId],
+) -> Result<(), NoMemory>
+    requires { All (λ n. n < length places.now) children.now }
+    ensures {
+        OnOk result
+            (bytes.new.items
+                ≡ bytes.old.items ++ flat_map (number_bytes size) (map (slice_index places.now) children.now))
+    }
 {
-    'refs: for number in numbers {
-        push_number(bytes, size, cells - 1 - *number)?;
+    'refs: for child in children {
+        push_number(bytes, size, places[child.number() as usize])?;
     }
     Ok(())
 }
@@ -73,41 +84,76 @@ fn is_exotic(kind: Kind) -> bool
         Kind::Pruned => true,
         Kind::Library => true,
         Kind::Proof => true,
+        Kind::Update => true,
     }
 }
 
-fn descriptor_of(cell: &Cell) -> (u8, u8)
-    ensures { result ≡ descriptor_of cell.now }
+fn descriptor_of(node: &PoolNode) -> (u8, u8)
+    ensures { result ≡ descriptor_of (node_tree node.now) }
 {
     descriptor(
-        cell.refs(),
-        is_exotic(cell.kind()),
-        cell.mask(),
-        cell.bits().len(),
+        node.refs(),
+        is_exotic(node.kind()),
+        node.mask(),
+        node.bits().len(),
     )
 }
 
-/// Adds cell `i` of the list.
-fn push_cell(bytes: &mut Vec<u8>, size: u8, listing: &Listing, i: usize) -> Result<(), NoMemory>
-    requires { i < length listing.now }
-    ensures { OnOk result (IfSome (slice_get listing.now i) (λ t. bytes.new.items ≡ bytes.old.items ++ cell_bytes size (reverse listing.now) t)) }
+/// The place of each number in the list; 0 for the numbers below `count` that aren't there.
+fn places_of(alloc: Global, count: usize, order: &[NodeId]) -> Result<Vec<usize>, NoMemory>
+    requires there { All (λ n. n < count) order.now }
+    requires once { EachOnce order.now }
+    ensures places { IfOk result (λ v. ArePlaces v.items order.now (length order.now)) }
+    ensures count { IfOk result (λ v. length v.items ≡ count) }
 {
-    listing.ordered();
-    let cell = listing.cell(i);
-    let (first, second) = descriptor_of(cell);
-    push_byte(bytes, first)?;
-    push_byte(bytes, second)?;
-    push_completed(bytes, cell.bits())?;
-    push_refs(bytes, size, listing.len(), listing.numbers(i))
+    let mut places = vec![in alloc; 0usize; count]?;
+    'numbers: for (i, id) in order.iter().enumerate() {
+        places[id.number() as usize] = i;
+    }
+    Ok(places)
 }
 
-/// The cells of the list from the last to the first.
-fn cell_data(alloc: Global, size: u8, listing: &Listing) -> Result<Vec<u8>, NoMemory>
-    ensures { IfOk result (λ v. v.items ≡ cell_data size (reverse listing.now)) }
+/// Adds the cell of the node.
+fn push_cell(
+    bytes: &mut Vec<u8>,
+    size: u8,
+    pool: &Pool,
+    order: &[NodeId],
+    places: &[usize],
+    i: usize,
+) -> Result<(), NoMemory>
+    requires listed { IsListed pool.now order.now places.now }
+    requires there { i < length order.now }
+    ensures {
+        OnOk result
+            (bytes.new.items
+                ≡ bytes.old.items
+                ++ cell_bytes size (trees_at pool.now order.now) (tree_at pool.now (slice_index order.now i)))
+    }
+{
+    pool.ordered();
+    let node = pool.get(order[i]);
+    let (first, second) = descriptor_of(node);
+    push_byte(bytes, first)?;
+    push_byte(bytes, second)?;
+    push_completed(bytes, node.bits())?;
+    push_refs(bytes, size, places, node.children())
+}
+
+/// The cells of the nodes in their order.
+fn cell_data(
+    alloc: Global,
+    size: u8,
+    pool: &Pool,
+    order: &[NodeId],
+    places: &[usize],
+) -> Result<Vec<u8>, NoMemory>
+    requires { IsListed pool.now order.now places.now }
+    ensures { IfOk result (λ v. v.items ≡ cell_data size (trees_at pool.now order.now)) }
 {
     let mut data = Vec::new(alloc);
-    'cells: for i in (0..listing.len()).rev() {
-        push_cell(&mut data, size, listing, i)?;
+    'cells: for i in 0..order.len() {
+        push_cell(&mut data, size, pool, order, places, i)?;
     }
     Ok(data)
 }
@@ -126,19 +172,23 @@ fn header_bytes(alloc: Global, cells: usize, data_size: usize) -> Result<Vec<u8>
     Ok(bytes)
 }
 
-/// The raw bytes of the bag of a tree with one root, at index 0: each distinct cell once, the reverse of the order in
-/// which a walk from left to right completes them; no index, no sum, no cache bit; the least sizes of the numbers.
-/// A cell is sought among all that stand already, so the time grows with the square of their number.
-pub fn write_bag(alloc: Global, cell: &Cell) -> Result<Vec<u8>, NoMemory>
-    requires { unfolded cell.now ≤ 262144 }
-    ensures bytes { IfOk result (λ v. v.items ≡ bag_of cell.now) }
+/// The raw bytes of the bag of the tree of that number, with one root, at index 0: each distinct cell once, the reverse
+/// of the order in which a walk from left to right completes them; no index, no sum, no cache bit; the least sizes of
+/// the numbers. The time grows with the number of the pool's nodes.
+pub fn write_bag(alloc: Global, pool: &Pool, root: NodeId) -> Result<Vec<u8>, NoMemory>
+    requires { root < length pool.now }
+    ensures bytes { IfOk result (λ v. IfSome (slice_get pool.now root) (λ t. v.items ≡ bag_of t)) }
     // What is written is read again as the same tree.
-    ensures holds { IfOk result (λ v. BagHolds v.items cell.now) }
+    ensures holds { IfOk result (λ v. IfSome (slice_get pool.now root) (λ t. BagHolds v.items t)) }
 {
-    cell.good();
-    let listing = listing_of(alloc, cell)?;
-    let data = cell_data(alloc, width_of(listing.len()), &listing)?;
-    let mut bytes = header_bytes(alloc, listing.len(), data.len())?;
+    pool.good();
+    pool.small();
+    pool.ordered();
+    let order = pool.order(alloc, root)?;
+    let places = places_of(alloc, pool.count() as usize, order.as_slice())?;
+    let size = width_of(order.len());
+    let data = cell_data(alloc, size, pool, order.as_slice(), places.as_slice())?;
+    let mut bytes = header_bytes(alloc, order.len(), data.len())?;
     bytes.extend_from_slice(data.as_slice())?;
     Ok(bytes)
 }

@@ -136,6 +136,13 @@ impl BitWriter {
         self.push_number(twos_complement(value, n), n)
     }
 
+    /// All bits so far.
+    pub fn slice(&self) -> BitSlice<'_>
+        ensures { result ≡ self.now }
+    {
+        BitSlice::of_bytes(self.bytes.as_slice(), self.len)
+    }
+
     /// The bits that were written.
     pub fn finish(self) -> BitString
         ensures { result ≡ self }

@@ -35,7 +35,7 @@ pub enum Content<'a> {
 /// has only the bits below the level of the representation.
 pub fn descriptor(refs: u32, exotic: bool, mask: u8, bits: u32) -> (u8, u8)
     requires few { refs ≤ 4 }
-    requires low { mask ≤ 1 }
+    requires low { mask ≤ 7 }
     requires short { bits ≤ 1023 }
     ensures { result ≡ descriptor refs exotic mask bits }
 {

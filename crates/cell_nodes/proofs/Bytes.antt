@@ -6,7 +6,7 @@ use Rattle.std.proofs.Math.Seq.{take-add}
 use Rattle.std.proofs.Math.Nat.{pow-suc}
 use Rattle.std.proofs.lemmas.List.FromFn.{fill_by_all}
 use Rattle.bit_slice.specs.Bits.{number_of, number_onto, groups, completed_bit, completed_byte}
-use Rattle.cell_nodes.specs.Layout.{byte_of, stored_hash, stored_depth}
+use Rattle.cell_nodes.specs.Layout.{byte_of, hash_from, depth_from, pair_count, stored_mask, stored_hash, stored_depth}
 
 inside : (bits : List ℕ) (j : ℕ) → j < length bits → get_or bits j 0 ≡ completed_bit bits j
 inside bits j h = grind arith
@@ -43,12 +43,19 @@ groups-index (suc n) bits (suc k) h =
     let e : 1 + k ≡ suc k = omega arith in
     groups-index n (drop 8 bits) k (omega arith) ∙ byte_of-drop bits 1 k ∙ ap (λ j. byte_of j bits) e
 
--- the hash, byte by byte
-pub stored_hash-bytes : (bits hash : List ℕ) → length hash ≡ 32 → ((k : ℕ) → k < 32 → get_or hash k 0 ≡ byte_of (2 + k) bits) → hash ≡ stored_hash bits
-stored_hash-bytes bits hash h all =
-    fill_by_all (λ k. byte_of (2 + k) bits) hash 32 0 h all
-    ∙ sym (fill_by_all (λ k. byte_of (2 + k) bits) (stored_hash bits) 32 0 (length-groups 32 (drop 16 bits))
-    (λ k below. groups-index 32 (drop 16 bits) k below ∙ byte_of-drop bits 2 k))
+-- a hash, byte by byte, from byte `first` on
+pub hash_bytes : (bits hash : List ℕ) (first : ℕ) → length hash ≡ 32
+    → ((k : ℕ) → k < 32 → get_or hash k 0 ≡ byte_of (first + k) bits) → hash ≡ hash_from (8 * first) bits
+hash_bytes bits hash first h all =
+    fill_by_all (λ k. byte_of (first + k) bits) hash 32 0 h all
+    ∙ sym (fill_by_all (λ k. byte_of (first + k) bits) (hash_from (8 * first) bits) 32 0 (length-groups 32 (drop (8 * first) bits))
+    (λ k below. groups-index 32 (drop (8 * first) bits) k below ∙ byte_of-drop bits first k))
+
+pub pair_hash-bytes : (bits hash : List ℕ) (j first : ℕ) → first ≡ 2 + 32 * j → length hash ≡ 32
+    → ((k : ℕ) → k < 32 → get_or hash k 0 ≡ byte_of (first + k) bits) → hash ≡ stored_hash j bits
+pair_hash-bytes bits hash j first e h all =
+    let s : 8 * first ≡ 16 + 256 * j = omega arith in
+    hash_bytes bits hash first h all ∙ ap (λ n. hash_from n bits) s
 
 number_onto-from : (a : ℕ) (ys : List ℕ) → number_onto a ys ≡ a * 2 ^ length ys + number_onto 0 ys
 unfolding number_onto
@@ -71,8 +78,17 @@ two_bytes bits h =
     ∙ number_onto-from (number_of (take 8 bits)) (take 8 (drop 8 bits))
     ∙ ap (λ n. number_of (take 8 bits) * 2 ^ n + number_of (take 8 (drop 8 bits))) e
 
--- the depth, by its two bytes
-pub stored_depth-bytes : (bits : List ℕ) → length bits ≡ 288 → byte_of 34 bits * 256 + byte_of 35 bits ≡ stored_depth bits
-stored_depth-bytes bits h =
-    ap (λ n. byte_of 34 bits * 256 + n) (sym (byte_of-drop bits 34 1))
-    ∙ sym (two_bytes (drop 272 bits) (omega (arith, length-drop 272 bits)))
+-- a depth, by its two bytes, from byte `first` on
+pub depth_bytes : (bits : List ℕ) (first : ℕ) → 8 * first + 16 ≤ length bits
+    → byte_of first bits * 256 + byte_of (first + 1) bits ≡ depth_from (8 * first) bits
+depth_bytes bits first h =
+    let z : first + 0 ≡ first = omega arith in
+    ap (λ n. byte_of first bits * 256 + n) (sym (byte_of-drop bits first 1))
+    ∙ ap (λ n. n * 256 + number_of (take 8 (drop 8 (drop (8 * first) bits)))) (sym (ap (λ n. byte_of n bits) z) ∙ sym (byte_of-drop bits first 0))
+    ∙ sym (two_bytes (drop (8 * first) bits) (omega (arith, length-drop (8 * first) bits)))
+
+pub pair_depth-bytes : (bits : List ℕ) (j first : ℕ) → first ≡ 2 + 32 * pair_count (stored_mask bits) + 2 * j → 8 * first + 16 ≤ length bits
+    → byte_of first bits * 256 + byte_of (first + 1) bits ≡ stored_depth j bits
+pair_depth-bytes bits j first e h =
+    let s : 8 * first ≡ 16 + 256 * pair_count (stored_mask bits) + 16 * j = omega arith in
+    depth_bytes bits first h ∙ ap (λ n. depth_from n bits) s

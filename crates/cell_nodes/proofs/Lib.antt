@@ -1,4 +1,6 @@
 pub mod Parts
 pub mod Sums
 pub mod Bytes
-pub mod Told
+pub mod Known
+pub mod Steps
+pub mod Lengths

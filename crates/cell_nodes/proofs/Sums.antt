@@ -10,8 +10,8 @@ use Rattle.cell_nodes.specs.Tree.{Marks, union_of, depth_over, total, marks, mas
 pub or_or : (a b c : ℕ) → bit_or (bit_or a b) c ≡ bit_or a (bit_or b c)
 or_or a b c = same_from_bits _ _ (λ i. omega (arith, bit_at_or (bit_or a b) c i, bit_at_or a b i, bit_at_or a (bit_or b c) i, bit_at_or b c i))
 
-pub or_below_two : (a b : ℕ) → a ≤ 1 → b ≤ 1 → bit_or a b ≤ 1
-or_below_two a b h k = omega (arith, or_lt 1 a b (omega arith) (omega arith))
+pub or_below_eight : (a b : ℕ) → a ≤ 7 → b ≤ 7 → bit_or a b ≤ 7
+or_below_eight a b h k = omega (arith, or_lt 3 a b (omega arith) (omega arith))
 
 pub union_of-more : (f : Tree → Marks) (xs : List Tree) (x : Tree) → union_of (map f (xs ++ x ∷ [])) ≡ bit_or (union_of (map f xs)) (f x).mask
 union_of-more f [] x = or_zero_r _

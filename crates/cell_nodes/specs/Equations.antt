@@ -4,7 +4,8 @@ use Rattle.std.proofs.Common.{arith, ap}
 use Rattle.cell_nodes.specs.declared.tree.Kind.{Kind}
 use Rattle.cell_nodes.specs.declared.tree.Tree.{Tree, out-Tree, fold_out-Tree, fold-roll-Tree}
 use Rattle.cell_nodes.specs.declared.tree.Tree.TheViews.{out-roll-Tree, roll-out-Tree}
-use Rattle.cell_nodes.specs.Tree.{Marks, tree_of, total, unfolded, unfolded_step, marks, marks_of, marks_step, mask, depth, hash, mask_of, depth_of, hash_of}
+use Rattle.cell_nodes.specs.Tree.{Marks, tree_of, total, unfolded, unfolded_step, marks, marks_of, marks_step, mask}
+use Rattle.cell_nodes.specs.Tree.{depth, hash, mask_of, depth_of, hash_of}
 use denote.Param.Weighed.{most}
 
 pub out-tree_of : (k : Kind) (b : List ℕ) (cs : List Tree) → out-Tree (tree_of k b cs) ≡ record { kind = k; bits = b; children = cs }

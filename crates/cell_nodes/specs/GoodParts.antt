@@ -5,7 +5,8 @@ use Rattle.bit_slice.specs.Bits.{AreBits}
 use Rattle.cell_nodes.specs.declared.tree.Kind.{Kind}
 use Rattle.cell_nodes.specs.declared.tree.Tree.{Tree, out-Tree}
 use Rattle.cell_nodes.specs.Layout.{has_layout}
-use Rattle.cell_nodes.specs.Tree.{tree_of, depth, top_level, IsShallow}
+use Rattle.cell_nodes.specs.Levels.{top_level}
+use Rattle.cell_nodes.specs.Tree.{tree_of, depth, IsShallow}
 use Rattle.cell_nodes.specs.Equations.{out-tree_of}
 use Rattle.cell_nodes.specs.Good.{IsSound, IsGood, good, AllGood, none, more}
 
@@ -15,7 +16,9 @@ good-sound t (good t' sound all) = sound
 pub good-depth : (t : Tree) (i : ℕ) → IsGood t → i ≤ top_level → depth t i ≤ 1024
 good-depth t zero h low = let s = (good-sound t h).shallow in omega arith
 good-depth t (suc zero) h low = let s = (good-sound t h).shallow in omega arith
-good-depth t (suc (suc i)) h low = absurd (omega arith)
+good-depth t (suc (suc zero)) h low = let s = (good-sound t h).shallow in omega arith
+good-depth t (suc (suc (suc zero))) h low = let s = (good-sound t h).shallow in omega arith
+good-depth t (suc (suc (suc (suc i)))) h low = absurd (omega arith)
 
 pub good-children : (t : Tree) → IsGood t → AllGood (out-Tree t).children
 good-children t (good t' sound all) = all

@@ -1,19 +1,20 @@
--- What a tree of cells tells: its mask, its depth and its hash at each level, and the number of its cells.
+-- What is known of a tree of cells: its mask, its depth and its hash at each level, and the number of its cells.
 -- These speak of the unfolded tree alone: where two parts of it are equal, each is counted.
 --
 -- Source: TON documentation, "Cells as data storage" (cell level, standard representation and its hash) and "Exotic
--- cells"; TVM whitepaper, section 3.1; FIPS 180-4 for SHA-256.
-use Rattle.std.specs.Prelude.{ℕ, zero, suc, ◌+◌, ◌/◌, ◌%◌, ◌^◌, ◌≤◌, ◌==◌, max, min, bit_or, Bool, true, false, List, [], ◌∷◌, length, map, if◌then◌else◌}
-use Rattle.std.specs.List.{range_with_len}
+-- cells" (hashes of the levels above 0); TVM whitepaper, section 3.1; FIPS 180-4 for SHA-256.
+use Rattle.std.specs.Prelude.{ℕ, zero, suc, ◌+◌, ◌/◌, ◌%◌, ◌^◌, ◌≤◌, ◌==◌, nat_lt, max, min, bit_or, Bool, true}
+use Rattle.std.specs.Prelude.{false, List, [], ◌∷◌, length, map, if◌then◌else◌}
 use Rattle.std.specs.Int.{bit_at}
 use Rattle.sha2.specs.Sha256.{sha256}
 use Rattle.cell_hash.specs.declared.ChildMark.{ChildMark}
 use Rattle.cell_hash.specs.declared.Content.{Content}
 use Rattle.cell_hash.specs.declared.Content.TheVariants.{Data, Previous}
 use Rattle.cell_hash.specs.Representation.{descriptor, representation}
-use Rattle.cell_nodes.specs.Layout.{stored_hash, stored_depth}
+use Rattle.cell_nodes.specs.Levels.{levels, set_bits}
+use Rattle.cell_nodes.specs.Layout.{pair_count, stored_mask, stored_hash, stored_depth}
 use Rattle.cell_nodes.specs.declared.tree.Kind.{Kind}
-use Rattle.cell_nodes.specs.declared.tree.Kind.TheVariants.{Ordinary, Pruned, Library, Proof}
+use Rattle.cell_nodes.specs.declared.tree.Kind.TheVariants.{Ordinary, Pruned, Library, Proof, Update}
 use Rattle.cell_nodes.specs.declared.tree.Tree.{Tree, roll-Tree, fold-Tree}
 use Rattle.cell_nodes.specs.declared.tree.Tree.TheOpen.{Tree-F}
 
@@ -22,14 +23,7 @@ use Rattle.cell_nodes.specs.declared.tree.Tree.TheOpen.{Tree-F}
 abbrev pub tree_of : Kind → List ℕ → List Tree → Tree
 tree_of kind bits children = roll-Tree (record { kind = kind; bits = bits; children = children })
 
--- ---- what is told of a tree
-
--- the highest level, and all levels
-abbrev pub top_level : ℕ
-top_level = 1
-
-abbrev pub levels : List ℕ
-levels = range_with_len 0 (top_level + 1)
+-- ---- what is known of a tree
 
 -- the mask, and by level the depth and the hash
 pub record Marks : Type 0 where
@@ -37,12 +31,17 @@ pub record Marks : Type 0 where
   pub depth : ℕ → ℕ
   pub hash : ℕ → List ℕ
 
--- the level of the children that a level of the node speaks of: a proof's child is taken one level up
+-- how many levels above its own a cell takes its children
+abbrev pub shift : Kind → ℕ
+shift Ordinary = 0
+shift Pruned = 0
+shift Library = 0
+shift Proof = 1
+shift Update = 1
+
+-- the level of the children that a level of the node speaks of
 abbrev pub level_below : Kind → ℕ → ℕ
-level_below Ordinary i = i
-level_below Pruned i = i
-level_below Library i = i
-level_below Proof i = min (i + 1) top_level
+level_below kind i = i + shift kind
 
 -- ---- masks: cell level
 
@@ -56,9 +55,10 @@ union_of children = union (map (λ c. c.mask) children)
 
 abbrev pub mask_of : Kind → List ℕ → List Marks → ℕ
 mask_of Ordinary bits children = union_of children
-mask_of Pruned bits children = 1
+mask_of Pruned bits children = stored_mask bits
 mask_of Library bits children = 0
 mask_of Proof bits children = union_of children / 2
+mask_of Update bits children = union_of children / 2
 
 -- ---- depths
 
@@ -77,16 +77,20 @@ computed_depth kind mask children zero = depth_over (level_below kind 0) childre
 computed_depth kind mask children (suc i) =
     if bit_at mask i == 1 then depth_over (level_below kind (suc i)) children else computed_depth kind mask children i
 
--- a pruned branch stores its depth at level 0, and is a cell without references at the level above
+-- The pair of a pruned branch at level i is the one whose number is that of the set bits among the lowest i bits of the
+-- mask. Where it stores no such pair, its depth is that of a cell without references.
 abbrev pub pruned_depth : List ℕ → ℕ → ℕ
-pruned_depth bits zero = stored_depth bits
-pruned_depth bits (suc i) = 0
+pruned_depth bits i =
+    if nat_lt (set_bits i (stored_mask bits)) (pair_count (stored_mask bits))
+    then stored_depth (set_bits i (stored_mask bits)) bits
+    else 0
 
 abbrev pub depth_of : Kind → List ℕ → List Marks → ℕ → ℕ
 depth_of Ordinary bits children = computed_depth Ordinary (mask_of Ordinary bits children) children
 depth_of Pruned bits children = pruned_depth bits
 depth_of Library bits children = computed_depth Library (mask_of Library bits children) children
 depth_of Proof bits children = computed_depth Proof (mask_of Proof bits children) children
+depth_of Update bits children = computed_depth Update (mask_of Update bits children) children
 
 -- ---- hashes: the SHA-256 of representations
 
@@ -95,15 +99,17 @@ is_exotic Ordinary = false
 is_exotic Pruned = true
 is_exotic Library = true
 is_exotic Proof = true
+is_exotic Update = true
 
 -- what a representation holds of a child at level i
 abbrev pub mark_at : ℕ → Marks → ChildMark
 mark_at i m = record { depth = m.depth i; hash = m.hash i }
 
--- the representation at level i, with that mask in the descriptor bytes and that content behind them
+-- the representation at level i, with that mask in the descriptor bytes and that content after them
 abbrev pub representation_with : Kind → ℕ → ℕ → Content → ℕ → List Marks → List ℕ
 representation_with kind mask count content i children =
-    representation (descriptor (length children) (is_exotic kind) mask count) content (map (mark_at (level_below kind i)) children)
+    representation (descriptor (length children) (is_exotic kind) mask count) content
+    (map (mark_at (level_below kind i)) children)
 
 abbrev pub hash_with : Kind → ℕ → ℕ → Content → ℕ → List Marks → List ℕ
 hash_with kind mask count content i children = sha256 (representation_with kind mask count content i children)
@@ -115,23 +121,31 @@ abbrev pub computed_hash : Kind → List ℕ → ℕ → List Marks → ℕ → 
 computed_hash kind bits mask children zero = hash_with kind 0 (length bits) (Data bits) 0 children
 computed_hash kind bits mask children (suc i) =
     if bit_at mask i == 1
-    then hash_with kind (mask % 2 ^ suc i) (length bits) (Previous (computed_hash kind bits mask children i)) (suc i) children
+    then hash_with kind (mask % 2 ^ suc i) (length bits) (Previous (computed_hash kind bits mask children i)) (suc i)
+    children
     else computed_hash kind bits mask children i
 
--- a pruned branch stores its hash at level 0, and has at the level above the hash of its own representation
-abbrev pub pruned_hash : List ℕ → List Marks → ℕ → List ℕ
-pruned_hash bits children zero = stored_hash bits
-pruned_hash bits children (suc i) = hash_with Pruned 1 (length bits) (Data bits) 1 children
+-- the hash of a pruned branch's own representation, which has the whole mask
+abbrev pub own_hash : List ℕ → List ℕ
+own_hash bits = sha256 (representation (descriptor 0 true (stored_mask bits) (length bits)) (Data bits) [])
+
+-- the hash of the pair as for the depth; where it stores no such pair, that of its own representation
+abbrev pub pruned_hash : List ℕ → ℕ → List ℕ
+pruned_hash bits i =
+    if nat_lt (set_bits i (stored_mask bits)) (pair_count (stored_mask bits))
+    then stored_hash (set_bits i (stored_mask bits)) bits
+    else own_hash bits
 
 abbrev pub hash_of : Kind → List ℕ → List Marks → ℕ → List ℕ
 hash_of Ordinary bits children = computed_hash Ordinary bits (mask_of Ordinary bits children) children
-hash_of Pruned bits children = pruned_hash bits children
+hash_of Pruned bits children = pruned_hash bits
 hash_of Library bits children = computed_hash Library bits (mask_of Library bits children) children
 hash_of Proof bits children = computed_hash Proof bits (mask_of Proof bits children) children
+hash_of Update bits children = computed_hash Update bits (mask_of Update bits children) children
 
 -- ---- the whole tree
 
--- what a node tells, from what its children tell
+-- what is known of a node, from what is known of its children
 abbrev pub marks_of : Kind → List ℕ → List Marks → Marks
 marks_of kind bits children = record {
   mask = mask_of kind bits children;

@@ -1,20 +1,24 @@
 //! A shared node.
-ghost use Rattle.std.specs.Prelude.{◌≡◌, ◌≤◌, ◌<◌, ◌↔◌, length, slice_get, IfOk, OnOk, IsErrOf, IfSome, MatchOption, IsTrue, Some, None, map};
+ghost use Rattle.std.specs.Prelude.{◌≡◌, ◌≤◌, ◌<◌, ◌-◌, ◌^◌, ◌↔◌, length, slice_get, map, Some, None};
+ghost use Rattle.std.specs.Prelude.{IfOk, OnOk, IsErrOf, IfSome, MatchOption, IsTrue};
 ghost use Rattle.std.specs.Option.{option_copied};
 ghost use Rattle.cell_nodes.specs.declared.tree.Tree.{out-Tree};
-ghost use Rattle.cell_nodes.specs.declared.tree.Kind.TheVariants.{Ordinary};
+ghost use Rattle.cell_nodes.specs.declared.tree.Kind.TheVariants.{Ordinary, Pruned as PrunedKind};
 ghost use Rattle.cell_nodes.specs.Layout.{exotic_kind, has_layout};
-ghost use Rattle.cell_nodes.specs.Tree.{tree_of, mask, depth, hash, unfolded, capped, marks, mask_of, depth_of, levels, deepest, IsShallow};
+ghost use Rattle.cell_nodes.specs.Levels.{level_of, levels};
+ghost use Rattle.cell_nodes.specs.Tree.{tree_of, mask, depth, hash, mark_at, marks, shift, mask_of, depth_of, unfolded};
+ghost use Rattle.cell_nodes.specs.Tree.{capped, deepest, IsShallow};
 ghost use Rattle.cell_nodes.specs.Good.{IsGood};
 ghost use Rattle.cell_nodes.specs.HiddenParts.{hidden};
 ghost use Rattle.cell_nodes.specs.declared.cell.CellError.TheVariants.{NoMemory as OutOfMemory};
 
 use crate::children::{all_good, share_all, unfolded_over};
-use crate::layouts::exotic_kind;
-use crate::marks::{node_depths, node_hashes, node_mask};
+use crate::layouts::{exotic_kind, set_bits};
+use crate::marks::{has_next, node_depths, node_marks, node_mask};
 use crate::slice::{CellSlice, RefSlice};
 use crate::tree::{Hidden, Kind};
 use bit_slice::{BitSlice, BitString};
+use cell_hash::ChildMark;
 use sqlite_items::at;
 use std::alloc::Global;
 use std::marker::Model;
@@ -22,7 +26,7 @@ use std::rc::Rc;
 use tlb_memory::NoMemory;
 
 /// The greatest depth of a cell, at any level.
-const DEEPEST: u16 = 1024;
+pub(crate) const DEEPEST: u16 = 1024;
 
 /// Why a cell was not made.
 #[derive(Clone, Copy, Debug, PartialEq, Eq)]
@@ -56,8 +60,9 @@ struct Node {
     bits: BitString,
     children: Vec<Cell>,
     mask: u8,
-    depths: [u16; 2],
-    hashes: [[u8; 32]; 2],
+    /// The depth and the hash at level 0, and at the levels above it that the mask has.
+    lowest: ChildMark,
+    above: Vec<ChildMark>,
     unfolded: u32,
 }
 
@@ -104,28 +109,57 @@ impl Cell {
 
     pub fn mask(&self) -> u8
         ensures value { result ≡ mask self.now }
-        ensures bound { result ≤ 1 }
+        ensures bound { result ≤ 7 }
     {
         self.node.mask
     }
 
+    /// The place of the mask's highest set bit, from 1 to 3, or 0 for the mask 0.
+    pub fn level(&self) -> u32
+        ensures value { result ≡ level_of (mask self.now) }
+        ensures bound { result ≤ 3 }
+    {
+        let mask = self.mask();
+        if has_next(mask, 2) {
+            3
+        } else if has_next(mask, 1) {
+            2
+        } else if has_next(mask, 0) {
+            1
+        } else {
+            0
+        }
+    }
+
+    /// The depth and the hash at level `i`.
+    pub(crate) fn mark(&self, i: u32) -> ChildMark
+        requires { i ≤ 3 }
+        ensures { result ≡ mark_at i (marks self.now) }
+    {
+        let place = set_bits(i, self.node.mask);
+        if place == 0 {
+            self.node.lowest
+        } else {
+            self.node.above[place as usize - 1]
+        }
+    }
+
     /// The depth at level `i`.
-    #[tactic(auto, using(crate::proofs::Parts::levels))]
     pub fn depth(&self, i: u32) -> u16
-        requires { i ≤ 1 }
+        requires { i ≤ 3 }
         ensures value { result ≡ depth self.now i }
         ensures bound { result ≤ 1024 }
     {
-        self.node.depths[i as usize]
+        self.good();
+        self.mark(i).depth
     }
 
     /// The hash at level `i`.
-    #[tactic(auto, using(crate::proofs::Parts::levels))]
     pub fn hash(&self, i: u32) -> [u8; 32]
-        requires { i ≤ 1 }
+        requires { i ≤ 3 }
         ensures { result ≡ hash self.now i }
     {
-        self.node.hashes[i as usize]
+        self.mark(i).hash
     }
 
     /// How many references there are.
@@ -165,18 +199,30 @@ impl Cell {
         }
     }
 
+    /// What a pruned branch stores, where its mask is 1.
+    fn hidden_part(&self) -> Option<Hidden>
+        requires { (out-Tree self.now).kind ≡ PrunedKind }
+        ensures { result ≡ hidden self.now }
+    {
+        if self.node.mask != 1 {
+            return None;
+        }
+        Some(Hidden {
+            hash: self.node.lowest.hash,
+            depth: self.node.lowest.depth,
+        })
+    }
+
     /// What a pruned branch of mask 1 stores. `None` for every other cell.
     pub fn hidden(&self) -> Option<Hidden>
         ensures { result ≡ hidden self.now }
     {
         match self.node.kind {
             Kind::Ordinary => None,
-            Kind::Pruned => Some(Hidden {
-                hash: self.node.hashes[0],
-                depth: self.node.depths[0],
-            }),
+            Kind::Pruned => self.hidden_part(),
             Kind::Library => None,
             Kind::Proof => None,
+            Kind::Update => None,
         }
     }
 
@@ -199,7 +245,7 @@ impl Cell {
     pub fn mask_of(kind: Kind, bits: BitSlice<'_>, children: &[Cell]) -> u8
         requires { IsTrue (has_layout kind bits (length children.now)) }
         ensures value { result ≡ mask (tree_of kind bits.entry children.now) }
-        ensures bound { result ≤ 1 }
+        ensures bound { result ≤ 7 }
     {
         node_mask(kind, bits, children)
     }
@@ -217,10 +263,14 @@ impl Cell {
 
     /// The exotic cell that the first 8 bits name. It shares the children.
     pub fn exotic(alloc: Global, bits: BitString, children: &[Cell]) -> Result<Cell, CellError>
-        ensures made { IfOk result (λ c. IfSome (exotic_kind bits (length children.now)) (λ kind. c ≡ tree_of kind bits children.now)) }
-        ensures shallow { OnOk result (IfSome (exotic_kind bits (length children.now)) (λ kind. IsShallow (tree_of kind bits children.now))) }
+        ensures made { IfOk result
+            (λ c. IfSome (exotic_kind bits (length children.now)) (λ kind. c ≡ tree_of kind bits children.now)) }
+        ensures shallow { OnOk result
+            (IfSome (exotic_kind bits (length children.now)) (λ kind. IsShallow (tree_of kind bits children.now))) }
         ensures bad_exotic { IsErrOf result CellError.BadExotic ↔ exotic_kind bits (length children.now) ≡ None }
-        ensures too_deep { IsErrOf result CellError.TooDeep ↔ MatchOption (exotic_kind bits (length children.now)) ⊥ (λ kind. 1024 < deepest (tree_of kind bits children.now)) }
+        ensures too_deep { IsErrOf result CellError.TooDeep
+            ↔ MatchOption (exotic_kind bits (length children.now)) ⊥
+            (λ kind. 1024 < deepest (tree_of kind bits children.now)) }
     {
         if children.len() > 4 {
             return Err(CellError::BadExotic);
@@ -247,11 +297,28 @@ impl Cell {
     {
         let mask = node_mask(kind, bits.slice(), children);
         let depths = node_depths(kind, bits.slice(), mask, children);
-        if depths[0].max(depths[1]) > DEEPEST {
+        if depths[0].max(depths[1]).max(depths[2]).max(depths[3]) > DEEPEST {
             return Err(CellError::TooDeep);
         }
         let cell = Cell::of_parts(alloc, kind, bits, children, mask, depths)?;
         Ok(cell)
+    }
+
+    /// The cell of that kind, for bits and children that have its layout and stay within the greatest depth.
+    pub(crate) fn of_shallow(
+        alloc: Global,
+        kind: Kind,
+        bits: BitString,
+        children: &[Cell],
+    ) -> Result<Cell, NoMemory>
+        requires few { length children.now ≤ 4 }
+        requires layout { IsTrue (has_layout kind bits (length children.now)) }
+        requires shallow { IsShallow (tree_of kind bits children.now) }
+        ensures { IfOk result (λ c. c ≡ tree_of kind bits children.now) }
+    {
+        let mask = node_mask(kind, bits.slice(), children);
+        let depths = node_depths(kind, bits.slice(), mask, children);
+        Cell::of_parts(alloc, kind, bits, children, mask, depths)
     }
 
     /// The cell of that kind, from its mask and its depths.
@@ -261,12 +328,12 @@ impl Cell {
         bits: BitString,
         children: &[Cell],
         mask: u8,
-        depths: [u16; 2],
+        depths: [u16; 4],
     ) -> Result<Cell, NoMemory>
         requires few { length children.now ≤ 4 }
         requires layout { IsTrue (has_layout kind bits (length children.now)) }
         requires mask { mask ≡ mask_of kind bits (map marks children.now) }
-        requires low { mask ≤ 1 }
+        requires low { mask < 2 ^ (3 - shift kind) }
         requires depths { depths ≡ map (depth_of kind bits (map marks children.now)) levels }
         requires shallow { IsShallow (tree_of kind bits children.now) }
         ensures { IfOk result (λ c. c ≡ tree_of kind bits children.now) }
@@ -274,15 +341,15 @@ impl Cell {
         all_good(children);
         let _count = bits.slice().len();
         let unfolded = unfolded_over(children);
-        let hashes = node_hashes(alloc, kind, bits.slice(), mask, children)?;
+        let (lowest, above) = node_marks(alloc, kind, bits.slice(), mask, depths, children)?;
         let children = share_all(alloc, children)?;
         let node = Node {
             kind,
             bits,
             children,
             mask,
-            depths,
-            hashes,
+            lowest,
+            above,
             unfolded,
         };
         match Rc::new(alloc, node) {

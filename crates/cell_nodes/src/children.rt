@@ -12,7 +12,7 @@ use tlb_memory::NoMemory;
 /// The union of the children's masks.
 pub(crate) fn union_of(children: &[Cell]) -> u8
     ensures value { result ≡ union_of (map marks children.now) }
-    ensures bound { result ≤ 1 }
+    ensures bound { result ≤ 7 }
 {
     let mut found: u8 = 0;
     'children: for child in children {
@@ -23,7 +23,7 @@ pub(crate) fn union_of(children: &[Cell]) -> u8
 
 /// One more than the greatest depth of the children at one level, or 0 without children.
 pub(crate) fn depth_over(children: &[Cell], level: u32) -> u16
-    requires { level ≤ 1 }
+    requires { level ≤ 3 }
     ensures value { result ≡ depth_over level (map marks children.now) }
     ensures bound { result ≤ 1025 }
 {
@@ -51,16 +51,12 @@ pub(crate) fn marks_at(
     children: &[Cell],
     level: u32,
 ) -> Result<SmallVec<ChildMark, 4>, NoMemory>
-    requires { level ≤ 1 }
+    requires { level ≤ 3 }
     ensures { IfOk result (λ v. v.items ≡ map (mark_at level) (map marks children.now)) }
 {
     let mut marks = SmallVec::new(alloc);
     'children: for child in children {
-        let mark = ChildMark {
-            depth: child.depth(level),
-            hash: child.hash(level),
-        };
-        marks.push(mark).map_err(AllocError::from)?;
+        marks.push(child.mark(level)).map_err(AllocError::from)?;
     }
     Ok(marks)
 }

@@ -1,28 +1,33 @@
 //! The mask, the depths and the hashes of a new cell.
-ghost use Rattle.std.specs.Prelude.{◌≡◌, ◌≤◌, length, map, IfOk, IsTrue};
-ghost use Rattle.cell_nodes.specs.Layout.{has_layout};
-ghost use Rattle.cell_nodes.specs.Tree.{computed_depth, computed_hash, depth_of, hash_of, hash_with, is_exotic, level_below, levels, marks, mask_of};
+ghost use Rattle.std.specs.Prelude.{◌≡◌, ◌≤◌, ◌<◌, ◌+◌, ◌-◌, ◌%◌, ◌^◌, ◌==◌, ◌++◌, ◌∷◌, [], length, map};
+ghost use Rattle.std.specs.Prelude.{IfOk, IsTrue, OnOk};
+ghost use Rattle.std.specs.Int.{bit_at};
+ghost use Rattle.cell_nodes.specs.declared.tree.Kind.TheVariants.{Pruned as PrunedKind};
+ghost use Rattle.cell_nodes.specs.Layout.{has_layout, stored_mask};
+ghost use Rattle.cell_nodes.specs.Levels.{levels, levels_in};
+ghost use Rattle.cell_nodes.specs.Tree.{depth_of, hash_of, hash_with, is_exotic, mark_at, marks, marks_of, mask_of};
+ghost use Rattle.cell_nodes.specs.Tree.{own_hash, pruned_depth, pruned_hash, shift};
 
 use crate::cell::Cell;
 use crate::children::{depth_over, marks_at, union_of};
-use crate::layouts::{stored_depth, stored_hash, stored_mask};
+use crate::layouts::{set_bits, stored_depth, stored_hash, stored_mask};
 use crate::tree::Kind;
 use bit_slice::BitSlice;
-use cell_hash::{Content, descriptor, hash_parts};
-use std::alloc::Global;
+use cell_hash::{ChildMark, Content, descriptor, hash_parts};
+use std::alloc::{AllocError, Global};
 use tlb_memory::NoMemory;
 
-/// The level of the children that a level of a node speaks of.
-fn level_below(kind: Kind, level: u32) -> u32
-    requires { level ≤ 1 }
-    ensures value { result ≡ level_below kind level }
+/// How many levels above its own a cell of that kind takes its children.
+fn shift(kind: Kind) -> u32
+    ensures value { result ≡ shift kind }
     ensures bound { result ≤ 1 }
 {
     match kind {
-        Kind::Ordinary => level,
-        Kind::Pruned => level,
-        Kind::Library => level,
-        Kind::Proof => (level + 1).min(1),
+        Kind::Ordinary => 0,
+        Kind::Pruned => 0,
+        Kind::Library => 0,
+        Kind::Proof => 1,
+        Kind::Update => 1,
     }
 }
 
@@ -34,48 +39,89 @@ fn is_exotic(kind: Kind) -> bool
         Kind::Pruned => true,
         Kind::Library => true,
         Kind::Proof => true,
+        Kind::Update => true,
     }
 }
 
-/// The mask.
+/// Whether the mask has the level after level `i`.
+pub(crate) fn has_next(mask: u8, i: u32) -> bool
+    requires { i ≤ 2 }
+    ensures { result ≡ (bit_at mask i == 1) }
+{
+    (mask >> i) % 2 == 1
+}
+
+/// The mask. A cell that takes its children a level up has no level 3.
 pub(crate) fn node_mask(kind: Kind, bits: BitSlice<'_>, children: &[Cell]) -> u8
     requires { IsTrue (has_layout kind bits (length children.now)) }
     ensures value { result ≡ mask_of kind bits.entry (map marks children.now) }
-    ensures bound { result ≤ 1 }
+    ensures bound { result < 2 ^ (3 - shift kind) }
 {
     match kind {
         Kind::Ordinary => union_of(children),
-        Kind::Pruned => stored_mask(bits),
+        Kind::Pruned => stored_mask(&bits),
         Kind::Library => 0,
         Kind::Proof => union_of(children) / 2,
+        Kind::Update => union_of(children) / 2,
     }
 }
 
-/// The depths of a cell that is no pruned branch.
-fn computed_depths(kind: Kind, mask: u8, children: &[Cell]) -> [u16; 2]
-    requires { mask ≤ 1 }
-    ensures { result ≡ map (computed_depth kind mask (map marks children.now)) levels }
+/// The depth of a pruned branch at that level.
+fn pruned_depth(bits: &BitSlice<'_>, level: u32) -> u16
+    requires level { level ≤ 3 }
+    requires layout { IsTrue (has_layout PrunedKind bits.now 0) }
+    ensures { result ≡ pruned_depth bits.now level }
 {
-    let lowest = depth_over(children, level_below(kind, 0));
-    if mask == 0 {
-        return [lowest, lowest];
+    let mask = stored_mask(bits);
+    let j = set_bits(level, mask);
+    if j < set_bits(3, mask) {
+        stored_depth(bits, j)
+    } else {
+        0
     }
-    [lowest, depth_over(children, level_below(kind, 1))]
 }
 
-/// The depths at both levels.
-pub(crate) fn node_depths(kind: Kind, bits: BitSlice<'_>, mask: u8, children: &[Cell]) -> [u16; 2]
+/// The depth at level 0.
+fn lowest_depth(kind: Kind, bits: &BitSlice<'_>, children: &[Cell]) -> u16
+    requires layout { IsTrue (has_layout kind bits.now (length children.now)) }
+    ensures { result ≡ depth_of kind bits.now (map marks children.now) 0 }
+{
+    if kind == Kind::Pruned {
+        return pruned_depth(bits, 0);
+    }
+    depth_over(children, shift(kind))
+}
+
+/// The depth at the level after level `i`, which the mask has.
+fn depth_after(kind: Kind, bits: &BitSlice<'_>, i: u32, children: &[Cell]) -> u16
+    requires layout { IsTrue (has_layout kind bits.now (length children.now)) }
+    requires level { i + 1 + shift kind ≤ 3 }
+    requires set { bit_at (mask_of kind bits.now (map marks children.now)) i ≡ 1 }
+    ensures { result ≡ depth_of kind bits.now (map marks children.now) (i + 1) }
+{
+    if kind == Kind::Pruned {
+        return pruned_depth(bits, i + 1);
+    }
+    depth_over(children, i + 1 + shift(kind))
+}
+
+/// The depths at all levels.
+pub(crate) fn node_depths(kind: Kind, bits: BitSlice<'_>, mask: u8, children: &[Cell]) -> [u16; 4]
     requires mask { mask ≡ mask_of kind bits (map marks children.now) }
-    requires low { mask ≤ 1 }
+    requires low { mask < 2 ^ (3 - shift kind) }
     requires layout { IsTrue (has_layout kind bits (length children.now)) }
     ensures { result ≡ map (depth_of kind bits.entry (map marks children.now)) levels }
 {
-    match kind {
-        Kind::Ordinary => computed_depths(kind, mask, children),
-        Kind::Pruned => [stored_depth(bits), 0],
-        Kind::Library => computed_depths(kind, mask, children),
-        Kind::Proof => computed_depths(kind, mask, children),
+    let mut depths = [lowest_depth(kind, &bits, children); 4];
+    'levels: for i in 0..3u32 {
+        let before = depths[i as usize];
+        depths[i as usize + 1] = if has_next(mask, i) {
+            depth_after(kind, &bits, i, children)
+        } else {
+            before
+        };
     }
+    depths
 }
 
 /// The hash of one representation.
@@ -88,88 +134,132 @@ fn hash_with(
     level: u32,
     children: &[Cell],
 ) -> Result<[u8; 32], NoMemory>
-    requires mask { mask ≤ 1 }
+    requires mask { mask ≤ 7 }
     requires short { count ≤ 1023 }
-    requires level { level ≤ 1 }
+    requires level { level + shift kind ≤ 3 }
     requires few { length children.now ≤ 4 }
     ensures { IfOk result (λ h. h ≡ hash_with kind mask count content.entry level (map marks children.now)) }
 {
-    let marks = marks_at(alloc, children, level_below(kind, level))?;
+    let marks = marks_at(alloc, children, level + shift(kind))?;
     let first = descriptor(children.len() as u32, is_exotic(kind), mask, count);
     Ok(hash_parts(first, content, marks.as_slice()))
 }
 
-/// The hashes of a cell that is no pruned branch.
-fn computed_hashes(
-    alloc: Global,
-    kind: Kind,
-    bits: BitSlice<'_>,
-    mask: u8,
-    children: &[Cell],
-) -> Result<[[u8; 32]; 2], NoMemory>
-    requires mask { mask ≤ 1 }
-    requires few { length children.now ≤ 4 }
-    ensures { IfOk result (λ h. h ≡ map (computed_hash kind bits.entry mask (map marks children.now)) levels) }
+/// The hash of a pruned branch's own representation.
+fn own_hash(bits: &BitSlice<'_>, mask: u8) -> [u8; 32]
+    requires mask { mask ≡ stored_mask bits.now }
+    requires low { mask ≤ 7 }
+    ensures { result ≡ own_hash bits.now }
 {
-    let count = bits.len();
-    let lowest = hash_with(alloc, kind, 0, count, Content::Data(bits), 0, children)?;
-    if mask == 0 {
-        return Ok([lowest, lowest]);
+    let first = descriptor(0, true, mask, bits.len());
+    hash_parts(first, Content::Data(bits.again()), &[])
+}
+
+/// The hash of a pruned branch at that level.
+fn pruned_hash(bits: &BitSlice<'_>, level: u32) -> [u8; 32]
+    requires level { level ≤ 3 }
+    requires layout { IsTrue (has_layout PrunedKind bits.now 0) }
+    ensures { result ≡ pruned_hash bits.now level }
+{
+    let mask = stored_mask(bits);
+    let j = set_bits(level, mask);
+    if j < set_bits(3, mask) {
+        stored_hash(bits, j)
+    } else {
+        own_hash(bits, mask)
     }
-    let above = hash_with(
-        alloc,
-        kind,
-        mask,
-        count,
-        Content::Previous(lowest),
-        1,
-        children,
-    )?;
-    Ok([lowest, above])
 }
 
-/// The hashes of a pruned branch.
-fn pruned_hashes(
+/// The hash at level 0.
+fn lowest_hash(
     alloc: Global,
-    bits: BitSlice<'_>,
+    kind: Kind,
+    bits: &BitSlice<'_>,
     children: &[Cell],
-) -> Result<[[u8; 32]; 2], NoMemory>
+) -> Result<[u8; 32], NoMemory>
     requires few { length children.now ≤ 4 }
-    requires layout { length bits ≡ 288 }
-    ensures { IfOk result (λ h. h ≡ map (hash_of Kind.Pruned bits.entry (map marks children.now)) levels) }
+    requires layout { IsTrue (has_layout kind bits.now (length children.now)) }
+    ensures { IfOk result (λ h. h ≡ hash_of kind bits.now (map marks children.now) 0) }
 {
-    let stored = stored_hash(bits.again());
-    let count = bits.len();
-    let above = hash_with(
-        alloc,
-        Kind::Pruned,
-        1,
-        count,
-        Content::Data(bits),
-        1,
-        children,
-    )?;
-    Ok([stored, above])
+    if kind == Kind::Pruned {
+        return Ok(pruned_hash(bits, 0));
+    }
+    let content = Content::Data(bits.again());
+    hash_with(alloc, kind, 0, bits.len(), content, 0, children)
 }
 
-/// The hashes at both levels.
-pub(crate) fn node_hashes(
+/// The lowest bits of a mask.
+pub(crate) fn low_bits(mask: u8, count: u32) -> u8
+    requires { count ≤ 3 }
+    ensures { result ≡ mask % 2 ^ count }
+{
+    mask % (1u8 << count)
+}
+
+/// The hash at the level after level `i`, which the mask has. `before` is the hash at level `i`.
+fn hash_after(
+    alloc: Global,
+    kind: Kind,
+    bits: &BitSlice<'_>,
+    mask: u8,
+    i: u32,
+    before: [u8; 32],
+    children: &[Cell],
+) -> Result<[u8; 32], NoMemory>
+    requires few { length children.now ≤ 4 }
+    requires layout { IsTrue (has_layout kind bits.now (length children.now)) }
+    requires mask { mask ≡ mask_of kind bits.now (map marks children.now) }
+    requires low { mask ≤ 7 }
+    requires level { i + 1 + shift kind ≤ 3 }
+    requires set { bit_at mask i ≡ 1 }
+    requires before { before ≡ hash_of kind bits.now (map marks children.now) i }
+    ensures { IfOk result (λ h. h ≡ hash_of kind bits.now (map marks children.now) (i + 1)) }
+{
+    if kind == Kind::Pruned {
+        return Ok(pruned_hash(bits, i + 1));
+    }
+    let low = low_bits(mask, i + 1);
+    let content = Content::Previous(before);
+    hash_with(alloc, kind, low, bits.len(), content, i + 1, children)
+}
+
+pub(crate) fn push_mark(marks: &mut Vec<ChildMark>, mark: ChildMark) -> Result<(), NoMemory>
+    ensures { OnOk result (marks.new.items ≡ marks.old.items ++ mark ∷ []) }
+{
+    marks.push(mark).map_err(AllocError::from)?;
+    Ok(())
+}
+
+/// The depths and the hashes at the levels that the mask has: at level 0, and at those above it.
+pub(crate) fn node_marks(
     alloc: Global,
     kind: Kind,
     bits: BitSlice<'_>,
     mask: u8,
+    depths: [u16; 4],
     children: &[Cell],
-) -> Result<[[u8; 32]; 2], NoMemory>
+) -> Result<(ChildMark, Vec<ChildMark>), NoMemory>
     requires mask { mask ≡ mask_of kind bits (map marks children.now) }
-    requires low { mask ≤ 1 }
+    requires low { mask < 2 ^ (3 - shift kind) }
+    requires depths { depths ≡ map (depth_of kind bits (map marks children.now)) levels }
     requires few { length children.now ≤ 4 }
     requires layout { IsTrue (has_layout kind bits (length children.now)) }
-    ensures { IfOk result (λ h. h ≡ map (hash_of kind bits.entry (map marks children.now)) levels) }
+    ensures { IfOk result
+        (λ m. m.0 ∷ m.1.items
+        ≡ map (λ i. mark_at i (marks_of kind bits.entry (map marks children.now))) (levels_in 3 mask)) }
 {
-    match kind {
-        Kind::Ordinary => computed_hashes(alloc, kind, bits, mask, children),
-        Kind::Pruned => pruned_hashes(alloc, bits, children),
-        Kind::Library => computed_hashes(alloc, kind, bits, mask, children),
-        Kind::Proof => computed_hashes(alloc, kind, bits, mask, children),
+    let mut hash = lowest_hash(alloc, kind, &bits, children)?;
+    let lowest = ChildMark {
+        depth: depths[0],
+        hash,
+    };
+    let mut above = Vec::new(alloc);
+    'levels: for i in 0..3u32 {
+        if has_next(mask, i) {
+            hash = hash_after(alloc, kind, &bits, mask, i, hash, children)?;
+            let depth = depths[i as usize + 1];
+            push_mark(&mut above, ChildMark { depth, hash })?;
+        }
     }
+    Ok((lowest, above))
 }

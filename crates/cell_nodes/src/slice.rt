@@ -1,4 +1,4 @@
-//! A borrowed front of a cell.
+//! What is left of a cell, borrowed.
 ghost use Rattle.std.specs.Prelude.{◌≡◌, ◌≤◌, [], ◌∷◌, length, MatchOption};
 ghost use Rattle.cell_nodes.specs.Good.{AllGood};
 

@@ -9,13 +9,18 @@ pub enum Kind {
     Pruned,
     Library,
     Proof,
+    Update,
 }
 
-/// How a cell is read: without hidden parts, or with pruned branches in the place of some.
+/// How a cell is read.
 #[derive(Clone, Copy, PartialEq, Eq, Debug)]
 pub enum Mode {
+    /// Without hidden parts.
     Whole,
+    /// With pruned branches in the place of some parts.
     Partial,
+    /// Without hidden parts, and with labels of every form in dictionaries.
+    Lax,
 }
 
 /// The hash and the depth of a hidden part.

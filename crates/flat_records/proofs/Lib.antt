@@ -1,6 +1,5 @@
 pub mod WordLists
 pub mod Spelled
-pub mod Joined
 pub mod Digits
 pub mod Shapes
 pub mod Parts

@@ -3,7 +3,8 @@ use Rattle.std.proofs.Common.{◌≡◌, ◌<◌, ◌≤◌, ◌+◌, ◌⊎◌,
 use Rattle.std.proofs.lemmas.List.{append_cancel_left, length-append}
 use Rattle.std.proofs.Math.Seq.{take-append_seam, drop-append_seam}
 use Rattle.bit_slice.specs.Bits.{number_of}
-use Rattle.typed_value.specs.Val.{Val, Fields, number, record_of, no_fields, a_field}
+use Rattle.typed_value.specs.Values.{Plain, number}
+use Rattle.flat_records.specs.Fields.{Fields, fields_of, names_of, values_of, no_fields, a_field, record_with}
 use Rattle.flat_records.specs.Lexemes.{Lexeme}
 use Rattle.flat_records.specs.Form.{Declares}
 use Rattle.flat_records.specs.Spelling.{SpellsFields, none, more, Spells, spells, Reading, Stuck, no_constructor, short_bits, leftover}
@@ -69,19 +70,19 @@ short-or_spelled (f ∷ fs) bits cits (suc i) vs a e (later p m g n t) (more q k
 
 -- ---- records
 
-record SameRecord (v w : Val) (a b : List ℕ) : Type 0 where
+record SameRecord (v w : Plain) (a b : List ℕ) : Type 0 where
   value : v ≡ w
   left : a ≡ b
 
 behind-tag : (tag bits m k : List ℕ) → bits ≡ tag ++ m → bits ≡ tag ++ k → m ≡ k
 behind-tag tag bits m k e h = append_cancel_left tag m k (sym e ∙ h)
 
-record-once : (d : Declaration) (bits : List ℕ) (v w : Val) (a b : List ℕ) → Spells d bits v a → Spells d bits w b → SameRecord v w a b
+record-once : (d : Declaration) (bits : List ℕ) (v w : Plain) (a b : List ℕ) → Spells d bits v a → Spells d bits w b → SameRecord v w a b
 record-once d bits v w a b (spells m e s) (spells k h t) =
     let same = fields-once_at d.fields m k _ _ a b (behind-tag d.tag bits m k e h) s t in
-    record { value = ap (record_of (Some d.name)) same.values; left = same.left }
+    record { value = ap (record_with (Some d.name)) same.values; left = same.left }
 
-pub reading-once : (d : Declaration) (bits : List ℕ) (refs : ℕ) (v w : Val) → Reading d bits refs v → Reading d bits refs w → v ≡ w
+pub reading-once : (d : Declaration) (bits : List ℕ) (refs : ℕ) (v w : Plain) → Reading d bits refs v → Reading d bits refs w → v ≡ w
 reading-once d bits refs v w r s = (record-once d bits v w [] [] r.0 s.0).value
 
 abbrev some-left : List ℕ → ℕ → Type 0
@@ -91,7 +92,7 @@ none-left : (left : List ℕ) (refs : ℕ) → some-left left refs → left ≡ 
 none-left left refs (inl h) e n = omega (arith, ap length e)
 none-left left refs (inr h) e n = omega arith
 
-pub reading-or_stuck : (d : Declaration) (bits : List ℕ) (refs : ℕ) (v : Val) (s : Spot) (c : Cause) → Reading d bits refs v → Stuck d bits refs s c → ⊥
+pub reading-or_stuck : (d : Declaration) (bits : List ℕ) (refs : ℕ) (v : Plain) (s : Spot) (c : Cause) → Reading d bits refs v → Stuck d bits refs s c → ⊥
 reading-or_stuck d bits refs v s c (spells m e t, n) (no_constructor h) = h m e
 reading-or_stuck d bits refs v s c (spells m e t, n) (short_bits k left vs front back f h fs u short) =
     short-or_spelled d.fields k m (length front) _ [] (behind-tag d.tag bits k m h e)

@@ -4,8 +4,9 @@ use Rattle.std.proofs.lemmas.List.{take_more, take-append-drop, length-take-le}
 use Rattle.std.proofs.Common.{drop-cons}
 use Rattle.bit_slice.specs.Bits.{number_of, taken}
 use Rattle.typed_value.specs.declared.value.Value.{Value}
-use Rattle.typed_value.specs.View.{value, field_of, fields_of}
-use Rattle.typed_value.specs.Val.{Val, Fields, number, record_of, no_fields, a_field}
+use Rattle.typed_value.specs.View.{names_in, pair_of, vals_in, value}
+use Rattle.typed_value.specs.Values.{Plain, a_val, number}
+use Rattle.flat_records.specs.Fields.{Fields, fields_of, names_of, values_of, no_fields, a_field, record_with}
 use Rattle.flat_records.specs.declared.declaration.Field.{Field}
 use Rattle.flat_records.specs.declared.declaration.Declaration.{Declaration}
 use Rattle.flat_records.specs.declared.read.Cause.TheVariants.{NoConstructor, ShortBits, Leftover}
@@ -70,27 +71,36 @@ pub spells-last : (fs : List Field) (f : Field) (before after : List ℕ) (value
 spells-last [] f before after values front rest none e h = more front rest e h none
 spells-last (g ∷ fs) f before after values front rest (more first middle e h s) e' h' = more first middle e h (spells-last fs f middle after _ front rest s e' h')
 
+-- the names of fields, and their values
+pub names-fields : (fs : List (List ℕ × Plain)) → names_of (fields_of fs) ≡ names_in fs
+names-fields [] = refl
+names-fields (f ∷ fs) = ap (λ names. f.0 ∷ names) (names-fields fs)
+
+pub values-fields : (fs : List (List ℕ × Plain)) → values_of (fields_of fs) ≡ vals_in fs
+values-fields [] = refl
+values-fields (f ∷ fs) = ap (λ vs. a_val f.1 vs) (values-fields fs)
+
 -- no field is spelled yet
-pub spells-none : (fs : List Field) (bits : List ℕ) (vs : List (List ℕ × Value)) → vs ≡ [] → SpellsFields (take 0 fs) bits (fields_of (map field_of vs)) bits
+pub spells-none : (fs : List Field) (bits : List ℕ) (vs : List (List ℕ × Value)) → vs ≡ [] → SpellsFields (take 0 fs) bits (fields_of (map pair_of vs)) bits
 spells-none [] bits vs e = rw e none
 spells-none (f ∷ fs) bits vs e = rw e none
 
 fields_of-last : (vs : List (List ℕ × Value)) (name : List ℕ) (v : Value) (n : ℕ) → value v ≡ number false n
-    → fields_of (map field_of (vs ++ (name, v) ∷ [])) ≡ with_last (fields_of (map field_of vs)) name n
+    → fields_of (map pair_of (vs ++ (name, v) ∷ [])) ≡ with_last (fields_of (map pair_of vs)) name n
 fields_of-last [] name v n e = ap (λ w. a_field name w no_fields) e
 fields_of-last (u ∷ vs) name v n e = ap (λ rest. a_field u.0 (value u.1) rest) (fields_of-last vs name v n e)
 
 -- the next field is spelled as well
 pub spells-next : (fs : List Field) (i : ℕ) (f : Field) (before left front rest : List ℕ) (vs ws : List (List ℕ × Value)) (v : Value)
     → i < length fs → f ≡ get_or fs i f
-    → SpellsFields (take i fs) before (fields_of (map field_of vs)) left
+    → SpellsFields (take i fs) before (fields_of (map pair_of vs)) left
     → Some (front, rest) ≡ taken f.width left → value v ≡ number false (number_of front) → ws ≡ vs ++ (f.name, v) ∷ []
-    → SpellsFields (take (i + 1) fs) before (fields_of (map field_of ws)) rest
+    → SpellsFields (take (i + 1) fs) before (fields_of (map pair_of ws)) rest
 spells-next fs i f before left front rest vs ws v h at s t n e =
     let whole : take (i + 1) fs ≡ take i fs ++ f ∷ [] = take_more fs i f h ∙ ap (λ g. take i fs ++ g ∷ []) (sym at) in
     let parts = taken-parts f.width left front rest t in
     rw (whole, e, fields_of-last vs f.name v (number_of front) n)
-    (spells-last (take i fs) f before left (fields_of (map field_of vs)) front rest s parts.0 parts.1)
+    (spells-last (take i fs) f before left (fields_of (map pair_of vs)) front rest s parts.0 parts.1)
 
 -- where the tag does not begin the bits, the record stops
 pub stop-of_tag : (d : Declaration) (bits : List ℕ) (refs : ℕ) (tag : List ℕ)
@@ -118,12 +128,12 @@ empty-of [] h = refl
 empty-of (x ∷ xs) h = absurd (omega arith)
 
 -- tag and fields are spelled, and nothing is left
-pub spells-whole : (d : Declaration) (bits : List ℕ) (v w : Val) (left : List ℕ) → Spells d bits v left → length left ≤ 0 → w ≡ v → Spells d bits w []
+pub spells-whole : (d : Declaration) (bits : List ℕ) (v w : Plain) (left : List ℕ) → Spells d bits v left → length left ≤ 0 → w ≡ v → Spells d bits w []
 spells-whole d bits v w left s h e = rw e (subst (λ x. Spells d bits v x) (empty-of left h) s)
 
 -- tag and fields are spelled
 pub spells-both : (d : Declaration) (bits tag middle : List ℕ) (fs : List Field) (values : Fields) (left : List ℕ)
     → tag ≡ d.tag → fs ≡ d.fields → bits ≡ tag ++ middle → SpellsFields fs middle values left
-    → Spells d bits (record_of (Some d.name) values) left
+    → Spells d bits (record_with (Some d.name) values) left
 spells-both d bits tag middle fs values left t f h s =
     spells middle (subst (λ x. bits ≡ x ++ middle) t h) (subst (λ x. SpellsFields x middle values left) f s)

@@ -2,7 +2,8 @@
 use Rattle.std.proofs.Common.{◌≡◌, ◌<◌, ◌≤◌, ◌⊎◌, inl, inr, ℕ, zero, suc, List, [], ◌∷◌, ◌++◌, length, take, drop, refl, ap, sym, Some, Bool, true, false, nat_le, arith}
 use Rattle.std.proofs.lemmas.List.{take-append-drop, length-take-le}
 use Rattle.bit_slice.specs.Bits.{number_of}
-use Rattle.typed_value.specs.Val.{Val, Fields, number, record_of, no_fields, a_field}
+use Rattle.typed_value.specs.Values.{Plain, number}
+use Rattle.flat_records.specs.Fields.{Fields, fields_of, names_of, values_of, no_fields, a_field, record_with}
 use Rattle.flat_records.specs.Spelling.{SpellsFields, none, more, spells, Reading, Stuck, no_constructor, short_bits, leftover}
 use Rattle.flat_records.specs.Stops.{IsShort}
 use Rattle.flat_records.specs.declared.declaration.Declaration.{Declaration}
@@ -98,13 +99,13 @@ fields-told (f ∷ fs) bits = field-told f fs bits (nat_le f.width (length bits)
 -- ---- the record
 
 abbrev Told : Declaration → List ℕ → ℕ → Type 0
-Told d bits refs = ((v : Val) × Reading d bits refs v) ⊎ ((s : Spot) × (a : Cause) × Stuck d bits refs s a)
+Told d bits refs = ((v : Plain) × Reading d bits refs v) ⊎ ((s : Spot) × (a : Cause) × Stuck d bits refs s a)
 
 left-told : (d : Declaration) (bits middle : List ℕ) (refs : ℕ) (values : Fields) (left : List ℕ)
     → bits ≡ d.tag ++ middle → SpellsFields d.fields middle values left → Told d bits refs
-left-told d bits middle zero values [] e s = inl (record_of (Some d.name) values, (spells middle e s, refl))
-left-told d bits middle (suc refs) values [] e s = inr (Root, Leftover, leftover (record_of (Some d.name) values) [] (spells middle e s) (inr (omega arith)))
-left-told d bits middle refs values (x ∷ left) e s = inr (Root, Leftover, leftover (record_of (Some d.name) values) (x ∷ left) (spells middle e s) (inl (omega arith)))
+left-told d bits middle zero values [] e s = inl (record_with (Some d.name) values, (spells middle e s, refl))
+left-told d bits middle (suc refs) values [] e s = inr (Root, Leftover, leftover (record_with (Some d.name) values) [] (spells middle e s) (inr (omega arith)))
+left-told d bits middle refs values (x ∷ left) e s = inr (Root, Leftover, leftover (record_with (Some d.name) values) (x ∷ left) (spells middle e s) (inl (omega arith)))
 
 behind-told : (d : Declaration) (bits middle : List ℕ) (refs : ℕ) → bits ≡ d.tag ++ middle → FieldsTold d.fields middle → Told d bits refs
 behind-told d bits middle refs e (all values left s) = left-told d bits middle refs values left e s

@@ -3,6 +3,6 @@ pub mod Placed
 pub mod Words
 pub mod Form
 pub mod Found
+pub mod Fields
 pub mod Spelling
 pub mod Stops
-pub mod Text

@@ -1,6 +1,6 @@
 -- What a refusal to read says.
 use Rattle.std.specs.Prelude.{◌≡◌, ℕ, ◌<◌, List, ◌∷◌, ◌++◌, length}
-use Rattle.typed_value.specs.Val.{Fields}
+use Rattle.flat_records.specs.Fields.{Fields}
 use Rattle.flat_records.specs.declared.declaration.Declaration.{Declaration}
 use Rattle.flat_records.specs.declared.declaration.Field.{Field}
 use Rattle.flat_records.specs.declared.read.Cause.{Cause}

@@ -1,6 +1,6 @@
 //! Laws of reading and of the form: functions of no parameters, whose contracts speak of the definitions alone.
 ghost use Rattle.std.specs.Prelude.{◌≡◌, ◌⊎◌, ℕ, List};
-ghost use Rattle.typed_value.specs.Val.{Val};
+ghost use Rattle.typed_value.specs.Values.{Plain};
 ghost use Rattle.flat_records.specs.Lexemes.{Lexeme};
 ghost use Rattle.flat_records.specs.Form.{Declares};
 ghost use Rattle.flat_records.specs.Spelling.{Reading, Stuck};
@@ -10,7 +10,7 @@ ghost use Rattle.flat_records.specs.declared.read.Spot.{Spot};
 
 /// Bits have at most one reading at a declaration.
 pub fn one_reading()
-    ensures { (d : Declaration) (bits : List ℕ) (refs : ℕ) (v w : Val) → Reading d bits refs v → Reading d bits refs w → v ≡ w }
+    ensures { (d : Declaration) (bits : List ℕ) (refs : ℕ) (v w : Plain) → Reading d bits refs v → Reading d bits refs w → v ≡ w }
 {}
 
 /// Reading stops at one place at most, for one cause.
@@ -21,12 +21,12 @@ pub fn one_stop()
 
 /// Bits that have a reading don't stop it.
 pub fn read_or_stuck()
-    ensures { (d : Declaration) (bits : List ℕ) (refs : ℕ) (v : Val) (s : Spot) (a : Cause) → Reading d bits refs v → Stuck d bits refs s a → ⊥ }
+    ensures { (d : Declaration) (bits : List ℕ) (refs : ℕ) (v : Plain) (s : Spot) (a : Cause) → Reading d bits refs v → Stuck d bits refs s a → ⊥ }
 {}
 
 /// Bits have a reading, or there is a place where it stops.
 pub fn reading_or_stop()
-    ensures { (d : Declaration) (bits : List ℕ) (refs : ℕ) → ((v : Val) × Reading d bits refs v) ⊎ ((s : Spot) × (a : Cause) × Stuck d bits refs s a) }
+    ensures { (d : Declaration) (bits : List ℕ) (refs : ℕ) → ((v : Plain) × Reading d bits refs v) ⊎ ((s : Spot) × (a : Cause) × Stuck d bits refs s a) }
 {}
 
 /// Lexemes are of one list of declarations at most.

@@ -1,9 +1,10 @@
 //! Reading a value of a flat record from bits.
 ghost use Rattle.std.specs.Prelude.{◌≡◌, ◌<◌, ◌≤◌, ◌++◌, ℕ, List, false, IfOk, IfErr, MatchOption, [], length};
 ghost use Rattle.bit_slice.specs.Bits.{number_of};
-ghost use Rattle.typed_value.specs.Val.{number};
-ghost use Rattle.typed_value.specs.View.{value, field_of, fields_of};
+ghost use Rattle.typed_value.specs.Values.{number};
+ghost use Rattle.typed_value.specs.View.{pair_of, value};
 ghost use Rattle.std.specs.Prelude.{map};
+ghost use Rattle.flat_records.specs.Fields.{fields_of};
 ghost use Rattle.flat_records.specs.Form.{AreShapedFields};
 ghost use Rattle.flat_records.specs.Spelling.{Reading, SpellsFields};
 ghost use Rattle.flat_records.specs.Stops.{IsStop, IsFieldStop};
@@ -96,7 +97,7 @@ fn read_fields<'a>(
     bits: BitSlice<'a>,
 ) -> Result<(Items<(Name, Value)>, BitSlice<'a>), ReadError>
     requires { AreShapedFields fields.now }
-    ensures read { IfOk result (λ r. SpellsFields fields.now bits.entry (fields_of (map field_of r.0)) r.1) }
+    ensures read { IfOk result (λ r. SpellsFields fields.now bits.entry (fields_of (map pair_of r.0)) r.1) }
     ensures stuck { IfErr result (IsFieldStop fields.now bits.entry) }
 {
     let mut values = Items::new(alloc);

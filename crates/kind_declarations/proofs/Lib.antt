@@ -1,2 +1,13 @@
+pub mod Verdicts
+pub mod JudgedParts
+pub mod FieldNodes
+pub mod NumberNodes
+pub mod OutputNodes
+pub mod RecordNodes
+pub mod ScopeViews
+pub mod VariableParts
+pub mod SumNodes
+pub mod TypeNodes
+pub mod ConstructorNodes
 pub mod Params
 pub mod RecordEnds

@@ -10,18 +10,18 @@ use Rattle.kind_terms.specs.Views.{constructors_by}
 use Rattle.tlb_syntax.specs.declared.tree.Constructor.{Constructor}
 use Rattle.tlb_syntax.specs.Tree.{SchemaView, an_expr}
 use Rattle.tlb_syntax.specs.View.{constructor, expr, exprs}
-use Rattle.kind_terms.specs.declared.kind.Kind.{Kind}
+use Rattle.kind_terms.specs.declared.kind.TermKind.{TermKind}
 use Rattle.kind_terms.specs.Params.{has_kind, inputs, kind_of, option_list, variable_of}
 use Rattle.kind_terms.specs.Types.{count, first_kinds}
 use Rattle.kind_terms.specs.Words.{Word}
-use Rattle.kind_rules.specs.declared.error.Cause.{Cause}
-use Rattle.kind_rules.specs.declared.error.Cause.TheVariants.{Reserved, TwiceNamed, Arity, KindMismatch, NotLinear}
-use Rattle.kind_rules.specs.Faults.{causes, fault_at, first, verdict}
-use Rattle.kind_rules.specs.Headings.{Heading, Param, differs_at, is_constructor_twice, is_input_twice, is_no_param, is_other_param, is_reserved, is_variable_among, lacks_params, same_name}
+use Rattle.kind_declarations.specs.declared.error.Cause.{Cause}
+use Rattle.kind_declarations.specs.declared.error.Cause.TheVariants.{Reserved, TwiceNamed, Arity, KindMismatch, NotLinear}
+use Rattle.kind_declarations.specs.Faults.{causes, fault_at, first, verdict}
+use Rattle.kind_declarations.specs.Headings.{Heading, Param, differs_at, is_constructor_twice, is_input_twice, is_no_param, is_other_param, is_reserved, is_variable_among, lacks_params, same_name}
 use Rattle.kind_declarations.specs.HeadingViews.{all_params, heading_by, param_cause}
-use Rattle.kind_rules.specs.Nodes.{Judged, a_heading, a_param, heading_nodes, joined, judged, param_nodes, params_end, result_path}
-use Rattle.kind_rules.proofs.JudgedParts.{node_passes, node_stops}
-use Rattle.kind_rules.proofs.Verdicts.{verdict_none}
+use Rattle.kind_declarations.specs.Nodes.{Judged, a_heading, a_param, heading_nodes, joined, judged, param_nodes, params_end, result_path}
+use Rattle.kind_declarations.proofs.JudgedParts.{node_passes, node_stops}
+use Rattle.kind_declarations.proofs.Verdicts.{verdict_none}
 
 -- ---- causes
 
@@ -95,7 +95,7 @@ inputs_of_joined (d ∷ es) e =
 
 -- ---- parameters
 
--- the parameters from a place on, and what is behind them
+-- the parameters from a place on, and what is after them
 abbrev pub params_from : Heading → List Expr → ℕ → List Judged
 params_from r ps i = param_nodes r (exprs (take i ps)) (exprs (drop i ps)) ++ judged result_path (params_end r) ∷ []
 
@@ -103,12 +103,12 @@ abbrev pub param_at : Heading → List Expr → ℕ → Expr → Param
 param_at r ps i p = record { of = r; before = exprs (take i ps); at = expr p }
 
 -- the parameter's cause, by what is known before it
-abbrev pub cause_by : Heading → Option (List Kind) → ℕ → List Word → Expr → Option Cause
+abbrev pub cause_by : Heading → Option (List TermKind) → ℕ → List Word → Expr → Option Cause
 cause_by r ks i seen p =
     param_cause (differs_at ks i (kind_of r.this.items (expr p))) (not (has_kind (kind_of r.this.items (expr p))))
     (is_variable_among (variable_of (expr p)) seen)
 
-param_cause_is : (r : Heading) (ps : List Expr) (i : ℕ) (p : Expr) (ks : Option (List Kind)) (seen : List Word) → i ≤ length ps
+param_cause_is : (r : Heading) (ps : List Expr) (i : ℕ) (p : Expr) (ks : Option (List TermKind)) (seen : List Word) → i ≤ length ps
     → ks ≡ first_kinds r.earlier → seen ≡ inputs (exprs (take i ps))
     → cause_by r ks i seen p ≡ first (causes (a_param (param_at r ps i p)))
 param_cause_is r ps i p ks seen h fixed known =
@@ -132,7 +132,7 @@ param_turn r ps i p h is =
     ∙ ap (λ x. judged result_path (a_param (param_at r ps i p)) ∷ (param_nodes r x (exprs (drop (i + 1) ps)) ++ judged result_path (params_end r) ∷ []))
     (joined_exprs (take i ps) p ∙ ap exprs (sym (so_far ps i p h is)))
 
-pub param_passes : (r : Heading) (ps : List Expr) (i : ℕ) (p : Expr) (ks : Option (List Kind)) (seen : List Word)
+pub param_passes : (r : Heading) (ps : List Expr) (i : ℕ) (p : Expr) (ks : Option (List TermKind)) (seen : List Word)
     → i < length ps → p ≡ get_or ps i p → ks ≡ first_kinds r.earlier → seen ≡ inputs (exprs (take i ps))
     → None ≡ cause_by r ks i seen p → verdict (params_from r ps i) ≡ verdict (params_from r ps (i + 1))
 param_passes r ps i p ks seen h is fixed known none =
@@ -140,7 +140,7 @@ param_passes r ps i p ks seen h is fixed known none =
     ∙ node_passes result_path (a_param (param_at r ps i p)) (params_from r ps (i + 1))
     (sym (param_cause_is r ps i p ks seen (omega arith) fixed known) ∙ sym none)
 
-pub param_stops : (r : Heading) (ps : List Expr) (i : ℕ) (p : Expr) (ks : Option (List Kind)) (seen : List Word) (c : Cause)
+pub param_stops : (r : Heading) (ps : List Expr) (i : ℕ) (p : Expr) (ks : Option (List TermKind)) (seen : List Word) (c : Cause)
     → i < length ps → p ≡ get_or ps i p → ks ≡ first_kinds r.earlier → seen ≡ inputs (exprs (take i ps))
     → Some c ≡ cause_by r ks i seen p → verdict (params_from r ps i) ≡ Some (fault_at result_path c)
 param_stops r ps i p ks seen c h is fixed known some =
@@ -152,7 +152,7 @@ pub more_inputs : (ps : List Expr) (i : ℕ) (p : Expr) → i < length ps → p 
     → inputs (exprs (take (i + 1) ps)) ≡ inputs (exprs (take i ps)) ++ option_list (variable_of (expr p))
 more_inputs ps i p h is = ap (λ x. inputs (exprs x)) (so_far ps i p h is) ∙ inputs_of_joined (take i ps) p
 
--- behind the last parameter
+-- after the last parameter
 
 at_end : (r : Heading) (ps : List Expr) (i : ℕ) → length ps ≤ i → params_from r ps i ≡ judged result_path (params_end r) ∷ []
 at_end r ps i h =

@@ -2,31 +2,28 @@
 use Rattle.std.proofs.Common.{◌≡◌, ◌∙◌, ap, sym, subst, refl, ℕ, zero, suc, ◌<◌, ◌≤◌, ◌+◌, length, get_or, drop, append_assoc, add-one, arith, rules, inl, inr, ◌⊎◌}
 use Rattle.std.specs.Prelude.{List, [], ◌∷◌, ◌++◌, map, not, Bool, true, false, Option, Some, None, if◌then◌else◌, MatchOption}
 use Rattle.std.proofs.lemmas.List.{append-nil, at_drop_all, at_drop_more, length_push, map-append, same_from_push}
-use Rattle.tlb_syntax.specs.declared.tree.Expr.{Expr, fold-roll-Expr, the_lemmas}
-use Rattle.tlb_syntax.specs.declared.tree.Expr.TheVariants.{Lit, Nat32, Sum, rolls-Sum}
-use Rattle.tlb_syntax.specs.declared.tree.Expr.TheOpen.{Sum as SumPart}
+use Rattle.tlb_syntax.specs.declared.tree.Expr.{Expr, the_lemmas}
+use Rattle.tlb_syntax.specs.declared.tree.Expr.TheVariants.{Lit, Nat32, Sum}
 use Rattle.tlb_syntax.specs.declared.tree.Item.{Item}
 use Rattle.tlb_syntax.specs.Limits.{AreExprs, AreItems, IsExpr, IsItem, item_count}
 use Rattle.tlb_syntax.specs.Tree.{ExprView, TypeView, ItemView, SchemaView, lit, nat32, plus, nested, sum_of, exprs_of}
 use Rattle.tlb_syntax.specs.View.{expr, exprs, expr_step, type_step, item_step, item, items}
 use Rattle.kind_terms.specs.declared.part.Part.{Part}
 use Rattle.kind_terms.specs.Words.{Word, is_among}
-use Rattle.kind_rules.specs.declared.error.Cause.{Cause}
-use Rattle.kind_rules.specs.declared.error.Cause.TheVariants.{Undetermined}
-use Rattle.kind_rules.specs.declared.shown.Shown.{Shown}
+use Rattle.kind_declarations.specs.declared.error.Cause.{Cause}
+use Rattle.kind_declarations.specs.declared.error.Cause.TheVariants.{Undetermined}
+use Rattle.kind_terms.specs.declared.shown.Shown.{Shown}
 use Rattle.kind_declarations.specs.EndingViews.{endings_at}
-use Rattle.kind_rules.specs.Faults.{fault_at, first, verdict}
+use Rattle.kind_declarations.specs.Faults.{fault_at, first, verdict}
 use Rattle.kind_rules.specs.Known.{Ending, is_never_known}
-use Rattle.kind_rules.specs.Nodes.{Place, an_ending, arg_endings, expr_endings, ending_at, item_endings, judged, next_place, path_at, record_endings}
-use Rattle.kind_rules.specs.Views.{part_by}
-use Rattle.kind_rules.proofs.JudgedParts.{node_passes, node_stops}
-use Rattle.kind_rules.proofs.Verdicts.{verdict_none}
+use Rattle.kind_terms.specs.ViewLaws.{seen_sum}
+use Rattle.kind_terms.specs.Positions.{ItemPosition, next_position, path_at}
+use Rattle.kind_declarations.specs.Nodes.{an_ending, arg_endings, expr_endings, ending_at, item_endings, judged, record_endings}
+use Rattle.kind_terms.specs.Views.{part_by}
+use Rattle.kind_declarations.proofs.JudgedParts.{node_passes, node_stops}
+use Rattle.kind_declarations.proofs.Verdicts.{verdict_none}
 
 -- ---- sums
-
-pub expr_of_sum : (ts : List Expr) → expr (Sum ts) ≡ sum_of (map expr ts)
-expr_of_sum ts =
-    ap expr (sym (rolls-Sum ts)) ∙ fold-roll-Expr ExprView TypeView ItemView expr_step type_step item_step (SumPart ts)
 
 endings_of_nested : (t : ExprView) (us : List ExprView) (types : SchemaView) (path : List Part)
     → expr_endings (nested t us) types path ≡ expr_endings t types path ++ arg_endings (exprs_of us) types path
@@ -35,26 +32,23 @@ endings_of_nested t (u ∷ us) types path =
     endings_of_nested (plus t u) us types path
     ∙ append_assoc (expr_endings t types path) (expr_endings u types path) (arg_endings (exprs_of us) types path)
 
-endings_of_sum : (ts : List ExprView) (types : SchemaView) (path : List Part)
-    → expr_endings (sum_of ts) types path ≡ arg_endings (exprs_of ts) types path
-endings_of_sum [] types path = refl
-endings_of_sum (t ∷ us) types path = endings_of_nested t us types path
-
-pub endings_of_terms : (e : Expr) (ts : List Expr) (types : SchemaView) (path : List Part) → e ≡ Sum ts
-    → expr_endings (expr e) types path ≡ arg_endings (exprs ts) types path
-endings_of_terms e ts types path is =
-    ap (λ x. expr_endings x types path) (ap expr is ∙ expr_of_sum ts) ∙ endings_of_sum (map expr ts) types path
+pub endings_of_sum : (e a b x y : Expr) (es us : List Expr) (types : SchemaView) (path : List Part)
+    → e ≡ Sum a b es → x ≡ a → y ≡ b → us ≡ es
+    → expr_endings (expr e) types path
+    ≡ expr_endings (expr x) types path ++ (expr_endings (expr y) types path ++ arg_endings (exprs us) types path)
+endings_of_sum e a b x y es us types path is left right rest =
+    let same : e ≡ Sum x y us = is ∙ ap (λ z. Sum z b es) (sym left) ∙ ap (λ z. Sum x z es) (sym right) ∙ ap (Sum x y) (sym rest) in
+    ap (λ v. expr_endings v types path) (seen_sum e x y us same)
+    ∙ endings_of_nested (plus (expr x) (expr y)) (map expr us) types path
+    ∙ append_assoc (expr_endings (expr x) types path) (expr_endings (expr y) types path) (arg_endings (exprs us) types path)
 
 sized_nested : (t : ExprView) (us : List ExprView) → IsExpr (nested t us) → IsExpr t × AreExprs (exprs_of us)
 sized_nested t [] h = (h, tt)
 sized_nested t (u ∷ us) h = let both = sized_nested (plus t u) us h in (both.0.0, (both.0.1, both.1))
 
-sized_sum : (ts : List ExprView) → IsExpr (sum_of ts) → AreExprs (exprs_of ts)
-sized_sum [] h = tt
-sized_sum (t ∷ us) h = sized_nested t us h
-
-pub sized_terms : (e : Expr) (ts : List Expr) → e ≡ Sum ts → IsExpr (expr e) → AreExprs (exprs ts)
-sized_terms e ts is h = sized_sum (map expr ts) (subst IsExpr (ap expr is ∙ expr_of_sum ts) h)
+pub sized_sum : (e a b : Expr) (es : List Expr) → e ≡ Sum a b es → IsExpr (expr e)
+    → (IsExpr (expr a) × IsExpr (expr b)) × AreExprs (exprs es)
+sized_sum e a b es is h = sized_nested (plus (expr a) (expr b)) (map expr es) (subst IsExpr (seen_sum e a b es is) h)
 
 -- ---- sizes
 
@@ -86,16 +80,16 @@ args_end es k types path h = at_drop_all (λ (x : List Expr). verdict (arg_endin
 
 -- ---- items one by one
 
-pub items_turn : (is : List Item) (k : ℕ) (i : Item) (types : SchemaView) (p : Place) (known : List Word) → k < length is → i ≡ get_or is k i
+pub items_turn : (is : List Item) (k : ℕ) (i : Item) (types : SchemaView) (p : ItemPosition) (known : List Word) → k < length is → i ≡ get_or is k i
     → record_endings (items (drop k is)) types p known
-    ≡ endings_at (item i) types p known ++ record_endings (items (drop (k + 1) is)) types (next_place p (item i)) known
+    ≡ endings_at (item i) types p known ++ record_endings (items (drop (k + 1) is)) types (next_position p (item i)) known
 items_turn is k i types p known within at =
     at_drop_more (λ (x : List Item). record_endings (items x) types p known) is k i within
     ∙ ap (λ x. record_endings (items (x ∷ drop (k + 1) is)) types p known) (sym at)
     ∙ sym (append_assoc (ending_at (path_at p (item i)) known (item i)) (item_endings (item i) types (path_at p (item i)))
-    (record_endings (items (drop (k + 1) is)) types (next_place p (item i)) known))
+    (record_endings (items (drop (k + 1) is)) types (next_position p (item i)) known))
 
-pub items_end : (is : List Item) (k : ℕ) (types : SchemaView) (p : Place) (known : List Word) → length is ≤ k
+pub items_end : (is : List Item) (k : ℕ) (types : SchemaView) (p : ItemPosition) (known : List Word) → length is ≤ k
     → verdict (record_endings (items (drop k is)) types p known) ≡ None
 items_end is k types p known h = at_drop_all (λ (x : List Item). verdict (record_endings (items x) types p known)) is k h ∙ verdict_none
 

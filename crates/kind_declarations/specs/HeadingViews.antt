@@ -6,12 +6,12 @@ use Rattle.tlb_syntax.specs.View.{constructor}
 use Rattle.tlb_syntax.specs.Tree.{no_exprs}
 use Rattle.kind_terms.specs.declared.types.Declared.{Declared}
 use Rattle.kind_terms.specs.Views.{constructors_by}
-use Rattle.kind_rules.specs.declared.error.Cause.{Cause}
-use Rattle.kind_rules.specs.declared.error.Cause.TheVariants.{Arity, KindMismatch, NotLinear}
-use Rattle.kind_rules.specs.Headings.{Heading}
-use Rattle.kind_rules.specs.Nodes.{Judged, judged, param_nodes, params_end, result_path}
+use Rattle.kind_declarations.specs.declared.error.Cause.{Cause}
+use Rattle.kind_declarations.specs.declared.error.Cause.TheVariants.{Arity, KindMismatch, NotLinear}
+use Rattle.kind_declarations.specs.Headings.{Heading}
+use Rattle.kind_declarations.specs.Nodes.{Judged, judged, param_nodes, params_end, result_path}
 
--- a declaration behind those of its type before it
+-- a declaration after those of its type before it
 abbrev pub heading_by : Option (Bor Declared) → Constructor → Heading
 heading_by earlier c = record { earlier = constructors_by earlier; this = constructor c }
 
@@ -20,6 +20,6 @@ abbrev pub param_cause : Bool → Bool → Bool → Option Cause
 param_cause other none twice =
     if other then Some Arity else if none then Some KindMismatch else if twice then Some NotLinear else None
 
--- the parameters of a declaration, and what is behind them
+-- the parameters of a declaration, and what is after them
 abbrev pub all_params : Heading → List Judged
 all_params r = param_nodes r no_exprs r.this.params ++ judged result_path (params_end r) ∷ []

@@ -3,14 +3,15 @@ ghost use Rattle.std.specs.Prelude.{◌≡◌, ◌≤◌, ◌<◌, ◌+◌, ◌+
 ghost use Rattle.tlb_syntax.specs.Limits.{AreExprs, AreItems, IsExpr, IsItem, IsType, item_count};
 ghost use Rattle.tlb_syntax.specs.View.{constructor as constructor_view, expr, exprs, field_type, item as item_view, items as items_view};
 ghost use Rattle.kind_terms.specs.Scopes.{made_known};
-ghost use Rattle.kind_declarations.specs.EndingViews.{endings_at, place_at};
-ghost use Rattle.kind_rules.specs.Faults.{Judges};
-ghost use Rattle.kind_rules.specs.Nodes.{arg_endings, ending_at, expr_endings, first_place, is_blank as is_blank_item, item_endings, record_endings, type_endings};
-ghost use Rattle.kind_rules.specs.Views.{part_by};
+ghost use Rattle.kind_declarations.specs.EndingViews.{endings_at, position_at};
+ghost use Rattle.kind_declarations.specs.Faults.{Judges};
+ghost use Rattle.kind_declarations.specs.Nodes.{arg_endings, ending_at, expr_endings, item_endings, record_endings, type_endings};
+ghost use Rattle.kind_terms.specs.Positions.{first_position, is_unnamed as is_unnamed_item};
+ghost use Rattle.kind_terms.specs.Views.{part_by};
 
+use crate::error::{Cause, Fault};
 use bit_slice::Name;
-use kind_rules::{Cause, Fault, Shown, is_blank, show_item};
-use kind_terms::{Types, add_known, is_among};
+use kind_terms::{Shown, Types, add_known, is_among, is_unnamed, show_item};
 use sqlite_items::Items;
 use std::alloc::{AllocError, Global};
 use tlb_syntax::{Expr, FieldType, Item};
@@ -30,12 +31,16 @@ fn known_at_end<'a>(
     Ok(known)
 }
 
-// The number of blank fields before the next item.
-fn blanks_behind(item: &Item, blanks: u32) -> u32
-    requires { blanks < 255 }
-    ensures { result ≡ (if is_blank_item (item_view item.now) then blanks + 1 else blanks) }
+// The number of unnamed fields before the next item.
+fn unnamed_after(item: &Item, unnamed: u32) -> u32
+    requires { unnamed < 255 }
+    ensures { result ≡ (if is_unnamed_item (item_view item.now) then unnamed + 1 else unnamed) }
 {
-    if is_blank(item) { blanks + 1 } else { blanks }
+    if is_unnamed(item) {
+        unnamed + 1
+    } else {
+        unnamed
+    }
 }
 
 /// The first implicit field of a record, and of the records in it, that is known neither from the start nor by an
@@ -48,9 +53,9 @@ pub fn judge_endings<'a>(
     inputs: Items<&'a Name>,
     path: &mut Items<Shown<'a>>,
 ) -> Result<(), Fault>
-    requires few { item_count (items_view items.now) ≤ 255 }
+    requires bounded { item_count (items_view items.now) ≤ 255 }
     requires sized { AreItems (items_view items.now) }
-    ensures judged { Judges (record_endings (items_view items.now) (map constructor_view types.now) (first_place (map part_by path.old)) (map (λ n. n.now) inputs.entry ++ made_known (map constructor_view types.now) (items_view items.now))) (map part_by path.new) result }
+    ensures judged { Judges (record_endings (items_view items.now) (map constructor_view types.now) (first_position (map part_by path.old)) (map (λ n. n.now) inputs.entry ++ made_known (map constructor_view types.now) (items_view items.now))) (map part_by path.new) result }
     ensures kept { OnOk result (path.new ≡ path.old) }
 {
     let known = known_at_end(types, items, inputs)?;
@@ -66,37 +71,37 @@ fn judge_items<'a>(
     known: &[&'a Name],
     path: &mut Items<Shown<'a>>,
 ) -> Result<(), Fault>
-    requires few { item_count (items_view items.now) ≤ 255 }
+    requires bounded { item_count (items_view items.now) ≤ 255 }
     requires sized { AreItems (items_view items.now) }
-    ensures judged { Judges (record_endings (items_view items.now) (map constructor_view types.now) (first_place (map part_by path.old)) (map (λ n. n.now) known.now)) (map part_by path.new) result }
+    ensures judged { Judges (record_endings (items_view items.now) (map constructor_view types.now) (first_position (map part_by path.old)) (map (λ n. n.now) known.now)) (map part_by path.new) result }
     ensures kept { OnOk result (path.new ≡ path.old) }
 {
     let mut place: u32 = 1;
-    let mut blanks: u32 = 0;
+    let mut unnamed: u32 = 0;
     for item in items {
-        judge_item(alloc, types, item, place, blanks, known, path)?;
+        judge_item(alloc, types, item, place, unnamed, known, path)?;
         place += 1;
-        blanks = blanks_behind(item, blanks);
+        unnamed = unnamed_after(item, unnamed);
     }
     Ok(())
 }
 
-// An item at this place of its record, behind so many blank fields.
+// An item at this place of its record, after so many unnamed fields.
 #[cycle(ending)]
 fn judge_item<'a>(
     alloc: Global,
     types: &Types<'a>,
     item: &'a Item,
     place: u32,
-    blanks: u32,
+    unnamed: u32,
     known: &[&'a Name],
     path: &mut Items<Shown<'a>>,
 ) -> Result<(), Fault>
     requires { IsItem (item_view item.now) }
-    ensures judged { Judges (endings_at (item_view item.now) (map constructor_view types.now) (place_at (map part_by path.old) place blanks) (map (λ n. n.now) known.now)) (map part_by path.new) result }
+    ensures judged { Judges (endings_at (item_view item.now) (map constructor_view types.now) (position_at (map part_by path.old) place unnamed) (map (λ n. n.now) known.now)) (map part_by path.new) result }
     ensures kept { OnOk result (path.new ≡ path.old) }
 {
-    path.push(show_item(item, place, blanks))?;
+    path.push(show_item(item, place, unnamed))?;
     judge_ending(alloc, types, item, known, path)?;
     path.pop();
     Ok(())
@@ -169,7 +174,11 @@ fn endings_in<'a>(
         Expr::Lit(_) | Expr::Nat32 => Ok(()),
         Expr::Named(_, args) | Expr::Bits(args) | Expr::Below(args) | Expr::UpTo(args) =>
             endings_in_all(alloc, types, args.as_slice(), path),
-        Expr::Sum(terms) => endings_in_all(alloc, types, terms.as_slice(), path),
+        Expr::Sum(first, second, more) => {
+            endings_in(alloc, types, first.get(), path)?;
+            endings_in(alloc, types, second.get(), path)?;
+            endings_in_all(alloc, types, more.as_slice(), path)
+        }
         Expr::Star(left, right) => {
             endings_in(alloc, types, left.get(), path)?;
             endings_in(alloc, types, right.get(), path)

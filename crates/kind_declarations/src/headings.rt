@@ -7,15 +7,16 @@ ghost use Rattle.kind_terms.specs.Params.{has_kind, variable_of as variable_in};
 ghost use Rattle.kind_terms.specs.Types.{count, first_kinds};
 ghost use Rattle.kind_terms.specs.Views.{constructors_by, kinds_by};
 ghost use Rattle.kind_terms.specs.Words.{x_alone};
-ghost use Rattle.kind_rules.specs.Faults.{Judges};
-ghost use Rattle.kind_rules.specs.Headings.{differs_at, is_constructor_twice, is_fewer, is_reserved as is_reserved_in, is_variable_among, is_word, same_name};
-ghost use Rattle.kind_rules.specs.Nodes.{heading_nodes, result_path};
+ghost use Rattle.kind_declarations.specs.Faults.{Judges};
+ghost use Rattle.kind_declarations.specs.Headings.{differs_at, is_constructor_twice, is_fewer, is_reserved as is_reserved_in, is_variable_among, is_word, same_name};
+ghost use Rattle.kind_declarations.specs.Nodes.{heading_nodes, result_path};
 ghost use Rattle.kind_declarations.specs.HeadingViews.{all_params, heading_by, param_cause};
 
+use crate::error::{Cause, Fault};
 use bit_slice::Name;
-use kind_rules::{Cause, Fault, add_variable};
 use kind_terms::{
-    Declared, Kind, Types, is_among, is_built_in, is_dictionary, kind_of, variable_of,
+    Declared, TermKind, Types, add_variable, is_among, is_built_in, is_dictionary, kind_of,
+    variable_of,
 };
 use sqlite_items::Items;
 use std::alloc::Global;
@@ -57,7 +58,7 @@ fn line_of(type_name: &[u8], before: usize) -> Option<&'static [u8]>
     }
 }
 
-// Whether the declaration of a dictionary's type, behind so many others, is the line of its number.
+// Whether the declaration of a dictionary's type, after so many others, is the line of its number.
 fn is_allowed(alloc: Global, constructor: &Constructor, before: usize) -> Result<bool, NoMemory>
     ensures { IfOk result (λ allowed. allowed ≡ is_line (slice_get (lines_of constructor.now.result) before) (constructor_view constructor.now)) }
 {
@@ -97,7 +98,7 @@ fn count_of(earlier: Option<&Declared<'_>>) -> usize
     }
 }
 
-// Whether a name of the declaration is reserved, behind the earlier ones of its type.
+// Whether a name of the declaration is reserved, after the earlier ones of its type.
 #[tactic(auto, unfolding(kind_terms::specs::Dictionaries::is_allowed))]
 fn is_reserved(
     alloc: Global,
@@ -141,14 +142,14 @@ fn is_twice(constructor: &Constructor, earlier: Option<&Declared<'_>>) -> bool
 }
 
 // Whether the type, where an earlier declaration fixes its parameters, has another one at this place.
-fn is_other_param(fixed: Option<&[Kind]>, at: usize, kind: Kind) -> bool
+fn is_other_param(fixed: Option<&[TermKind]>, at: usize, kind: TermKind) -> bool
     ensures { result ≡ differs_at (option_map (λ kinds. kinds.now) fixed.entry) at kind }
 {
     match fixed {
         None => false,
         Some(kinds) => match kinds.get(at) {
             None => true,
-            Some(first) => kind != Kind::NoKind && !first.is_same(kind),
+            Some(first) => kind != TermKind::NoKind && !first.is_same(kind),
         },
     }
 }
@@ -162,12 +163,12 @@ fn is_input_among(inputs: &[&Name], param: &Expr) -> bool
     }
 }
 
-fn cause_at(fixed: Option<&[Kind]>, at: usize, kind: Kind, is_twice: bool) -> Option<Cause>
+fn cause_at(fixed: Option<&[TermKind]>, at: usize, kind: TermKind, is_twice: bool) -> Option<Cause>
     ensures { result ≡ param_cause (differs_at (option_map (λ kinds. kinds.now) fixed.entry) at kind) (not (has_kind kind)) is_twice }
 {
     if is_other_param(fixed, at, kind) {
         Some(Cause::Arity)
-    } else if kind == Kind::NoKind {
+    } else if kind == TermKind::NoKind {
         Some(Cause::KindMismatch)
     } else if is_twice {
         Some(Cause::NotLinear)
@@ -177,7 +178,7 @@ fn cause_at(fixed: Option<&[Kind]>, at: usize, kind: Kind, is_twice: bool) -> Op
 }
 
 // The kinds that the first declaration of the type fixes.
-fn fixed_by<'t>(earlier: Option<&'t Declared<'_>>) -> Option<&'t [Kind]>
+fn fixed_by<'t>(earlier: Option<&'t Declared<'_>>) -> Option<&'t [TermKind]>
     ensures { option_map (λ kinds. kinds.now) result ≡ kinds_by earlier.entry }
 {
     match earlier {
@@ -187,7 +188,7 @@ fn fixed_by<'t>(earlier: Option<&'t Declared<'_>>) -> Option<&'t [Kind]>
 }
 
 #[tactic(auto, using(crate::proofs::Params::count_of_exprs))]
-fn lacks_params(constructor: &Constructor, fixed: Option<&[Kind]>) -> bool
+fn lacks_params(constructor: &Constructor, fixed: Option<&[TermKind]>) -> bool
     ensures { result ≡ is_fewer (option_map (λ kinds. kinds.now) fixed.entry) (count (constructor_view constructor.now).params) }
 {
     match fixed {
@@ -220,7 +221,7 @@ fn judge_params(
     Ok(())
 }
 
-/// The first cause in the heading of a declaration, behind those that `types` were made of.
+/// The first cause in the heading of a declaration, after those that `types` were made of.
 pub fn judge_heading(
     alloc: Global,
     types: &Types<'_>,

@@ -1,15 +1,3 @@
-pub mod ConstructorNodes
-pub mod FieldNodes
-pub mod Forms
-pub mod Holding
-pub mod JudgedParts
 pub mod NamesInside
-pub mod NumberNodes
-pub mod OutputNodes
-pub mod RecordNodes
-pub mod Seen
 pub mod SumForms
-pub mod SumNodes
 pub mod Totals
-pub mod TypeNodes
-pub mod Verdicts

@@ -6,21 +6,19 @@ use Rattle.tlb_syntax.specs.declared.tree.Expr.{Expr}
 use Rattle.tlb_syntax.specs.declared.tree.Expr.TheVariants.{Sum, Bits, Below, UpTo}
 use Rattle.tlb_syntax.specs.View.{expr, exprs}
 use Rattle.tlb_syntax.specs.Tree.{ExprView, plus, nested}
-use Rattle.kind_rules.specs.Dues.{operand}
+use Rattle.kind_rules.specs.ExpectedKinds.{operand}
 use Rattle.kind_rules.specs.Numbers.{is_other_basic}
-use Rattle.kind_rules.proofs.Forms.{seen_sum, seen_bits, seen_below, seen_up_to}
+use Rattle.kind_terms.specs.ViewLaws.{seen_sum, seen_bits, seen_below, seen_up_to}
 
 -- a sum is no `~x`
 operand_of_nested : (t u : ExprView) (us : List ExprView) → operand (nested (plus t u) us) ≡ nested (plus t u) us
 operand_of_nested t u [] = refl
 operand_of_nested t u (v ∷ vs) = operand_of_nested (plus t u) v vs
 
-pub operand_of_sum : (e : Expr) (ts us : List Expr) → e ≡ Sum ts → us ≡ ts → 1 < length us → expr e ≡ operand (expr e)
-operand_of_sum e ts [] is same n = absurd (omega arith)
-operand_of_sum e ts (t ∷ []) is same n = absurd (omega arith)
-operand_of_sum e ts (t ∷ u ∷ us) is same n =
-    let seen = seen_sum e (t ∷ u ∷ us) (is ∙ ap Sum (sym same)) in
-    seen ∙ sym (operand_of_nested (expr t) (expr u) (map expr us)) ∙ ap operand (sym seen)
+pub operand_of_sum : (e a b : Expr) (es : List Expr) → e ≡ Sum a b es → expr e ≡ operand (expr e)
+operand_of_sum e a b es is =
+    let seen = seen_sum e a b es is in
+    seen ∙ sym (operand_of_nested (expr a) (expr b) (map expr es)) ∙ ap operand (sym seen)
 
 pub other_basic_of_numbers : (n : Option TypeNamed) (e : Expr) (es : List Expr)
     → (e ≡ Bits es) ⊎ ((e ≡ Below es) ⊎ (e ≡ UpTo es))

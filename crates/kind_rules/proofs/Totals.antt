@@ -61,3 +61,16 @@ total_step n m o p q es i e b h g lt is gone above value total =
     ∙ sym (ap (λ x. x || is_past_total n (exact_sum o (closed (expr e))) us) above)
     ∙ sym (ap (is_past_total n o) front)
     ∙ gone
+
+-- a total that begins with two terms
+pub sum_past : (n m : ℕ) (o p l r s : Option ℕ) (us : List ExprView) (b : Bool) → n < m → greatest < m
+    → l ≡ option_map (min m) o → r ≡ option_map (min m) p → s ≡ option_map (min m) (exact_sum l r)
+    → b ≡ is_past_total n s us → b ≡ is_past_total n (exact_sum o p) us
+sum_past n m o p l r s us b h g left right two past =
+    past
+    ∙ ap (λ x. is_past_total n x us)
+    (two ∙ ap (λ z. option_map (min m) (exact_sum z r)) left ∙ ap (λ z. option_map (min m) (exact_sum (option_map (min m) o) z)) right)
+    ∙ past_cap_sum n m (option_map (min m) o) p us h g
+    ∙ sym (past_cap n m (exact_sum (option_map (min m) o) p) us h g)
+    ∙ ap (λ x. is_past_total n x us) (cap_sum m o p)
+    ∙ past_cap n m (exact_sum o p) us h g

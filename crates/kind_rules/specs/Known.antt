@@ -5,19 +5,19 @@ use Rattle.kind_terms.specs.Words.{Word, is_among}
 use Rattle.kind_terms.specs.Params.{bare_name}
 use Rattle.kind_terms.specs.Forms.{is_out, out_name}
 use Rattle.kind_terms.specs.Scopes.{Scope, is_number_variable, is_type_variable, is_own_unknown, is_known}
-use Rattle.kind_rules.specs.Dues.{Due, Use, a_number, an_output, a_type, is_type_due}
+use Rattle.kind_rules.specs.ExpectedKinds.{Expected, Use, a_number, an_output, a_type, is_type_expected}
 
 -- ---- uses
 
--- a number variable where a number is due, or a type variable where a type is due
-abbrev pub is_variable_due : Due → Scope → Word → Bool
-is_variable_due (a_number n q) s x = is_number_variable s x
-is_variable_due (a_type w) s x = is_type_variable s x
-is_variable_due (an_output before) s x = false
+-- a number variable where a number is expected, or a type variable where a type is expected
+abbrev pub is_expected_variable : Expected → Scope → Word → Bool
+is_expected_variable (a_number n q) s x = is_number_variable s x
+is_expected_variable (a_type w) s x = is_type_variable s x
+is_expected_variable (an_output before) s x = false
 
 abbrev pub is_unknown_variable : Use → Option Word → Bool
 is_unknown_variable u None = false
-is_unknown_variable u (Some x) = is_variable_due u.due u.scope x && not (is_known u.scope x)
+is_unknown_variable u (Some x) = is_expected_variable u.expected u.scope x && not (is_known u.scope x)
 
 -- A variable is used that is not known.
 abbrev pub is_used_unknown : Use → Bool
@@ -40,27 +40,27 @@ seeks None y = false
 seeks (Some x) None = false
 seeks (Some x) (Some y) = bytes_eq x y
 
-abbrev pub is_other_out_at : Due → ExprView → Bool
+abbrev pub is_other_out_at : Expected → ExprView → Bool
 is_other_out_at (a_number n x) e = is_out e && not (seeks x (out_name e))
 is_other_out_at (an_output before) e = false
 is_other_out_at (a_type w) e = false
 
--- A `~` stands where a number is due, and seeks nothing.
+-- A `~` stands where a number is expected, and seeks nothing.
 abbrev pub is_other_out : Use → Bool
-is_other_out u = is_other_out_at u.due u.at
+is_other_out u = is_other_out_at u.expected u.at
 
 -- ---- what is known twice
 
 -- the variables that a type has made known before this one of its arguments
-abbrev pub given_before : Due → List Word
+abbrev pub given_before : Expected → List Word
 given_before (an_output before) = before
 given_before (a_number n q) = []
 given_before (a_type w) = []
 
-abbrev pub is_no_unknown : Due → Scope → Option Word → Bool
+abbrev pub is_no_unknown : Expected → Scope → Option Word → Bool
 is_no_unknown d s None = false
 is_no_unknown d s (Some x) = is_number_variable s x && (not (is_own_unknown s x) || is_among (given_before d) x)
 
 -- The x of `~x` is a number variable, and no implicit number of the same record that was not known.
 abbrev pub is_known_twice : Use → Bool
-is_known_twice u = not (is_type_due u.due) && is_no_unknown u.due u.scope (out_name u.at)
+is_known_twice u = not (is_type_expected u.expected) && is_no_unknown u.expected u.scope (out_name u.at)

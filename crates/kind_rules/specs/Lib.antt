@@ -1,5 +1,4 @@
-pub mod Dues
-pub mod Headings
+pub mod ExpectedKinds
 pub mod Names
 pub mod Numbers
 pub mod Widths
@@ -7,8 +6,6 @@ pub mod Known
 pub mod Outputs
 pub mod Records
 pub mod Uses
-pub mod Nodes
-pub mod Faults
-pub mod Parts
 pub mod Sums
+pub mod FieldNames
 pub mod Views

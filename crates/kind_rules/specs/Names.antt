@@ -4,7 +4,7 @@ use Rattle.kind_terms.specs.Words.{Word, is_among}
 use Rattle.kind_terms.specs.Types.{TypeNamed, no_type, basic, declared, is_no_type, count}
 use Rattle.kind_terms.specs.declared.scope.Meaning.{Meaning}
 use Rattle.kind_terms.specs.declared.scope.Meaning.TheVariants.{ImplicitNumber, FieldNumber, TypeVariable, OtherField}
-use Rattle.kind_rules.specs.Dues.{Due, Use, used_at, type_at, meaning_at, arguments, is_type_due}
+use Rattle.kind_rules.specs.ExpectedKinds.{Expected, Use, used_at, type_at, meaning_at, arguments, is_type_expected}
 
 -- A field, and the fields before it in the text from which its name is to differ: those of its record, of the records
 -- around it and of the records in it.
@@ -24,17 +24,17 @@ names_none (Some t) = is_no_type t
 abbrev pub args_at : Use → ℕ
 args_at u = count (arguments (used_at u))
 
--- a name that is to be a type: with so many arguments, if not none, or where a type is due
-abbrev pub is_for_type : Due → ℕ → Bool
-is_for_type d n = is_type_due d || nat_lt 0 n
+-- a name that is to be a type: with so many arguments, if not none, or where a type is expected
+abbrev pub is_for_type : Expected → ℕ → Bool
+is_for_type d n = is_type_expected d || nat_lt 0 n
 
--- A name with arguments is no type, or one without them where a type is due.
+-- A name with arguments is no type, or one without them where a type is expected.
 abbrev pub is_unknown_type : Use → Bool
-is_unknown_type u = names_none (type_at u) && is_for_type u.due (args_at u)
+is_unknown_type u = names_none (type_at u) && is_for_type u.expected (args_at u)
 
--- A name without arguments where a number is due is neither in scope nor a type.
+-- A name without arguments where a number is expected is neither in scope nor a type.
 abbrev pub is_unknown_name : Use → Bool
-is_unknown_name u = names_none (type_at u) && not (is_for_type u.due (args_at u))
+is_unknown_name u = names_none (type_at u) && not (is_for_type u.expected (args_at u))
 
 abbrev pub takes_others : Option TypeNamed → ℕ → Bool
 takes_others None n = false

@@ -6,7 +6,7 @@ use Rattle.kind_terms.specs.Params.{bare_name}
 use Rattle.kind_terms.specs.Types.{TypeNamed, no_type, basic, declared, count}
 use Rattle.kind_terms.specs.Forms.{parts}
 use Rattle.kind_terms.specs.Scopes.{Scope, is_number_meaning, is_type_meaning}
-use Rattle.kind_rules.specs.Dues.{Due, Use, a_number, an_output, a_type, used_at, type_at, meaning_at, meaning_by, is_type_due}
+use Rattle.kind_rules.specs.ExpectedKinds.{Expected, Use, a_number, an_output, a_type, used_at, type_at, meaning_at, meaning_by, is_type_expected}
 
 -- a number variable in scope
 abbrev pub is_variable_in : Scope → ExprView → Bool
@@ -29,14 +29,14 @@ is_product s (out e) = false
 is_product s (ref e) = false
 is_product s (group is) = false
 
-abbrev pub is_product_at : Due → Scope → ExprView → Bool
+abbrev pub is_product_at : Expected → Scope → ExprView → Bool
 is_product_at (a_number n q) s e = is_product s e
 is_product_at (an_output before) s e = false
 is_product_at (a_type w) s e = false
 
 -- A number is a product of two factors that both hold variables.
 abbrev pub is_product_of_variables : Use → Bool
-is_product_of_variables u = is_product_at u.due u.scope u.at
+is_product_of_variables u = is_product_at u.expected u.scope u.at
 
 abbrev pub is_some_type : Option TypeNamed → Bool
 is_some_type None = false
@@ -72,14 +72,14 @@ is_number_shaped (star a b) = false
 is_number_shaped (ref e) = false
 is_number_shaped (group is) = false
 
--- A type stands where a number is due: one by its form, a name that is a type, or a variable of types.
+-- A type stands where a number is expected: one by its form, a name that is a type, or a variable of types.
 abbrev pub is_type_for_number : Use → Bool
 is_type_for_number u =
-    not (is_type_due u.due) && (is_type_shaped u.at || is_some_type (type_at u) || is_type_meaning (meaning_at u))
+    not (is_type_expected u.expected) && (is_type_shaped u.at || is_some_type (type_at u) || is_type_meaning (meaning_at u))
 
--- A number stands where a type is due: one by its form, or a variable of numbers.
+-- A number stands where a type is expected: one by its form, or a variable of numbers.
 abbrev pub is_number_for_type : Use → Bool
-is_number_for_type u = is_type_due u.due && (is_number_shaped u.at || is_number_meaning (meaning_at u))
+is_number_for_type u = is_type_expected u.expected && (is_number_shaped u.at || is_number_meaning (meaning_at u))
 
 abbrev pub takes_other_basic : Option TypeNamed → ℕ → Bool
 takes_other_basic None n = false

@@ -10,8 +10,6 @@ abbrev pub is_past_total : ℕ → Option ℕ → List ExprView → Bool
 is_past_total most total [] = exceeds most total
 is_past_total most total (u ∷ us) = exceeds greatest total || is_past_total most (exact_sum total (closed u)) us
 
--- the sum of two or more terms exceeds `most`, or the sum of the first of them, two or more, the greatest number
-abbrev pub is_sum_past : ℕ → List ExprView → Bool
-is_sum_past most [] = false
-is_sum_past most (t ∷ []) = false
-is_sum_past most (t ∷ u ∷ us) = is_past_total most (exact_sum (closed t) (closed u)) us
+-- the sum of these terms exceeds `most`, or the sum of the first of them, two or more, the greatest number
+abbrev pub is_sum_past : ℕ → ExprView → ExprView → List ExprView → Bool
+is_sum_past most t u us = is_past_total most (exact_sum (closed t) (closed u)) us

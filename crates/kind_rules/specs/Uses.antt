@@ -4,19 +4,19 @@ use Rattle.tlb_syntax.specs.Tree.{ExprView}
 use Rattle.kind_terms.specs.declared.scope.Meaning.{Meaning}
 use Rattle.kind_terms.specs.Types.{TypeNamed}
 use Rattle.kind_terms.specs.Scopes.{is_number_meaning, is_type_meaning}
-use Rattle.kind_rules.specs.Dues.{Due, is_type_due}
+use Rattle.kind_rules.specs.ExpectedKinds.{Expected, is_type_expected}
 use Rattle.kind_rules.specs.Names.{is_no_variable}
 use Rattle.kind_rules.specs.Numbers.{is_type_shaped, is_number_shaped, is_some_type, is_other_basic}
-use Rattle.kind_rules.specs.Outputs.{stands, is_conditional_or_part, gives_outputs, is_no_output_at}
+use Rattle.kind_rules.specs.Outputs.{is_at_position, is_conditional_or_part, gives_outputs, is_no_output_at}
 use Rattle.kind_rules.specs.Records.{is_group, takes_no_record}
 
--- `is_mismatch` at an expression e where this is due; its name is that of v, which is this type and has this meaning
-abbrev pub mismatches : Due → Option TypeNamed → Option Meaning → ExprView → ExprView → Bool
+-- `is_mismatch` at an expression e where this is expected; its name is that of v, which is this type and has this meaning
+abbrev pub mismatches : Expected → Option TypeNamed → Option Meaning → ExprView → ExprView → Bool
 mismatches d t m e v =
     is_no_variable m
-    || (not (is_type_due d) && (is_type_shaped e || is_some_type t || is_type_meaning m))
-    || (is_type_due d && (is_number_shaped e || is_number_meaning m))
+    || (not (is_type_expected d) && (is_type_shaped e || is_some_type t || is_type_meaning m))
+    || (is_type_expected d && (is_number_shaped e || is_number_meaning m))
     || is_other_basic t v
-    || (stands is_conditional_or_part d && gives_outputs t)
+    || (is_at_position is_conditional_or_part d && gives_outputs t)
     || is_no_output_at d e
-    || (is_group e && stands takes_no_record d)
+    || (is_group e && is_at_position takes_no_record d)

@@ -1,93 +1,15 @@
 -- What the program's values stand for.
-use Rattle.std.specs.Prelude.{◌≡◌, ℕ, ◌+◌, List, [], ◌∷◌, ◌++◌, length, map, option_map, take, drop, Option}
-use Rattle.std.specs.Borrow.{Bor}
-use Rattle.kind_terms.specs.declared.part.Part.{Part}
-use Rattle.kind_terms.specs.declared.part.Part.TheVariants as places
-use Rattle.kind_rules.specs.declared.due.Due.{Due as ProgramDue}
-use Rattle.kind_rules.specs.declared.due.Wanted.{Wanted}
-use Rattle.kind_rules.specs.declared.due.Wanted.TheVariants.{Number, Output, TypeAt}
+use Rattle.std.specs.Prelude.{List, map, option_map, Option}
+use Rattle.kind_rules.specs.declared.expected.Expected.{Expected as ProgramExpected}
+use Rattle.kind_rules.specs.declared.expected.ExpectedKind.{ExpectedKind}
+use Rattle.kind_rules.specs.declared.expected.ExpectedKind.TheVariants.{Number, Output, TypeAt}
 use Rattle.kind_terms.specs.Words.{Word}
-use Rattle.kind_rules.specs.declared.shown.Shown.{Shown}
-use Rattle.kind_rules.specs.declared.shown.Shown.TheVariants as parts
-use Rattle.kind_rules.specs.Dues.{Due, Use, a_number, an_output, a_type}
-use Rattle.kind_rules.specs.Nodes.{blank_name, first_place, output_nodes, record_nodes, At, Here, Judged}
-use Rattle.tlb_syntax.specs.Tree.{ConstructorView, ExprView, ItemView, SchemaView}
-use Rattle.tlb_syntax.specs.View.{constructor}
-use Rattle.kind_terms.specs.Scopes.{Scope, at_end, field_names}
-use Rattle.kind_terms.specs.Views.{entry_of}
-use Rattle.kind_terms.specs.declared.scope.Entry.{Entry as ProgramEntry}
-use Rattle.kind_rules.specs.declared.row.Row.{Row}
-use Rattle.kind_rules.specs.declared.scope.Scope.{Scope as State}
+use Rattle.kind_rules.specs.ExpectedKinds.{Expected, a_number, an_output, a_type}
 
-abbrev pub part_by : Shown → Part
-part_by (parts.Named x) = places.Named x.now
-part_by (parts.Blank b) = places.Named (blank_name (b + 1))
-part_by (parts.Check k) = places.Check k
-part_by parts.Result = places.Result
+abbrev pub expected_of : ExpectedKind → Option Word → List Word → Expected
+expected_of (Number most) x before = a_number most x
+expected_of Output x before = an_output before
+expected_of (TypeAt s) x before = a_type s
 
-abbrev pub due_of : Wanted → Option Word → List Word → Due
-due_of (Number most) x before = a_number most x
-due_of Output x before = an_output before
-due_of (TypeAt s) x before = a_type s
-
-abbrev pub due_by : ProgramDue → Due
-due_by d = due_of d.wanted (option_map (λ x. x.now) d.sought) (map (λ x. x.now) d.before.now)
-
--- What is seen with these entries, of which so many are of the records around.
-unfoldable pub scope_of : SchemaView → List ProgramEntry → ℕ → List Word → Scope
-scope_of types entries around known = record {
-  types = types;
-  around = map entry_of (take around entries);
-  own = map entry_of (drop around entries);
-  known = known;
-}
-
-abbrev pub words : List (Bor Word) → List Word
-words xs = map (λ x. x.now) xs
-
-abbrev pub scope_by : State → Scope
-scope_by s = scope_of (map constructor s.types.now) s.entries s.around (words s.known)
-
-abbrev pub path_by : State → List Part
-path_by s = map part_by s.path
-
-abbrev pub at_by : State → At
-at_by s = record { path = path_by s; scope = scope_by s; fields = words s.fields }
-
-abbrev pub use_by : State → Due → ExprView → Use
-use_by s d e = record { scope = scope_by s; due = d; at = e }
-
--- at the first item of a record
-abbrev pub first_by : State → Here
-first_by s = record { place = first_place (path_by s); scope = scope_by s; fields = words s.fields; inner = [] }
-
--- at an item
-abbrev pub here_by : State → Row → Here
-here_by s r = record {
-  place = record { path = path_by s; number = r.place; blanks = r.blanks };
-  scope = scope_by s;
-  fields = words s.fields;
-  inner = words r.inside;
-}
-
--- A later state of the same record: what the earlier one has, and more.
-pub record Follows (s t : State) : Type 0 where
-  pub same : t ≡ record s { entries = t.entries; known = t.known; fields = t.fields }
-  pub entries : take (length s.entries) t.entries ≡ s.entries
-  pub known : take (length s.known) t.known ≡ s.known
-  pub fields : take (length s.fields) t.fields ≡ s.fields
-
--- behind the name of an item
-pub record HasNamed (s t : State) (i : ItemView) : Type 0 where
-  pub same : t ≡ record s { fields = t.fields }
-  pub names : words t.fields ≡ words s.fields ++ field_names i
-  pub fields : take (length s.fields) t.fields ≡ s.fields
-
-abbrev pub behind_name : State → ItemView → At
-behind_name s i = record { path = path_by s; scope = scope_by s; fields = words s.fields ++ field_names i }
-
--- the items of a constructor, and its outputs
-abbrev pub all_by : State → ConstructorView → List Judged
-all_by s c =
-    record_nodes c.items (first_by s)
-    ++ output_nodes c.params (record { path = path_by s ++ places.Result ∷ []; scope = at_end (scope_by s) c.items; fields = [] })
+abbrev pub expected_by : ProgramExpected → Expected
+expected_by d = expected_of d.kind (option_map (λ x. x.now) d.sought) (map (λ x. x.now) d.before.now)

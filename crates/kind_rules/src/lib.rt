@@ -1,21 +1,16 @@
-//! The rules on the kinds of a schema's names, numbers and types, at the items and outputs of one constructor.
+//! The rules on kinds at one expression, each as a test: what is expected where it stands, and what it is there.
 #![tactic(auto)]
 
-mod constructors;
-mod due;
-mod error;
-mod first;
-mod judge;
+mod expected;
 mod names;
-mod numbers;
-mod row;
 mod rules;
-mod scope;
-mod shown;
 mod sums;
-mod variables;
 
-pub use constructors::judge_record;
-pub use error::{Cause, Fault};
-pub use shown::{Shown, is_blank, show_item};
-pub use variables::{add_variable, inputs};
+pub use expected::{Expected, ExpectedKind, TypePosition};
+pub use names::add_names_inside;
+pub use rules::{
+    Named, arg_count, is_given, is_mismatch, is_number, is_other_out, is_output_under_ref,
+    is_too_wide, is_type_expected, is_type_variable, is_unknown_name, is_unknown_type,
+    takes_others, used,
+};
+pub use sums::is_sum_beyond;

@@ -2,7 +2,7 @@
 ghost use Rattle.std.specs.Prelude.{◌≡◌, ◌++◌, map, OnOk};
 ghost use Rattle.tlb_syntax.specs.View.{expr, exprs, field_type, item as item_view, items};
 ghost use Rattle.kind_terms.specs.Scopes.{field_names};
-ghost use Rattle.kind_rules.specs.Nodes.{names_in, names_in_all, names_in_type, names_inside, names_of};
+ghost use Rattle.kind_rules.specs.FieldNames.{names_in, names_in_all, names_in_type, names_inside, names_of};
 
 use bit_slice::Name;
 use kind_terms::field_name;
@@ -31,7 +31,11 @@ fn add_names_in<'a>(e: &'a Expr, names: &mut Items<&'a Name>) -> Result<(), Allo
             args.as_slice(),
             names,
         ),
-        Expr::Sum(terms) => add_names_in_all(terms.as_slice(), names),
+        Expr::Sum(first, second, more) => {
+            add_names_in(first.get(), names)?;
+            add_names_in(second.get(), names)?;
+            add_names_in_all(more.as_slice(), names)
+        }
         Expr::Star(left, right) => {
             add_names_in(left.get(), names)?;
             add_names_in(right.get(), names)

@@ -5,18 +5,18 @@ ghost use Rattle.kind_terms.specs.Params.{bare_name as bare_name_of};
 ghost use Rattle.kind_terms.specs.Scopes.{is_number_meaning, is_type_meaning};
 ghost use Rattle.kind_terms.specs.Types.{count};
 ghost use Rattle.kind_terms.specs.Views.{named_by};
-ghost use Rattle.kind_rules.specs.Dues.{arguments, is_type_due as is_type_due_by, operand as operand_of, used as used_by};
+ghost use Rattle.kind_rules.specs.ExpectedKinds.{arguments, is_type_expected as is_type_expected_by, operand as operand_of, used as used_by};
 ghost use Rattle.kind_rules.specs.Names.{is_for_type as is_for_a_type, is_no_variable as is_other_meaning, names_none as names_no_type, takes_others as takes_other_count};
 ghost use Rattle.kind_rules.specs.Numbers.{is_number_shaped as is_number_form, is_other_basic as is_other_basic_form, is_some_type as is_a_type, is_type_shaped as is_type_form, takes_other_basic as takes_other_basic_count};
 ghost use Rattle.kind_rules.specs.Known.{given_before, is_other_out_at, seeks as seeks_name};
-ghost use Rattle.kind_rules.specs.Outputs.{gives_outputs as gives_some_outputs, is_conditional_or_part, is_no_output_at, is_under_ref, stands};
+ghost use Rattle.kind_rules.specs.Outputs.{gives_outputs as gives_some_outputs, is_conditional_or_part, is_no_output_at, is_under_ref, is_at_position};
 ghost use Rattle.kind_rules.specs.Records.{is_group as is_group_form, takes_no_record};
 ghost use Rattle.kind_rules.specs.Widths.{is_wide_at, is_wide_name as is_wide_type};
 ghost use Rattle.kind_terms.specs.Words.{is_among as is_word_among};
 ghost use Rattle.kind_rules.specs.Uses.{mismatches};
-ghost use Rattle.kind_rules.specs.Views.{due_by};
+ghost use Rattle.kind_rules.specs.Views.{expected_by};
 
-use crate::due::{Due, Stand, Wanted};
+use crate::expected::{Expected, ExpectedKind, TypePosition};
 use bit_slice::Name;
 use kind_terms::{
     Meaning, Sort, TypeNamed, bare_name, has_outputs, is_among, is_beyond, is_out, is_wide,
@@ -27,19 +27,19 @@ use tlb_syntax::Expr;
 /// What a name is as a type, where it is used as one.
 pub type Named<'t> = Option<TypeNamed<'t>>;
 
-pub fn is_type_due(due: Due<'_>) -> bool
-    ensures { result ≡ is_type_due_by (due_by due.entry) }
+pub fn is_type_expected(expected: Expected<'_>) -> bool
+    ensures { result ≡ is_type_expected_by (expected_by expected.entry) }
 {
-    matches!(due.wanted, Wanted::TypeAt(_))
+    matches!(expected.kind, ExpectedKind::TypeAt(_))
 }
 
-/// `~x` is judged together with its x, where no type is due.
-pub fn used<'e>(due: Due<'_>, e: &'e Expr) -> &'e Expr
-    ensures { expr result.now ≡ used_by (due_by due.entry) (expr e.now) }
+/// `~x` is judged together with its x, where no type is expected.
+pub fn used<'e>(expected: Expected<'_>, e: &'e Expr) -> &'e Expr
+    ensures { expr result.now ≡ used_by (expected_by expected.entry) (expr e.now) }
 {
-    match due.wanted {
-        Wanted::TypeAt(_) => e,
-        Wanted::Number(_) | Wanted::Output => operand(e),
+    match expected.kind {
+        ExpectedKind::TypeAt(_) => e,
+        ExpectedKind::Number(_) | ExpectedKind::Output => operand(e),
     }
 }
 
@@ -55,11 +55,7 @@ fn operand(e: &Expr) -> &Expr
                 e
             }
         }
-        Expr::Sum(terms) => match terms.as_slice() {
-            [] => e,
-            [only] => operand(only),
-            [_, _, ..] => e,
-        },
+        Expr::Sum(_, _, _) => e,
         _ => e,
     }
 }
@@ -70,11 +66,7 @@ pub fn arg_count(e: &Expr) -> usize
 {
     match e {
         Expr::Named(_, args) => args.len(),
-        Expr::Sum(terms) => match terms.as_slice() {
-            [] => 0,
-            [only] => arg_count(only),
-            [_, _, ..] => 0,
-        },
+        Expr::Sum(_, _, _) => 0,
         _ => 0,
     }
 }
@@ -98,22 +90,22 @@ fn is_some_type(named: Named<'_>) -> bool
 }
 
 // Whether a name with so many arguments is to be a type.
-fn is_for_type(due: Due<'_>, args: usize) -> bool
-    ensures { result ≡ is_for_a_type (due_by due.entry) args }
+fn is_for_type(expected: Expected<'_>, args: usize) -> bool
+    ensures { result ≡ is_for_a_type (expected_by expected.entry) args }
 {
-    is_type_due(due) || args > 0
+    is_type_expected(expected) || args > 0
 }
 
-pub fn is_unknown_type(due: Due<'_>, named: Named<'_>, args: usize) -> bool
-    ensures { result ≡ (names_no_type (option_map named_by named.entry) && is_for_a_type (due_by due.entry) args) }
+pub fn is_unknown_type(expected: Expected<'_>, named: Named<'_>, args: usize) -> bool
+    ensures { result ≡ (names_no_type (option_map named_by named.entry) && is_for_a_type (expected_by expected.entry) args) }
 {
-    names_none(named) && is_for_type(due, args)
+    names_none(named) && is_for_type(expected, args)
 }
 
-pub fn is_unknown_name(due: Due<'_>, named: Named<'_>, args: usize) -> bool
-    ensures { result ≡ (names_no_type (option_map named_by named.entry) && not (is_for_a_type (due_by due.entry) args)) }
+pub fn is_unknown_name(expected: Expected<'_>, named: Named<'_>, args: usize) -> bool
+    ensures { result ≡ (names_no_type (option_map named_by named.entry) && not (is_for_a_type (expected_by expected.entry) args)) }
 {
-    names_none(named) && !is_for_type(due, args)
+    names_none(named) && !is_for_type(expected, args)
 }
 
 pub fn takes_others(named: Named<'_>, args: usize) -> bool
@@ -166,11 +158,7 @@ fn is_type_shaped(e: &Expr) -> bool
         | Expr::UpTo(_)
         | Expr::Ref(_)
         | Expr::Group(_) => true,
-        Expr::Sum(terms) => match terms.as_slice() {
-            [] => false,
-            [only] => is_type_shaped(only),
-            [_, _, ..] => false,
-        },
+        Expr::Sum(_, _, _) => false,
         _ => false,
     }
 }
@@ -181,11 +169,7 @@ fn is_number_shaped(e: &Expr) -> bool
 {
     match e {
         Expr::Lit(_) | Expr::Out(_) => true,
-        Expr::Sum(terms) => match terms.as_slice() {
-            [] => true,
-            [only] => is_number_shaped(only),
-            [_, _, ..] => true,
-        },
+        Expr::Sum(_, _, _) => true,
         _ => false,
     }
 }
@@ -195,11 +179,7 @@ fn is_group(e: &Expr) -> bool
 {
     match e {
         Expr::Group(_) => true,
-        Expr::Sum(terms) => match terms.as_slice() {
-            [] => false,
-            [only] => is_group(only),
-            [_, _, ..] => false,
-        },
+        Expr::Sum(_, _, _) => false,
         _ => false,
     }
 }
@@ -211,11 +191,7 @@ fn is_other_basic(named: Named<'_>, e: &Expr) -> bool
     match e {
         Expr::Bits(args) | Expr::Below(args) | Expr::UpTo(args) => args.len() != 1,
         Expr::Named(_, args) => takes_other_basic(named, args.len()),
-        Expr::Sum(terms) => match terms.as_slice() {
-            [] => false,
-            [only] => is_other_basic(named, only),
-            [_, _, ..] => false,
-        },
+        Expr::Sum(_, _, _) => false,
         _ => false,
     }
 }
@@ -229,37 +205,40 @@ fn gives_outputs(named: Named<'_>) -> bool
     }
 }
 
-fn stands_under_ref(due: Due<'_>) -> bool
-    ensures { result ≡ stands is_under_ref (due_by due.entry) }
+fn is_position_under_ref(expected: Expected<'_>) -> bool
+    ensures { result ≡ is_at_position is_under_ref (expected_by expected.entry) }
 {
     matches!(
-        due.wanted,
-        Wanted::TypeAt(Stand::FieldRef | Stand::UnderRef)
+        expected.kind,
+        ExpectedKind::TypeAt(TypePosition::FieldRef | TypePosition::UnderRef)
     )
 }
 
-fn stands_inside(due: Due<'_>) -> bool
-    ensures { result ≡ stands is_conditional_or_part (due_by due.entry) }
+fn is_position_inside(expected: Expected<'_>) -> bool
+    ensures { result ≡ is_at_position is_conditional_or_part (expected_by expected.entry) }
 {
     matches!(
-        due.wanted,
-        Wanted::TypeAt(Stand::Conditional | Stand::Inner)
+        expected.kind,
+        ExpectedKind::TypeAt(TypePosition::Conditional | TypePosition::Inner)
     )
 }
 
-fn stands_without_record(due: Due<'_>) -> bool
-    ensures { result ≡ stands takes_no_record (due_by due.entry) }
+fn is_position_without_record(expected: Expected<'_>) -> bool
+    ensures { result ≡ is_at_position takes_no_record (expected_by expected.entry) }
 {
-    matches!(due.wanted, Wanted::TypeAt(Stand::UnderRef | Stand::Inner))
+    matches!(
+        expected.kind,
+        ExpectedKind::TypeAt(TypePosition::UnderRef | TypePosition::Inner)
+    )
 }
 
-/// Whether an output is due, and this is none.
-fn is_no_output(due: Due<'_>, e: &Expr) -> bool
-    ensures { result ≡ is_no_output_at (due_by due.entry) (expr e.now) }
+/// Whether an output is expected, and this is none.
+fn is_no_output(expected: Expected<'_>, e: &Expr) -> bool
+    ensures { result ≡ is_no_output_at (expected_by expected.entry) (expr e.now) }
 {
-    match due.wanted {
-        Wanted::Output => out_name(e).is_none(),
-        Wanted::Number(_) | Wanted::TypeAt(_) => false,
+    match expected.kind {
+        ExpectedKind::Output => out_name(e).is_none(),
+        ExpectedKind::Number(_) | ExpectedKind::TypeAt(_) => false,
     }
 }
 
@@ -276,17 +255,17 @@ fn seeks(sought: Option<&Name>, found: Option<&Name>) -> bool
     }
 }
 
-/// Whether a number is due, and this is a `~` that seeks nothing.
-pub fn is_other_out(due: Due<'_>, e: &Expr) -> bool
-    ensures { result ≡ is_other_out_at (due_by due.entry) (expr e.now) }
+/// Whether a number is expected, and this is a `~` that seeks nothing.
+pub fn is_other_out(expected: Expected<'_>, e: &Expr) -> bool
+    ensures { result ≡ is_other_out_at (expected_by expected.entry) (expr e.now) }
 {
-    match due.wanted {
-        Wanted::Number(_) => is_out(e) && !seeks(due.sought, out_name(e)),
-        Wanted::Output | Wanted::TypeAt(_) => false,
+    match expected.kind {
+        ExpectedKind::Number(_) => is_out(e) && !seeks(expected.sought, out_name(e)),
+        ExpectedKind::Output | ExpectedKind::TypeAt(_) => false,
     }
 }
 
-/// Whether the width behind the name of a type is beyond its greatest.
+/// Whether the width after the name of a type is beyond its greatest.
 fn is_wide_name(named: Named<'_>, e: &Expr) -> bool
     ensures { result ≡ is_wide_type (option_map named_by named.entry) (bare_name_of (expr e.now)) }
 {
@@ -300,59 +279,65 @@ fn is_wide_name(named: Named<'_>, e: &Expr) -> bool
 }
 
 /// Whether the name is given by an output of the same type before it.
-pub fn is_given(due: Due<'_>, name: &Name) -> bool
-    ensures { result ≡ is_word_among (given_before (due_by due.entry)) name.now }
+pub fn is_given(expected: Expected<'_>, name: &Name) -> bool
+    ensures { result ≡ is_word_among (given_before (expected_by expected.entry)) name.now }
 {
-    match due.wanted {
-        Wanted::Output => is_among(due.before, name),
-        Wanted::Number(_) | Wanted::TypeAt(_) => false,
+    match expected.kind {
+        ExpectedKind::Output => is_among(expected.before, name),
+        ExpectedKind::Number(_) | ExpectedKind::TypeAt(_) => false,
     }
 }
 
-pub fn is_too_wide(due: Due<'_>, named: Named<'_>, e: &Expr) -> bool
-    ensures { result ≡ is_wide_at (due_by due.entry) (option_map named_by named.entry) (expr e.now) }
+pub fn is_too_wide(expected: Expected<'_>, named: Named<'_>, e: &Expr) -> bool
+    ensures { result ≡ is_wide_at (expected_by expected.entry) (option_map named_by named.entry) (expr e.now) }
 {
-    match due.wanted {
-        Wanted::Number(most) => is_beyond(e, most),
-        Wanted::Output => false,
-        Wanted::TypeAt(_) => is_wide_name(named, e),
+    match expected.kind {
+        ExpectedKind::Number(most) => is_beyond(e, most),
+        ExpectedKind::Output => false,
+        ExpectedKind::TypeAt(_) => is_wide_name(named, e),
     }
 }
 
-pub fn is_output_under_ref(due: Due<'_>, named: Named<'_>) -> bool
-    ensures { result ≡ (stands is_under_ref (due_by due.entry) && gives_some_outputs (option_map named_by named.entry)) }
+pub fn is_output_under_ref(expected: Expected<'_>, named: Named<'_>) -> bool
+    ensures { result ≡ (is_at_position is_under_ref (expected_by expected.entry) && gives_some_outputs (option_map named_by named.entry)) }
 {
-    stands_under_ref(due) && gives_outputs(named)
+    is_position_under_ref(expected) && gives_outputs(named)
 }
 
-fn is_type_for_number(due: Due<'_>, named: Named<'_>, meaning: Option<Meaning>, e: &Expr) -> bool
+fn is_type_for_number(
+    expected: Expected<'_>,
+    named: Named<'_>,
+    meaning: Option<Meaning>,
+    e: &Expr,
+) -> bool
     ensures { result
-        ≡ (not (is_type_due_by (due_by due.entry)) && (is_type_form (expr e.now) || is_a_type (option_map named_by named.entry) || is_type_meaning meaning)) }
+        ≡ (not (is_type_expected_by (expected_by expected.entry)) && (is_type_form (expr e.now) || is_a_type (option_map named_by named.entry) || is_type_meaning meaning)) }
 {
-    !is_type_due(due) && (is_type_shaped(e) || is_some_type(named) || is_type_variable(meaning))
+    !is_type_expected(expected)
+        && (is_type_shaped(e) || is_some_type(named) || is_type_variable(meaning))
 }
 
-fn is_number_for_type(due: Due<'_>, meaning: Option<Meaning>, e: &Expr) -> bool
-    ensures { result ≡ (is_type_due_by (due_by due.entry) && (is_number_form (expr e.now) || is_number_meaning meaning)) }
+fn is_number_for_type(expected: Expected<'_>, meaning: Option<Meaning>, e: &Expr) -> bool
+    ensures { result ≡ (is_type_expected_by (expected_by expected.entry) && (is_number_form (expr e.now) || is_number_meaning meaning)) }
 {
-    is_type_due(due) && (is_number_shaped(e) || is_number(meaning))
+    is_type_expected(expected) && (is_number_shaped(e) || is_number(meaning))
 }
 
-/// Whether a type, a number or an output stands where another of them is due; `at` is the expression whose name is used.
+/// Whether a type, a number or an output stands where another of them is expected; `at` is the expression whose name is used.
 pub fn is_mismatch(
-    due: Due<'_>,
+    expected: Expected<'_>,
     named: Named<'_>,
     meaning: Option<Meaning>,
     e: &Expr,
     at: &Expr,
 ) -> bool
-    ensures { result ≡ mismatches (due_by due.entry) (option_map named_by named.entry) meaning (expr e.now) (expr at.now) }
+    ensures { result ≡ mismatches (expected_by expected.entry) (option_map named_by named.entry) meaning (expr e.now) (expr at.now) }
 {
     is_no_variable(meaning)
-        || is_type_for_number(due, named, meaning, e)
-        || is_number_for_type(due, meaning, e)
+        || is_type_for_number(expected, named, meaning, e)
+        || is_number_for_type(expected, meaning, e)
         || is_other_basic(named, at)
-        || (stands_inside(due) && gives_outputs(named))
-        || is_no_output(due, e)
-        || (is_group(e) && stands_without_record(due))
+        || (is_position_inside(expected) && gives_outputs(named))
+        || is_no_output(expected, e)
+        || (is_group(e) && is_position_without_record(expected))
 }

@@ -43,17 +43,9 @@ fn is_past_total(start: Option<u64>, more: &[Expr], most: u32) -> bool
     is_above(total, most)
 }
 
-/// Whether the sum of two or more terms is beyond `most`, or that of its first terms, two or more, beyond the greatest
-/// number.
-pub fn is_sum_beyond(terms: &[Expr], most: u32) -> bool
-    ensures { result ≡ is_sum_past most (map expr terms.now) }
+/// Whether the sum is beyond `most`, or that of its first terms, two or more, beyond the greatest number.
+pub fn is_sum_beyond(first: &Expr, second: &Expr, more: &[Expr], most: u32) -> bool
+    ensures { result ≡ is_sum_past most (expr first.now) (expr second.now) (map expr more.now) }
 {
-    match terms {
-        [] | [_] => false,
-        [first, second, more @ ..] => is_past_total(
-            added(closed(first), closed(second)),
-            more,
-            most,
-        ),
-    }
+    is_past_total(added(closed(first), closed(second)), more, most)
 }

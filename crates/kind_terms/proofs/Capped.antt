@@ -9,8 +9,9 @@ use Rattle.nat_solver.specs.Number.{exact_sum}
 use Rattle.tlb_syntax.specs.declared.tree.Expr.{Expr}
 use Rattle.tlb_syntax.specs.Tree.{ExprView, plus, nested, sum_of}
 use Rattle.tlb_syntax.specs.View.{expr}
-use Rattle.tlb_syntax.specs.declared.tree.Expr.TheVariants.{Star}
-use Rattle.kind_terms.proofs.NestedSums.{expr_of_star, expr_of_sum}
+use Rattle.tlb_syntax.specs.declared.tree.Expr.TheVariants.{Star, Sum}
+use Rattle.kind_terms.specs.SumLaws.{expr_of_star, expr_of_sum}
+use Rattle.kind_terms.specs.Closed.{closed_total}
 use Rattle.kind_terms.specs.Closed.{closed, exact_product, is_zero}
 
 pub capped_sum : (k a b : ℕ) → min k (min k a + min k b) ≡ min k (a + b)
@@ -66,13 +67,31 @@ closed_nested : (t : ExprView) (us : List ExprView) → closed (nested t us) ≡
 closed_nested t [] = refl
 closed_nested t (u ∷ us) = closed_nested (plus t u) us
 
-sum_of_zero : (o : Option ℕ) → o ≡ exact_sum (Some 0) o
-sum_of_zero None = refl
-sum_of_zero (Some n) = ap Some (omega arith)
+sum_assoc : (o p q : Option ℕ) → exact_sum (exact_sum o p) q ≡ exact_sum o (exact_sum p q)
+sum_assoc None p q = refl
+sum_assoc (Some a) None q = refl
+sum_assoc (Some a) (Some b) None = refl
+sum_assoc (Some a) (Some b) (Some c) = ap Some (omega arith)
 
-pub closed_sum_of : (ts : List ExprView) → closed (sum_of ts) ≡ fold with_closed (Some 0) ts
-closed_sum_of [] = refl
-closed_sum_of (t ∷ ts) = closed_nested t ts ∙ ap (λ (o : Option ℕ). fold with_closed o ts) (sum_of_zero (closed t))
+sum_zero : (o : Option ℕ) → o ≡ exact_sum o (Some 0)
+sum_zero None = refl
+sum_zero (Some a) = ap Some (omega arith)
+
+zero_sum : (o : Option ℕ) → exact_sum (Some 0) o ≡ o
+zero_sum None = refl
+zero_sum (Some a) = ap Some (omega arith)
+
+fold_total : (o : Option ℕ) (us : List ExprView) → fold with_closed o us ≡ exact_sum o (closed_total us)
+fold_total o [] = sum_zero o
+fold_total o (u ∷ us) = fold_total (exact_sum o (closed u)) us ∙ sum_assoc o (closed u) (closed_total us)
+
+-- a total from 0 on
+pub total_from_zero : (us : List ExprView) → fold with_closed (Some 0) us ≡ closed_total us
+total_from_zero us = fold_total (Some 0) us ∙ zero_sum (closed_total us)
+
+pub closed_of_sum : (a b : ExprView) (us : List ExprView)
+    → closed (sum_of a b us) ≡ exact_sum (exact_sum (closed a) (closed b)) (closed_total us)
+closed_of_sum a b us = closed_nested (plus a b) us ∙ fold_total (exact_sum (closed a) (closed b)) us
 
 pub none_stays : (us : List ExprView) → fold with_closed None us ≡ None
 none_stays [] = refl
@@ -142,3 +161,62 @@ closed_star e a b x y v w r is left right h g product =
     product_of_capped (closed (expr a)) (closed (expr b)) v w r (h ∙ ap (λ (z : Expr). capped (closed (expr z))) left)
     (g ∙ ap (λ (z : Expr). capped (closed (expr z))) right) product
     ∙ sym (ap (λ (z : ExprView). capped (closed z)) (ap expr is ∙ expr_of_star a b))
+
+-- ---- sums
+
+-- the value of a sum, from capped values
+sum_of_capped : (o p q : Option ℕ) (u v w s r : ℕ) → Some u ≡ capped o → Some v ≡ capped p → Some w ≡ capped q
+    → s ≡ min (u + v) (2 ^ 64 - 1) → r ≡ min (s + w) (2 ^ 64 - 1) → Some r ≡ capped (exact_sum (exact_sum o p) q)
+sum_of_capped None p q u v w s r h g k two whole = cc
+sum_of_capped (Some a) None q u v w s r h g k two whole = cc
+sum_of_capped (Some a) (Some b) None u v w s r h g k two whole = cc
+sum_of_capped (Some a) (Some b) (Some c) u v w s r h g k two whole =
+    let first : u ≡ min (2 ^ 64 - 1) a = cc in
+    let second : v ≡ min (2 ^ 64 - 1) b = cc in
+    let third : w ≡ min (2 ^ 64 - 1) c = cc in
+    ap Some (omega (arith, first, second, third, two, whole))
+
+pub closed_sum : (e a b x y : Expr) (es us : List Expr) (u v w s r : ℕ) → e ≡ Sum a b es → x ≡ a → y ≡ b → us ≡ es
+    → Some u ≡ capped (closed (expr x)) → Some v ≡ capped (closed (expr y)) → Some w ≡ capped (closed_total (map expr us))
+    → s ≡ min (u + v) (2 ^ 64 - 1) → r ≡ min (s + w) (2 ^ 64 - 1) → Some r ≡ capped (closed (expr e))
+closed_sum e a b x y es us u v w s r is left right rest h g k two whole =
+    sum_of_capped (closed (expr a)) (closed (expr b)) (closed_total (map expr es)) u v w s r
+    (h ∙ ap (λ (z : Expr). capped (closed (expr z))) left) (g ∙ ap (λ (z : Expr). capped (closed (expr z))) right)
+    (k ∙ ap (λ (zs : List Expr). capped (closed_total (map expr zs))) rest) two whole
+    ∙ sym (ap (λ (z : ExprView). capped (closed z)) (ap expr is ∙ expr_of_sum a b es) ∙ ap capped (closed_of_sum (expr a) (expr b) (map expr es)))
+
+none_first : (o p q : Option ℕ) → None ≡ capped o → None ≡ capped (exact_sum (exact_sum o p) q)
+none_first None p q h = refl
+none_first (Some a) p q h = cc
+
+none_second : (o p q : Option ℕ) → None ≡ capped p → None ≡ capped (exact_sum (exact_sum o p) q)
+none_second None p q h = refl
+none_second (Some a) None q h = refl
+none_second (Some a) (Some b) q h = cc
+
+none_rest : (o p q : Option ℕ) → None ≡ capped q → None ≡ capped (exact_sum (exact_sum o p) q)
+none_rest None p q h = refl
+none_rest (Some a) None q h = refl
+none_rest (Some a) (Some b) None h = refl
+none_rest (Some a) (Some b) (Some c) h = cc
+
+closed_seen : (e a b : Expr) (es : List Expr) → e ≡ Sum a b es
+    → capped (exact_sum (exact_sum (closed (expr a)) (closed (expr b))) (closed_total (map expr es))) ≡ capped (closed (expr e))
+closed_seen e a b es is =
+    sym (ap (λ (z : ExprView). capped (closed z)) (ap expr is ∙ expr_of_sum a b es) ∙ ap capped (closed_of_sum (expr a) (expr b) (map expr es)))
+
+-- a term without a value
+pub no_first : (e a b x : Expr) (es : List Expr) → e ≡ Sum a b es → x ≡ a → None ≡ capped (closed (expr x)) → None ≡ capped (closed (expr e))
+no_first e a b x es is same h =
+    none_first (closed (expr a)) (closed (expr b)) (closed_total (map expr es)) (h ∙ ap (λ (z : Expr). capped (closed (expr z))) same)
+    ∙ closed_seen e a b es is
+
+pub no_second : (e a b x : Expr) (es : List Expr) → e ≡ Sum a b es → x ≡ b → None ≡ capped (closed (expr x)) → None ≡ capped (closed (expr e))
+no_second e a b x es is same h =
+    none_second (closed (expr a)) (closed (expr b)) (closed_total (map expr es)) (h ∙ ap (λ (z : Expr). capped (closed (expr z))) same)
+    ∙ closed_seen e a b es is
+
+pub no_rest : (e a b : Expr) (es us : List Expr) → e ≡ Sum a b es → us ≡ es → None ≡ capped (closed_total (map expr us)) → None ≡ capped (closed (expr e))
+no_rest e a b es us is same h =
+    none_rest (closed (expr a)) (closed (expr b)) (closed_total (map expr es)) (h ∙ ap (λ (zs : List Expr). capped (closed_total (map expr zs))) same)
+    ∙ closed_seen e a b es is

@@ -1,6 +1,5 @@
-pub mod NestedSums
 pub mod ParamKinds
 pub mod PlainNumbers
-pub mod Founds
+pub mod TypeIndexes
 pub mod Capped
 pub mod PartSums

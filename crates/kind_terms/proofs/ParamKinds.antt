@@ -4,18 +4,18 @@ use Rattle.tlb_syntax.specs.declared.tree.Expr.{Expr}
 use Rattle.tlb_syntax.specs.View.{expr, exprs}
 use Rattle.std.specs.Prelude.{Option, Some, None, if◌then◌else◌}
 use Rattle.tlb_syntax.specs.Tree.{ExprView, ItemList, lit, named, nat32, bits, below, up_to, plus, star, out, ref, group, no_exprs, an_expr}
-use Rattle.kind_terms.specs.declared.kind.Kind.{Kind}
-use Rattle.kind_terms.specs.declared.kind.Kind.TheVariants.{NumberIn, NumberOut}
+use Rattle.kind_terms.specs.declared.kind.TermKind.{TermKind}
+use Rattle.kind_terms.specs.declared.kind.TermKind.TheVariants.{NumberIn, NumberOut}
 use Rattle.kind_terms.specs.Params.{bare_name, greatest, is_literal, kind_of, kind_of_variable, kind_of_sum, kinds_of_exprs, variable_of}
 use Rattle.kind_terms.specs.Forms.{is_out}
 use Rattle.kind_terms.specs.Words.{Word}
 
 -- the kind of what is no output and no literal
-abbrev pub kind_by : ItemList → Option Word → Option Word → Kind
+abbrev pub kind_by : ItemList → Option Word → Option Word → TermKind
 kind_by is None variable = kind_of_sum is variable
 kind_by is (Some y) variable = kind_of_variable is variable
 
-abbrev pub kind_by_form : ItemList → ExprView → Kind
+abbrev pub kind_by_form : ItemList → ExprView → TermKind
 kind_by_form is v =
     if is_out v then NumberOut else if is_literal v then NumberIn greatest else kind_by is (bare_name v) (variable_of v)
 

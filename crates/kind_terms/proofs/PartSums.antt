@@ -15,7 +15,7 @@ use Rattle.kind_terms.specs.Params.{bare_name}
 use Rattle.kind_terms.specs.Forms.{is_out, out_name, parts, parts_of_all}
 use Rattle.kind_terms.specs.Outs.{Outs, nothing, one, several, joined, outs_of, summary}
 use Rattle.kind_terms.specs.Sought.{Sides, cancels, holds_out, is_named, only_out_name, sides, unknown_of, uses}
-use Rattle.kind_terms.proofs.NestedSums.{expr_of_name, expr_of_star, expr_of_sum}
+use Rattle.kind_terms.specs.SumLaws.{expr_of_name, expr_of_star, expr_of_sum}
 
 -- ---- sums
 
@@ -26,21 +26,19 @@ parts_of_nested f pass t (u ∷ us) =
     parts_of_nested f pass (plus t u) us ∙ pass t u ((parts t ++ parts u) ++ parts_of_all (exprs_of us))
     ∙ ap f (append_assoc (parts t) (parts u) (parts_of_all (exprs_of us)))
 
-parts_of_sum : {X : Type 0} (f : List ExprView → X) → ((a b : ExprView) (es : List ExprView) → f (plus a b ∷ es) ≡ f es) → f (lit 0 ∷ []) ≡ f []
-    → (us : List ExprView) → f (parts (sum_of us)) ≡ f (parts_of_all (exprs_of us))
-parts_of_sum f pass none [] = none
-parts_of_sum f pass none (u ∷ us) = parts_of_nested f pass u us
+parts_of_sum : {X : Type 0} (f : List ExprView → X) → ((a b : ExprView) (es : List ExprView) → f (plus a b ∷ es) ≡ f es)
+    → (a b : ExprView) (us : List ExprView)
+    → f (parts (sum_of a b us)) ≡ f ((parts a ++ parts b) ++ parts_of_all (exprs_of us))
+parts_of_sum f pass a b us =
+    parts_of_nested f pass (plus a b) us ∙ pass a b ((parts a ++ parts b) ++ parts_of_all (exprs_of us))
 
-pub outs_of_sum : (ts : List Expr) → outs_of (parts (expr (Sum ts))) ≡ outs_of (parts_of_all (exprs ts))
-outs_of_sum ts = ap (λ (e : ExprView). outs_of (parts e)) (expr_of_sum ts) ∙ parts_of_sum outs_of (λ a b es. refl) refl (map expr ts)
-
-pub uses_of_sum : (x : Word) (ts : List Expr) → uses x (parts (expr (Sum ts))) ≡ uses x (parts_of_all (exprs ts))
-uses_of_sum x ts = ap (λ (e : ExprView). uses x (parts e)) (expr_of_sum ts) ∙ parts_of_sum (uses x) (λ a b es. refl) refl (map expr ts)
-
-pub cancels_of_sum : (ts : List Expr) → list_any cancels (parts (expr (Sum ts))) ≡ list_any cancels (parts_of_all (exprs ts))
-cancels_of_sum ts =
-    ap (λ (e : ExprView). list_any cancels (parts e)) (expr_of_sum ts)
-    ∙ parts_of_sum (list_any cancels) (λ a b es. refl) refl (map expr ts)
+-- the parts of a sum are those of its terms, for what passes over sums
+sum_parts : {X : Type 0} (f : List ExprView → X) → ((a b : ExprView) (es : List ExprView) → f (plus a b ∷ es) ≡ f es)
+    → (e a b : Expr) (es : List Expr) → e ≡ Sum a b es
+    → f (parts (expr e)) ≡ f ((parts (expr a) ++ parts (expr b)) ++ parts_of_all (exprs es))
+sum_parts f pass e a b es is =
+    ap (λ (v : ExprView). f (parts v)) (ap expr is ∙ expr_of_sum a b es)
+    ∙ parts_of_sum f pass (expr a) (expr b) (map expr es)
 
 -- ---- one more expression
 
@@ -107,10 +105,20 @@ parts_more es i e h is =
     ap (λ (ds : List Expr). parts_of_all (exprs ds)) (take_more es i e h ∙ ap (λ (d : Expr). take i es ++ d ∷ []) (sym is))
     ∙ parts_of_push (take i es) e
 
-pub outs_sum : (e : Expr) (ts us : List Expr) (r : Outs) → e ≡ Sum ts → us ≡ ts → r ≡ outs_of (parts_of_all (exprs us)) → r ≡ outs_of (parts (expr e))
-outs_sum e ts us r is same h =
-    h ∙ ap (λ (xs : List Expr). outs_of (parts_of_all (exprs xs))) same
-    ∙ sym (ap (λ (d : Expr). outs_of (parts (expr d))) is ∙ outs_of_sum ts)
+pub outs_sum : (e a b x y : Expr) (es us : List Expr) (m n o p r : Outs) → e ≡ Sum a b es → x ≡ a → y ≡ b → us ≡ es
+    → m ≡ outs_of (parts (expr x)) → n ≡ outs_of (parts (expr y)) → o ≡ outs_of (parts_of_all (exprs us))
+    → p ≡ joined m n → r ≡ joined p o → r ≡ outs_of (parts (expr e))
+outs_sum e a b x y es us m n o p r is left right rest h g k two whole =
+    let A = parts (expr a) in
+    let B = parts (expr b) in
+    let C = parts_of_all (exprs es) in
+    let first : m ≡ outs_of A = h ∙ ap (λ (d : Expr). outs_of (parts (expr d))) left in
+    let second : n ≡ outs_of B = g ∙ ap (λ (d : Expr). outs_of (parts (expr d))) right in
+    let third : o ≡ outs_of C = k ∙ ap (λ (ds : List Expr). outs_of (parts_of_all (exprs ds))) rest in
+    whole ∙ ap (λ (z : Outs). joined z o) (two ∙ ap (λ (z : Outs). joined z n) first ∙ ap (joined (outs_of A)) second)
+    ∙ ap (joined (joined (outs_of A) (outs_of B))) third
+    ∙ sym (sum_parts outs_of (λ c d ds. refl) e a b es is
+    ∙ outs_of-append (A ++ B) C ∙ ap (λ (z : Outs). joined z (outs_of C)) (outs_of-append A B))
 
 pub outs_star : (e a b x y : Expr) (m n r : Outs) → e ≡ Star a b → x ≡ a → y ≡ b → m ≡ outs_of (parts (expr x)) → n ≡ outs_of (parts (expr y))
     → r ≡ joined m n → r ≡ outs_of (parts (expr e))
@@ -125,11 +133,20 @@ outs_more es i e m n r h is before here both =
     both ∙ ap (λ (o : Outs). joined o n) before ∙ ap (joined (outs_of (parts_of_all (exprs (take i es))))) here
     ∙ sym (ap outs_of (parts_more es i e h is) ∙ outs_of-append (parts_of_all (exprs (take i es))) (parts (expr e)))
 
-pub uses_sum : (x : Word) (e : Expr) (ts us : List Expr) (r : ℕ) → e ≡ Sum ts → us ≡ ts → r ≡ min (2 ^ 64 - 1) (uses x (parts_of_all (exprs us)))
-    → r ≡ min (2 ^ 64 - 1) (uses x (parts (expr e)))
-uses_sum x e ts us r is same h =
-    h ∙ ap (λ (xs : List Expr). min (2 ^ 64 - 1) (uses x (parts_of_all (exprs xs)))) same
-    ∙ sym (ap (min (2 ^ 64 - 1)) (ap (λ (d : Expr). uses x (parts (expr d))) is ∙ uses_of_sum x ts))
+pub uses_sum : (z : Word) (e a b x y : Expr) (es us : List Expr) (m n o p r : ℕ) → e ≡ Sum a b es → x ≡ a → y ≡ b → us ≡ es
+    → m ≡ min (2 ^ 64 - 1) (uses z (parts (expr x))) → n ≡ min (2 ^ 64 - 1) (uses z (parts (expr y)))
+    → o ≡ min (2 ^ 64 - 1) (uses z (parts_of_all (exprs us)))
+    → p ≡ min (m + n) (2 ^ 64 - 1) → r ≡ min (p + o) (2 ^ 64 - 1) → r ≡ min (2 ^ 64 - 1) (uses z (parts (expr e)))
+uses_sum z e a b x y es us m n o p r is left right rest h g k two both =
+    let first : m ≡ min (2 ^ 64 - 1) (uses z (parts (expr a))) = h ∙ ap (λ (d : Expr). min (2 ^ 64 - 1) (uses z (parts (expr d)))) left in
+    let second : n ≡ min (2 ^ 64 - 1) (uses z (parts (expr b))) = g ∙ ap (λ (d : Expr). min (2 ^ 64 - 1) (uses z (parts (expr d)))) right in
+    let third : o ≡ min (2 ^ 64 - 1) (uses z (parts_of_all (exprs es))) =
+    k ∙ ap (λ (ds : List Expr). min (2 ^ 64 - 1) (uses z (parts_of_all (exprs ds)))) rest in
+    let whole : uses z (parts (expr e)) ≡ (uses z (parts (expr a)) + uses z (parts (expr b))) + uses z (parts_of_all (exprs es)) =
+    sum_parts (uses z) (λ c d ds. refl) e a b es is
+    ∙ uses-append z (parts (expr a) ++ parts (expr b)) (parts_of_all (exprs es))
+    ∙ ap (λ (c : ℕ). c + uses z (parts_of_all (exprs es))) (uses-append z (parts (expr a)) (parts (expr b))) in
+    omega (arith, first, second, third, whole, two, both)
 
 uses_of_args : (x y : Word) (es : List Expr) → es ≢ [] → uses x (parts_of_all (exprs es)) ≡ uses x (parts (named y (exprs es)))
 uses_of_args x y [] n = absurd (n refl)
@@ -161,11 +178,46 @@ uses_more z es i e m n r h is before here both =
 
 -- ---- products that cancel
 
-pub cancels_sum : (e : Expr) (ts us : List Expr) (r : Bool) → e ≡ Sum ts → us ≡ ts → r ≡ list_any cancels (parts_of_all (exprs us))
-    → r ≡ list_any cancels (parts (expr e))
-cancels_sum e ts us r is same h =
-    h ∙ ap (λ (xs : List Expr). list_any cancels (parts_of_all (exprs xs))) same
-    ∙ sym (ap (λ (d : Expr). list_any cancels (parts (expr d))) is ∙ cancels_of_sum ts)
+cancels_of_nested : (a b : ExprView) (us : List ExprView)
+    → list_any cancels (parts (nested (plus a b) us))
+    ≡ ((list_any cancels (parts a) || list_any cancels (parts b)) || list_any cancels (parts_of_all (exprs_of us)))
+cancels_of_nested a b us =
+    parts_of_sum (list_any cancels) (λ c d ds. refl) a b us
+    ∙ list_any-append cancels (parts a ++ parts b) (parts_of_all (exprs_of us))
+    ∙ ap (λ (c : Bool). c || list_any cancels (parts_of_all (exprs_of us))) (list_any-append cancels (parts a) (parts b))
 
 pub cancels_of_star : (a b : ExprView) → list_any cancels (parts (star a b)) ≡ (cancels (star a b) || (list_any cancels (parts a) || list_any cancels (parts b)))
 cancels_of_star a b = ap (λ (c : Bool). cancels (star a b) || c) (list_any-append cancels (parts a) (parts b))
+
+sum_cancels : (e a b : Expr) (es : List Expr) → e ≡ Sum a b es
+    → list_any cancels (parts (expr e))
+    ≡ ((list_any cancels (parts (expr a)) || list_any cancels (parts (expr b))) || list_any cancels (parts_of_all (exprs es)))
+sum_cancels e a b es is =
+    ap (λ (v : ExprView). list_any cancels (parts v)) (ap expr is ∙ expr_of_sum a b es)
+    ∙ cancels_of_nested (expr a) (expr b) (map expr es)
+
+-- in one of the first two terms, or in none of them
+pub first_cancels : (x a : Expr) (r v : Bool) (B : Bool) → x ≡ a → r ≡ list_any cancels (parts (expr x)) → r ≡ true → v ≡ r
+    → v ≡ (list_any cancels (parts (expr a)) || B)
+first_cancels x a r v B same is met value =
+    value ∙ met ∙ sym (ap (λ (z : Bool). z || B) (sym (is ∙ ap (λ (d : Expr). list_any cancels (parts (expr d))) same) ∙ met))
+
+pub second_cancels : (x a y b : Expr) (r q v : Bool) → x ≡ a → r ≡ list_any cancels (parts (expr x)) → r ≡ false
+    → y ≡ b → q ≡ list_any cancels (parts (expr y)) → v ≡ q
+    → v ≡ (list_any cancels (parts (expr a)) || list_any cancels (parts (expr b)))
+second_cancels x a y b r q v same is no_first other second value =
+    value ∙ second ∙ ap (λ (d : Expr). list_any cancels (parts (expr d))) other
+    ∙ sym (ap (λ (z : Bool). z || list_any cancels (parts (expr b))) (sym (is ∙ ap (λ (d : Expr). list_any cancels (parts (expr d))) same) ∙ no_first))
+
+pub cancels_in_two : (e a b : Expr) (es : List Expr) (v : Bool) → e ≡ Sum a b es
+    → v ≡ (list_any cancels (parts (expr a)) || list_any cancels (parts (expr b))) → v ≡ true
+    → v ≡ list_any cancels (parts (expr e))
+cancels_in_two e a b es v is two met =
+    met ∙ sym (sum_cancels e a b es is ∙ ap (λ (z : Bool). z || list_any cancels (parts_of_all (exprs es))) (sym two ∙ met))
+
+pub cancels_in_rest : (e a b : Expr) (es us : List Expr) (v r : Bool) → e ≡ Sum a b es
+    → v ≡ (list_any cancels (parts (expr a)) || list_any cancels (parts (expr b))) → v ≡ false
+    → us ≡ es → r ≡ list_any cancels (parts_of_all (exprs us)) → r ≡ list_any cancels (parts (expr e))
+cancels_in_rest e a b es us v r is two none same rest =
+    rest ∙ ap (λ (ds : List Expr). list_any cancels (parts_of_all (exprs ds))) same
+    ∙ sym (sum_cancels e a b es is ∙ ap (λ (z : Bool). z || list_any cancels (parts_of_all (exprs es))) (sym two ∙ none))

@@ -18,7 +18,7 @@ pub onto_grows : (n : ℕ) (ds : List ℕ) → n ≤ decimal_onto n ds
 onto_grows n [] = omega arith
 onto_grows n (d ∷ ds) = omega (arith, onto_grows (10 * n + (d - 48)) ds)
 
--- a front of the digits that is greater already
+-- a prefix of the digits that is greater already
 pub past : (ds : List ℕ) (i n m most : ℕ) → i < length ds → decimal_onto n (drop i ds) ≡ decimal_onto 0 ds
     → m ≡ 10 * n + (get_or ds i 0 - 48) → most < m → most < decimal_onto 0 ds
 past ds i n m most h same is big =

@@ -1,6 +1,6 @@
 -- The values of numbers without variables.
 -- Source: the TON documentation on TL-B (arithmetic in types).
-use Rattle.std.specs.Prelude.{ℕ, ◌*◌, ◌==◌, Bool, false, Option, Some, None, nat_lt}
+use Rattle.std.specs.Prelude.{ℕ, ◌*◌, ◌==◌, List, [], ◌∷◌, Bool, false, Option, Some, None, nat_lt}
 use Rattle.nat_solver.specs.Number.{exact_sum}
 use Rattle.tlb_syntax.specs.Tree.{ExprView, lit, named, nat32, bits, below, up_to, plus, star, out, ref, group}
 use Rattle.kind_terms.specs.Words.{Word, Family, width_in}
@@ -23,6 +23,11 @@ closed (up_to es) = None
 closed (out e) = None
 closed (ref e) = None
 closed (group is) = None
+
+-- the sum of numbers without variables
+abbrev pub closed_total : List ExprView → Option ℕ
+closed_total [] = Some 0
+closed_total (e ∷ es) = exact_sum (closed e) (closed_total es)
 
 abbrev pub exceeds : ℕ → Option ℕ → Bool
 exceeds most None = false

@@ -6,6 +6,9 @@ pub mod Forms
 pub mod Closed
 pub mod Sought
 pub mod Scopes
+pub mod Positions
 pub mod Views
-pub mod Found
+pub mod TypeIndex
 pub mod Outs
+pub mod ViewLaws
+pub mod SumLaws

@@ -5,8 +5,8 @@ use Rattle.std.specs.List.{list_any}
 use Rattle.tlb_syntax.specs.declared.tree.ParamKind.{ParamKind}
 use Rattle.tlb_syntax.specs.declared.tree.ParamKind.TheVariants.{Nat, Ty}
 use Rattle.tlb_syntax.specs.Tree.{ExprView, ExprList, ItemList, ConstructorView, lit, named, nat32, bits, below, up_to, plus, star, out, ref, group, no_exprs, an_expr, implicit, check, explicit, no_items, an_item}
-use Rattle.kind_terms.specs.declared.kind.Kind.{Kind}
-use Rattle.kind_terms.specs.declared.kind.Kind.TheVariants.{NumberIn, TypeIn, NumberOut, NoKind}
+use Rattle.kind_terms.specs.declared.kind.TermKind.{TermKind}
+use Rattle.kind_terms.specs.declared.kind.TermKind.TheVariants.{NumberIn, TypeIn, NumberOut, NoKind}
 use Rattle.kind_terms.specs.Words.{Word}
 
 -- the greatest number of a schema
@@ -63,27 +63,27 @@ variable_of (ref e) = None
 variable_of (group is) = None
 
 -- what an implicit variable is as an input, alone or in a sum with a literal
-abbrev pub kind_alone : Option ParamKind → Kind
+abbrev pub kind_alone : Option ParamKind → TermKind
 kind_alone (Some Nat) = NumberIn greatest
 kind_alone (Some Ty) = TypeIn
 kind_alone None = NoKind
 
-abbrev pub kind_in_sum : Option ParamKind → Kind
+abbrev pub kind_in_sum : Option ParamKind → TermKind
 kind_in_sum (Some Nat) = NumberIn greatest
 kind_in_sum (Some Ty) = NoKind
 kind_in_sum None = NoKind
 
-abbrev pub kind_of_variable : ItemList → Option Word → Kind
+abbrev pub kind_of_variable : ItemList → Option Word → TermKind
 kind_of_variable is None = NoKind
 kind_of_variable is (Some x) = kind_alone (implicit_kind is x)
 
-abbrev pub kind_of_sum : ItemList → Option Word → Kind
+abbrev pub kind_of_sum : ItemList → Option Word → TermKind
 kind_of_sum is None = NoKind
 kind_of_sum is (Some x) = kind_in_sum (implicit_kind is x)
 
 -- The kind of a parameter, by the items of its constructor: `~e` is an output number; a literal, and `v` or `v + k`
 -- with an implicit number v, is an input number; an implicit type variable is an input type.
-abbrev pub kind_of : ItemList → ExprView → Kind
+abbrev pub kind_of : ItemList → ExprView → TermKind
 kind_of is (out e) = NumberOut
 kind_of is (lit n) = NumberIn greatest
 kind_of is (named x es) = kind_of_variable is (bare_name (named x es))
@@ -96,42 +96,42 @@ kind_of is (star a b) = NoKind
 kind_of is (ref e) = NoKind
 kind_of is (group js) = NoKind
 
-abbrev pub kinds_of_exprs : ItemList → ExprList → List Kind
+abbrev pub kinds_of_exprs : ItemList → ExprList → List TermKind
 kinds_of_exprs is no_exprs = []
 kinds_of_exprs is (an_expr e es) = kind_of is e ∷ kinds_of_exprs is es
 
-abbrev pub kinds : ConstructorView → List Kind
+abbrev pub kinds : ConstructorView → List TermKind
 kinds c = kinds_of_exprs c.items c.params
 
-abbrev pub is_output : Kind → Bool
+abbrev pub is_output : TermKind → Bool
 is_output (NumberIn n) = false
 is_output TypeIn = false
 is_output NumberOut = true
 is_output NoKind = false
 
-abbrev pub has_outputs : List Kind → Bool
+abbrev pub has_outputs : List TermKind → Bool
 has_outputs ks = list_any is_output ks
 
-abbrev pub has_kind : Kind → Bool
+abbrev pub has_kind : TermKind → Bool
 has_kind (NumberIn n) = true
 has_kind TypeIn = true
 has_kind NumberOut = true
 has_kind NoKind = false
 
-abbrev pub is_number_in : Kind → Bool
+abbrev pub is_number_in : TermKind → Bool
 is_number_in (NumberIn n) = true
 is_number_in TypeIn = false
 is_number_in NumberOut = false
 is_number_in NoKind = false
 
-abbrev pub is_type_in : Kind → Bool
+abbrev pub is_type_in : TermKind → Bool
 is_type_in (NumberIn n) = false
 is_type_in TypeIn = true
 is_type_in NumberOut = false
 is_type_in NoKind = false
 
 -- whether two kinds are one
-abbrev pub is_same_kind : Kind → Kind → Bool
+abbrev pub is_same_kind : TermKind → TermKind → Bool
 is_same_kind (NumberIn n) k = is_number_in k
 is_same_kind TypeIn k = is_type_in k
 is_same_kind NumberOut k = is_output k

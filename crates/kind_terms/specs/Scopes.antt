@@ -6,8 +6,8 @@ use Rattle.tlb_syntax.specs.declared.tree.ParamKind.TheVariants.{Nat, Ty}
 use Rattle.tlb_syntax.specs.Tree.{ExprView, ExprList, ItemView, ItemList, TypeView, SchemaView, lit, named, nat32, bits, below, up_to, plus, star, out, ref, group, no_exprs, an_expr, plain, when, when_bit, implicit, check, explicit, no_items, an_item}
 use Rattle.kind_terms.specs.declared.scope.Meaning.{Meaning}
 use Rattle.kind_terms.specs.declared.scope.Meaning.TheVariants.{ImplicitNumber, FieldNumber, TypeVariable, OtherField}
-use Rattle.kind_terms.specs.declared.kind.Kind.{Kind}
-use Rattle.kind_terms.specs.declared.kind.Kind.TheVariants.{NumberIn, TypeIn, NumberOut, NoKind}
+use Rattle.kind_terms.specs.declared.kind.TermKind.{TermKind}
+use Rattle.kind_terms.specs.declared.kind.TermKind.TheVariants.{NumberIn, TypeIn, NumberOut, NoKind}
 use Rattle.kind_terms.specs.Words.{Word, is_among}
 use Rattle.kind_terms.specs.Params.{option_list}
 use Rattle.kind_terms.specs.Types.{type_named, parameters, has_exprs}
@@ -16,12 +16,12 @@ use Rattle.kind_terms.specs.Sought.{sought}
 
 -- ---- what names stand for
 
-pub record Entry : Type 0 where
+pub record Binding : Type 0 where
   pub name : Word
   pub meaning : Meaning
 
-abbrev pub entry : Word → Meaning → Entry
-entry x m = record { name = x; meaning = m }
+abbrev pub binding : Word → Meaning → Binding
+binding x m = record { name = x; meaning = m }
 
 abbrev pub number_or_other : Bool → Meaning
 number_or_other true = FieldNumber
@@ -35,11 +35,11 @@ implicit_meaning Nat = ImplicitNumber
 implicit_meaning Ty = TypeVariable
 
 -- what an item brings into scope
-abbrev pub declares : ItemView → List Entry
-declares (implicit x k) = entry x (implicit_meaning k) ∷ []
+abbrev pub declares : ItemView → List Binding
+declares (implicit x k) = binding x (implicit_meaning k) ∷ []
 declares (check a op b) = []
 declares (explicit None t) = []
-declares (explicit (Some x) t) = entry x (field_meaning t) ∷ []
+declares (explicit (Some x) t) = binding x (field_meaning t) ∷ []
 
 -- the name of a field
 abbrev pub field_names : ItemView → List Word
@@ -50,13 +50,13 @@ field_names (explicit x t) = option_list x
 -- ---- what an item makes known
 
 -- the x of an argument `~x` at an output place
-abbrev pub given_out : Kind → ExprView → List Word
+abbrev pub given_out : TermKind → ExprView → List Word
 given_out NumberOut e = option_list (out_name e)
 given_out (NumberIn n) e = []
 given_out TypeIn e = []
 given_out NoKind e = []
 
-abbrev pub all_given_out : List Kind → ExprList → List Word
+abbrev pub all_given_out : List TermKind → ExprList → List Word
 all_given_out ks no_exprs = []
 all_given_out [] (an_expr e es) = []
 all_given_out (k ∷ ks) (an_expr e es) = given_out k e ++ all_given_out ks es
@@ -102,27 +102,27 @@ pub record Scope : Type 0 where
   -- the declarations of types
   pub types : SchemaView
   -- the names in scope of the records around
-  pub around : List Entry
+  pub around : List Binding
   -- the names in scope of the same record
-  pub own : List Entry
+  pub own : List Binding
   -- the variables that are known
   pub known : List Word
 
--- behind an item
-abbrev pub behind : Scope → ItemView → Scope
-behind s i = record s { own = s.own ++ declares i; known = s.known ++ makes_known s.types i }
+-- after an item
+abbrev pub after : Scope → ItemView → Scope
+after s i = record s { own = s.own ++ declares i; known = s.known ++ makes_known s.types i }
 
--- behind all items of a record
+-- after all items of a record
 abbrev pub at_end : Scope → ItemList → Scope
 at_end s no_items = s
-at_end s (an_item i is) = at_end (behind s i) is
+at_end s (an_item i is) = at_end (after s i) is
 
 -- at the beginning of a record inside
 abbrev pub inside : Scope → Scope
 inside s = record s { around = s.around ++ s.own; own = [] }
 
--- what the first entry of that name stands for
-abbrev pub meaning_in : List Entry → Word → Option Meaning
+-- what the first binding of that name stands for
+abbrev pub meaning_in : List Binding → Word → Option Meaning
 meaning_in [] x = None
 meaning_in (e ∷ es) x = if bytes_eq e.name x then Some e.meaning else meaning_in es x
 

@@ -4,18 +4,18 @@ use Rattle.std.specs.Prelude.{ℕ, suc, List, [], ◌∷◌, Bool, true, false, 
 use Rattle.tlb_syntax.specs.Tree.{SchemaView, ExprList, no_exprs, an_expr}
 use Rattle.kind_terms.specs.Words.{Word, Family, families, is_among, has_width}
 use Rattle.kind_terms.specs.Dictionaries.{hashmap, hashmap_e, of_type}
-use Rattle.kind_terms.specs.declared.kind.Kind.{Kind}
-use Rattle.kind_terms.specs.declared.kind.Kind.TheVariants.{NumberIn, TypeIn}
+use Rattle.kind_terms.specs.declared.kind.TermKind.{TermKind}
+use Rattle.kind_terms.specs.declared.kind.TermKind.TheVariants.{NumberIn, TypeIn}
 use Rattle.kind_terms.specs.Params.{kinds}
 
 pub data TypeNamed : Type 0 where
   no_type : TypeNamed
   -- a basic type with its parameters: other arguments are a mismatch of kinds
-  basic : List Kind → TypeNamed
+  basic : List TermKind → TypeNamed
   -- a declared type or a dictionary with its parameters: other arguments are a fault of arity
-  declared : List Kind → TypeNamed
+  declared : List TermKind → TypeNamed
 
-abbrev pub family_kinds : Option Family → List Kind
+abbrev pub family_kinds : Option Family → List TermKind
 family_kinds None = []
 family_kinds (Some f) = NumberIn f.most ∷ []
 
@@ -31,7 +31,7 @@ declared_as [] = no_type
 declared_as (c ∷ cs) = declared (kinds c)
 
 -- the kinds of its parameters, by the first of a type's declarations
-abbrev pub first_kinds : SchemaView → Option (List Kind)
+abbrev pub first_kinds : SchemaView → Option (List TermKind)
 first_kinds [] = None
 first_kinds (c ∷ cs) = Some (kinds c)
 
@@ -66,7 +66,7 @@ is_basic no_type = false
 is_basic (basic ks) = true
 is_basic (declared ks) = false
 
-abbrev pub parameters : TypeNamed → List Kind
+abbrev pub parameters : TypeNamed → List TermKind
 parameters no_type = []
 parameters (basic ks) = ks
 parameters (declared ks) = ks

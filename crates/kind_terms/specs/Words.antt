@@ -22,9 +22,9 @@ is_plain_number (d ∷ e ∷ ds) = (is_ascii_digit d && not (d == 48)) && list_a
 abbrev pub plain_number : List ℕ → Option ℕ
 plain_number digits = if is_plain_number digits then Some (decimal_onto 0 digits) else None
 
--- the number that stands behind the word in the name
-abbrev pub number_behind : Word → Word → Option ℕ
-number_behind word x = if starts_with nat_eq x word then plain_number (drop (length word) x) else None
+-- the number that stands after the word in the name
+abbrev pub number_after : Word → Word → Option ℕ
+number_after word x = if starts_with nat_eq x word then plain_number (drop (length word) x) else None
 
 -- a type of every width, by its word and its greatest width
 pub record Family : Type 0 where
@@ -45,9 +45,9 @@ families = uint ∷ int ∷ bits ∷ []
 
 -- a name's width, where it is the word of the family and then a number
 abbrev pub width_in : Family → Word → Option ℕ
-width_in f x = number_behind f.word x
+width_in f x = number_after f.word x
 
--- uint, int and bits with a width behind them
+-- uint, int and bits with a width after them
 abbrev pub has_width : Word → Bool
 has_width x = list_any (λ f. is_some (width_in f x)) families
 

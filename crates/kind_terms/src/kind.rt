@@ -14,7 +14,7 @@ pub const GREATEST: u32 = u32::MAX;
 
 /// The kind of a parameter.
 #[derive(Clone, Copy, Debug, PartialEq, Eq)]
-pub enum Kind {
+pub enum TermKind {
     /// An input number, which without variables is at most so much.
     NumberIn(u32),
     /// An input type.
@@ -25,24 +25,24 @@ pub enum Kind {
     NoKind,
 }
 
-impl Kind {
-    pub fn is_same(self, other: Kind) -> bool
+impl TermKind {
+    pub fn is_same(self, other: TermKind) -> bool
         ensures { result ≡ is_same_kind self other }
     {
         match self {
-            Kind::NumberIn(_) => matches!(other, Kind::NumberIn(_)),
-            Kind::TypeIn => matches!(other, Kind::TypeIn),
-            Kind::NumberOut => matches!(other, Kind::NumberOut),
-            Kind::NoKind => matches!(other, Kind::NoKind),
+            TermKind::NumberIn(_) => matches!(other, TermKind::NumberIn(_)),
+            TermKind::TypeIn => matches!(other, TermKind::TypeIn),
+            TermKind::NumberOut => matches!(other, TermKind::NumberOut),
+            TermKind::NoKind => matches!(other, TermKind::NoKind),
         }
     }
 }
 
 /// Whether one of the parameters is an output.
-pub fn has_outputs(kinds: &[Kind]) -> bool
+pub fn has_outputs(kinds: &[TermKind]) -> bool
     ensures { result ≡ have_outputs kinds.now }
 {
-    kinds.iter().any(|kind| matches!(kind, Kind::NumberOut))
+    kinds.iter().any(|kind| matches!(kind, TermKind::NumberOut))
 }
 
 // The kind of the first implicit field of that name.
@@ -62,34 +62,34 @@ fn implicit_kind(list: &[Item], name: &Name) -> Option<ParamKind>
 /// The kind of a parameter, by the items of its constructor: `~e` is an output number; a literal, and `v` or `v + k`
 /// with an implicit number v, is an input number; an implicit type variable is an input type.
 #[tactic(auto, using(crate::proofs::ParamKinds::kind_of_form))]
-pub fn kind_of(list: &[Item], e: &Expr) -> Kind
+pub fn kind_of(list: &[Item], e: &Expr) -> TermKind
     ensures { result ≡ kind_of_param (items list.now) (expr e.now) }
 {
     if is_out(e) {
-        return Kind::NumberOut;
+        return TermKind::NumberOut;
     }
     if is_literal(e) {
-        return Kind::NumberIn(GREATEST);
+        return TermKind::NumberIn(GREATEST);
     }
     let Some(name) = variable_of(e) else {
-        return Kind::NoKind;
+        return TermKind::NoKind;
     };
     match implicit_kind(list, name) {
-        Some(ParamKind::Nat) => Kind::NumberIn(GREATEST),
+        Some(ParamKind::Nat) => TermKind::NumberIn(GREATEST),
         Some(ParamKind::Ty) => {
             if bare_name(e).is_some() {
-                Kind::TypeIn
+                TermKind::TypeIn
             } else {
-                Kind::NoKind
+                TermKind::NoKind
             }
         }
-        None => Kind::NoKind,
+        None => TermKind::NoKind,
     }
 }
 
 /// The kinds of a constructor's parameters.
 #[tactic(auto, using(crate::proofs::ParamKinds::kinds_of_exprs_each))]
-pub fn kinds(alloc: Global, constructor: &Constructor) -> Result<Items<Kind>, AllocError>
+pub fn kinds(alloc: Global, constructor: &Constructor) -> Result<Items<TermKind>, AllocError>
     ensures { IfOk result (λ ks. ks ≡ kinds_of_params (constructor_view constructor.now)) }
 {
     let mut kinds = Items::new(alloc);

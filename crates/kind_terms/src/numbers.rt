@@ -1,8 +1,7 @@
 //! The values of numbers without variables.
 ghost use Rattle.std.specs.Prelude.{◌≡◌, ◌-◌, ◌^◌, map, min, option_map};
-ghost use Rattle.tlb_syntax.specs.Tree.{sum_of};
 ghost use Rattle.tlb_syntax.specs.View.{expr};
-ghost use Rattle.kind_terms.specs.Closed.{closed as closed_value, exceeds};
+ghost use Rattle.kind_terms.specs.Closed.{closed as closed_value, closed_total as total_of, exceeds};
 
 use tlb_syntax::Expr;
 
@@ -13,15 +12,19 @@ pub fn closed(e: &Expr) -> Option<u64>
 {
     match e {
         Expr::Lit(n) => Some(u64::from(*n)),
-        Expr::Sum(terms) => closed_sum(terms.as_slice()),
+        Expr::Sum(first, second, more) => {
+            let two = closed(first.get())?.saturating_add(closed(second.get())?);
+            Some(two.saturating_add(closed_total(more.as_slice())?))
+        }
         Expr::Star(left, right) => Some(closed(left.get())?.saturating_mul(closed(right.get())?)),
         _ => None,
     }
 }
 
+// The sum of all these.
 #[cycle(closed)]
-fn closed_sum(terms: &[Expr]) -> Option<u64>
-    ensures { result ≡ option_map (min (2 ^ 64 - 1)) (closed_value (sum_of (map expr terms.now))) }
+fn closed_total(terms: &[Expr]) -> Option<u64>
+    ensures { result ≡ option_map (min (2 ^ 64 - 1)) (total_of (map expr terms.now)) }
 {
     let mut total: u64 = 0;
     for term in terms {

@@ -9,7 +9,7 @@ ghost use Rattle.kind_terms.specs.Outs.{joined as join, outs_by, outs_of};
 ghost use Rattle.kind_terms.specs.Scopes.{all_given_out, given_out, makes_known, outputs_of, own_number, type_outputs};
 ghost use Rattle.kind_terms.specs.Sought.{can_be_sought as may_be_sought, cancels as is_cancelling, holds_out as has_out, sides, sought as sought_by, sought_in as sought_by_equation, unknown_of as unknown_by, uses};
 
-use crate::kind::Kind;
+use crate::kind::TermKind;
 use crate::numbers::closed;
 use crate::shape::{bare_name, is_field_of_numbers, out_name};
 use crate::types::Types;
@@ -53,7 +53,10 @@ fn outs_in<'a>(e: &'a Expr) -> Outs<'a>
         Expr::Bits(args) => outs_in_all(args.as_slice()),
         Expr::Below(args) => outs_in_all(args.as_slice()),
         Expr::UpTo(args) => outs_in_all(args.as_slice()),
-        Expr::Sum(terms) => outs_in_all(terms.as_slice()),
+        Expr::Sum(first, second, more) => joined(
+            joined(outs_in(first.get()), outs_in(second.get())),
+            outs_in_all(more.as_slice()),
+        ),
         Expr::Star(left, right) => joined(outs_in(left.get()), outs_in(right.get())),
         Expr::Out(inner) => joined(Outs::One(bare_name(inner.get())), outs_in(inner.get())),
         Expr::Ref(inner) => outs_in(inner.get()),
@@ -101,7 +104,9 @@ fn occurrences(e: &Expr, name: &Name) -> usize
         Expr::Bits(args) => occurrences_in(args.as_slice(), name),
         Expr::Below(args) => occurrences_in(args.as_slice(), name),
         Expr::UpTo(args) => occurrences_in(args.as_slice(), name),
-        Expr::Sum(terms) => occurrences_in(terms.as_slice(), name),
+        Expr::Sum(first, second, more) => occurrences(first.get(), name)
+            .saturating_add(occurrences(second.get(), name))
+            .saturating_add(occurrences_in(more.as_slice(), name)),
         Expr::Star(left, right) => occurrences(left.get(), name).saturating_add(occurrences(
             right.get(),
             name,
@@ -136,7 +141,9 @@ fn cancels(e: &Expr) -> bool
         Expr::Bits(args) => cancels_in(args.as_slice()),
         Expr::Below(args) => cancels_in(args.as_slice()),
         Expr::UpTo(args) => cancels_in(args.as_slice()),
-        Expr::Sum(terms) => cancels_in(terms.as_slice()),
+        Expr::Sum(first, second, more) => {
+            cancels(first.get()) || cancels(second.get()) || cancels_in(more.as_slice())
+        }
         Expr::Star(left, right) => {
             is_product_cancelled(left.get(), right.get())
                 || cancels(left.get())
@@ -219,23 +226,27 @@ pub fn sought<'a>(left: &'a Expr, op: Op, right: &'a Expr) -> Option<&'a Name>
 }
 
 // Adds the x of an argument `~x` at an output place.
-fn add_output<'a>(kind: Kind, arg: &'a Expr, known: &mut Items<&'a Name>) -> Result<(), AllocError>
+fn add_output<'a>(
+    kind: TermKind,
+    arg: &'a Expr,
+    known: &mut Items<&'a Name>,
+) -> Result<(), AllocError>
     ensures names { OnOk result (map (λ x. x.now) known.new ≡ map (λ x. x.now) known.old ++ given_out kind (expr arg.now)) }
     ensures kept { OnOk result (take (length known.old) known.new ≡ known.old) }
 {
     match kind {
-        Kind::NumberOut => match out_name(arg) {
+        TermKind::NumberOut => match out_name(arg) {
             Some(name) => known.push(name),
             None => Ok(()),
         },
-        Kind::NumberIn(_) => Ok(()),
-        Kind::TypeIn => Ok(()),
-        Kind::NoKind => Ok(()),
+        TermKind::NumberIn(_) => Ok(()),
+        TermKind::TypeIn => Ok(()),
+        TermKind::NoKind => Ok(()),
     }
 }
 
 fn add_outputs<'a>(
-    kinds: &[Kind],
+    kinds: &[TermKind],
     args: &'a [Expr],
     known: &mut Items<&'a Name>,
 ) -> Result<(), AllocError>
@@ -267,11 +278,7 @@ fn add_outputs_of<'a>(
             let named = types.named(name.text(), !args.is_empty());
             add_outputs(named.parameters(), args.as_slice(), known)
         }
-        Expr::Sum(terms) => match terms.as_slice() {
-            [] => Ok(()),
-            [only] => add_outputs_of(types, only, known),
-            [_, _, ..] => Ok(()),
-        },
+        Expr::Sum(_, _, _) => Ok(()),
         Expr::Lit(_) => Ok(()),
         Expr::Nat32 => Ok(()),
         Expr::Bits(_) => Ok(()),

@@ -3,7 +3,7 @@ ghost use Rattle.std.specs.Prelude.{◌≡◌, map, option_map, option_to_list, 
 ghost use Rattle.tlb_syntax.specs.View.{item};
 ghost use Rattle.kind_terms.specs.Params.{option_list};
 ghost use Rattle.kind_terms.specs.Scopes.{declares as declared_by, field_names, is_number_meaning, meaning_in as meaning_among};
-ghost use Rattle.kind_terms.specs.Views.{entry_of};
+ghost use Rattle.kind_terms.specs.Views.{binding_of};
 ghost use Rattle.kind_terms.specs.Words.{is_among as is_word_among};
 
 use crate::shape::is_field_of_numbers;
@@ -30,18 +30,18 @@ impl Meaning {
 
 /// A name and what it stands for.
 #[derive(Clone, Copy)]
-pub struct Entry<'a> {
+pub struct Binding<'a> {
     pub name: &'a Name,
     pub meaning: Meaning,
 }
 
-/// What the first entry of that name stands for.
-pub fn meaning_in(entries: &[Entry<'_>], name: &Name) -> Option<Meaning>
-    ensures { result ≡ meaning_among (map entry_of entries.now) name.now }
+/// What the first binding of that name stands for.
+pub fn meaning_in(bindings: &[Binding<'_>], name: &Name) -> Option<Meaning>
+    ensures { result ≡ meaning_among (map binding_of bindings.now) name.now }
 {
-    for entry in entries {
-        if entry.name.text() == name.text() {
-            return Some(entry.meaning);
+    for binding in bindings {
+        if binding.name.text() == name.text() {
+            return Some(binding.meaning);
         }
     }
     None
@@ -59,15 +59,15 @@ pub fn is_among(names: &[&Name], name: &Name) -> bool
 }
 
 /// What an item brings into scope.
-pub fn declares(i: &Item) -> Option<Entry<'_>>
-    ensures { option_to_list (option_map entry_of result) ≡ declared_by (item i.now) }
+pub fn declares(i: &Item) -> Option<Binding<'_>>
+    ensures { option_to_list (option_map binding_of result) ≡ declared_by (item i.now) }
 {
     match i {
-        Item::Implicit(name, ParamKind::Nat) => Some(Entry {
+        Item::Implicit(name, ParamKind::Nat) => Some(Binding {
             name,
             meaning: Meaning::ImplicitNumber,
         }),
-        Item::Implicit(name, ParamKind::Ty) => Some(Entry {
+        Item::Implicit(name, ParamKind::Ty) => Some(Binding {
             name,
             meaning: Meaning::TypeVariable,
         }),
@@ -78,7 +78,7 @@ pub fn declares(i: &Item) -> Option<Entry<'_>>
             } else {
                 Meaning::OtherField
             };
-            Some(Entry { name, meaning })
+            Some(Binding { name, meaning })
         }
     }
 }

@@ -1,4 +1,4 @@
-//! Questions on the outermost form of an expression. A sum of one term stands for that term.
+//! Questions on the outermost form of an expression.
 ghost use Rattle.std.specs.Prelude.{◌≡◌, option_map};
 ghost use Rattle.tlb_syntax.specs.View.{expr, field_type};
 ghost use Rattle.kind_terms.specs.Params.{bare_name as bare_name_of, is_literal as is_literal_form, variable_of as variable_in};
@@ -13,11 +13,7 @@ pub fn bare_name(e: &Expr) -> Option<&Name>
 {
     match e {
         Expr::Named(name, args) => { if args.is_empty() { Some(name) } else { None } }
-        Expr::Sum(terms) => match terms.as_slice() {
-            [] => None,
-            [only] => bare_name(only),
-            [_, _, ..] => None,
-        },
+        Expr::Sum(_, _, _) => None,
         _ => None,
     }
 }
@@ -28,11 +24,7 @@ pub fn is_literal(e: &Expr) -> bool
 {
     match e {
         Expr::Lit(_) => true,
-        Expr::Sum(terms) => match terms.as_slice() {
-            [] => true,
-            [only] => is_literal(only),
-            [_, _, ..] => false,
-        },
+        Expr::Sum(_, _, _) => false,
         _ => false,
     }
 }
@@ -43,11 +35,7 @@ pub fn out_name(e: &Expr) -> Option<&Name>
 {
     match e {
         Expr::Out(inner) => bare_name(inner.get()),
-        Expr::Sum(terms) => match terms.as_slice() {
-            [] => None,
-            [only] => out_name(only),
-            [_, _, ..] => None,
-        },
+        Expr::Sum(_, _, _) => None,
         _ => None,
     }
 }
@@ -58,11 +46,7 @@ pub fn is_out(e: &Expr) -> bool
 {
     match e {
         Expr::Out(_) => true,
-        Expr::Sum(terms) => match terms.as_slice() {
-            [] => false,
-            [only] => is_out(only),
-            [_, _, ..] => false,
-        },
+        Expr::Sum(_, _, _) => false,
         _ => false,
     }
 }
@@ -72,18 +56,13 @@ pub fn variable_of(e: &Expr) -> Option<&Name>
     ensures { option_map (λ x. x.now) result ≡ variable_in (expr e.now) }
 {
     match e {
-        Expr::Sum(terms) => match terms.as_slice() {
-            [] => None,
-            [only] => variable_of(only),
-            [variable, literal] => {
-                if is_literal(literal) {
-                    bare_name(variable)
-                } else {
-                    None
-                }
+        Expr::Sum(variable, literal, more) => {
+            if more.is_empty() && is_literal(literal.get()) {
+                bare_name(variable.get())
+            } else {
+                None
             }
-            [_, _, _, ..] => None,
-        },
+        }
         _ => bare_name(e),
     }
 }
@@ -94,11 +73,7 @@ pub fn is_of_numbers(e: &Expr) -> bool
 {
     match e {
         Expr::Nat32 | Expr::Bits(_) | Expr::Below(_) | Expr::UpTo(_) => true,
-        Expr::Sum(terms) => match terms.as_slice() {
-            [] => false,
-            [only] => is_of_numbers(only),
-            [_, _, ..] => false,
-        },
+        Expr::Sum(_, _, _) => false,
         _ => false,
     }
 }

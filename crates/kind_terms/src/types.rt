@@ -5,9 +5,9 @@ ghost use Rattle.tlb_syntax.specs.Tree.{SchemaView};
 ghost use Rattle.kind_terms.specs.Dictionaries.{of_type};
 ghost use Rattle.kind_terms.specs.Types.{basic as is_basic_with, declared as is_declared_with, family_kinds as kinds_of_family, family_named, first_kinds, no_type as is_no_type, parameters as parameters_of, type_named};
 ghost use Rattle.kind_terms.specs.Views.{constructors_by, kinds_by, named_by};
-ghost use Rattle.kind_terms.specs.Found.{AreFound};
+ghost use Rattle.kind_terms.specs.TypeIndex.{IsTypeIndex};
 
-use crate::kind::{Kind, kinds};
+use crate::kind::{TermKind, kinds};
 use crate::words::{has_width, is_any_or_cell, is_family, is_map};
 use sqlite_items::Items;
 use std::alloc::{AllocError, Global};
@@ -15,20 +15,20 @@ use std::collections::HashMap;
 use std::marker::Model;
 use tlb_syntax::Constructor;
 
-const OF_UINT: &[Kind] = &[Kind::NumberIn(256)];
+const OF_UINT: &[TermKind] = &[TermKind::NumberIn(256)];
 
-const OF_INT: &[Kind] = &[Kind::NumberIn(257)];
+const OF_INT: &[TermKind] = &[TermKind::NumberIn(257)];
 
-const OF_BITS: &[Kind] = &[Kind::NumberIn(1023)];
+const OF_BITS: &[TermKind] = &[TermKind::NumberIn(1023)];
 
-const OF_DICTIONARY: &[Kind] = &[Kind::NumberIn(1023), Kind::TypeIn];
+const OF_DICTIONARY: &[TermKind] = &[TermKind::NumberIn(1023), TermKind::TypeIn];
 
-const OF_NOTHING: &[Kind] = &[];
+const OF_NOTHING: &[TermKind] = &[];
 
 /// The declarations of a type so far, and the kinds of the parameters, which the first of them fixes.
 #[derive(Drop)]
 pub struct Declared<'a> {
-    pub kinds: Items<Kind>,
+    pub kinds: Items<TermKind>,
     pub constructors: Items<&'a Constructor>,
 }
 
@@ -46,12 +46,12 @@ pub enum Sort {
 #[derive(Clone, Copy)]
 pub struct TypeNamed<'t> {
     pub sort: Sort,
-    pub kinds: &'t [Kind],
+    pub kinds: &'t [TermKind],
 }
 
 impl<'t> TypeNamed<'t> {
     /// The kinds of its parameters; what is no type has none.
-    pub fn parameters(self) -> &'t [Kind]
+    pub fn parameters(self) -> &'t [TermKind]
         ensures { result.now ≡ parameters_of (named_by self.entry) }
     {
         match self.sort {
@@ -62,7 +62,7 @@ impl<'t> TypeNamed<'t> {
     }
 }
 
-fn basic_type(kinds: &[Kind]) -> TypeNamed<'_>
+fn basic_type(kinds: &[TermKind]) -> TypeNamed<'_>
     ensures { named_by result ≡ is_basic_with kinds.now }
 {
     TypeNamed {
@@ -71,7 +71,7 @@ fn basic_type(kinds: &[Kind]) -> TypeNamed<'_>
     }
 }
 
-fn declared_type(kinds: &[Kind]) -> TypeNamed<'_>
+fn declared_type(kinds: &[TermKind]) -> TypeNamed<'_>
     ensures { named_by result ≡ is_declared_with kinds.now }
 {
     TypeNamed {
@@ -91,7 +91,7 @@ pub fn no_type<'t>() -> TypeNamed<'t>
 }
 
 // The parameters of a family of basic types.
-fn family_kinds<'t>(name: &[u8]) -> &'t [Kind]
+fn family_kinds<'t>(name: &[u8]) -> &'t [TermKind]
     ensures { result.now ≡ kinds_of_family (family_named name.now) }
 {
     if name == b"uint".as_slice() {
@@ -105,7 +105,7 @@ fn family_kinds<'t>(name: &[u8]) -> &'t [Kind]
     }
 }
 
-/// The types that the declarations gone through declare. Contracts see it as these declarations, in order.
+/// The types that the declarations seen so far declare. Contracts see it as these declarations, in order.
 #[derive(Drop)]
 pub struct Types<'a> {
     constructors: Items<&'a Constructor>,
@@ -118,7 +118,7 @@ impl<'a> Model for Types<'a> {
     ghost use Rattle.tlb_syntax.specs.declared.tree.Constructor.{Constructor};
     ghost use Rattle.tlb_syntax.specs.contracts.tree.Constructor as e;
     ghost use Rattle.tlb_syntax.specs.View.{constructor};
-    ghost use Rattle.kind_terms.specs.Found.{AreFound};
+    ghost use Rattle.kind_terms.specs.TypeIndex.{IsTypeIndex};
 
     ghost Value = { List Constructor };
 
@@ -126,7 +126,7 @@ impl<'a> Model for Types<'a> {
 
     ghost view = { λ t. map (λ c. c.now) t.constructors };
 
-    ghost invariant = { λ t. AreFound t.by_name (map constructor (map (λ c. c.now) t.constructors)) };
+    ghost invariant = { λ t. IsTypeIndex t.by_name (map constructor (map (λ c. c.now) t.constructors)) };
 }
 
 // The first declaration of its type.
@@ -135,7 +135,7 @@ fn first_declared<'a>(
     by_name: &mut HashMap<&'a [u8], Declared<'a>>,
     added: &'a Constructor,
 ) -> Result<(), AllocError>
-    ensures { OnOk result ((s : SchemaView) → of_type s added.now.result ≡ [] → AreFound by_name.old s → AreFound by_name.new (s ++ constructor added.now ∷ [])) }
+    ensures { OnOk result ((s : SchemaView) → of_type s added.now.result ≡ [] → IsTypeIndex by_name.old s → IsTypeIndex by_name.new (s ++ constructor added.now ∷ [])) }
 {
     let kinds = kinds(alloc, added)?;
     let mut constructors = Items::new(alloc);
@@ -153,7 +153,7 @@ fn add_to<'a>(
     by_name: &mut HashMap<&'a [u8], Declared<'a>>,
     added: &'a Constructor,
 ) -> Result<(), AllocError>
-    ensures { OnOk result ((s : SchemaView) → AreFound by_name.old s → AreFound by_name.new (s ++ constructor added.now ∷ [])) }
+    ensures { OnOk result ((s : SchemaView) → IsTypeIndex by_name.old s → IsTypeIndex by_name.new (s ++ constructor added.now ∷ [])) }
 {
     match by_name.get_mut(added.result.text()) {
         None => first_declared(alloc, by_name, added),

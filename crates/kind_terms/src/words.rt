@@ -5,7 +5,7 @@ ghost use Rattle.std.specs.Char.{is_ascii_digit};
 ghost use Rattle.tlb_syntax.specs.Lexeme.{decimal_onto};
 ghost use Rattle.kind_terms.specs.Dictionaries.{hashmap, hashmap_e, is_dictionary as is_dictionary_name};
 ghost use Rattle.kind_terms.specs.Closed.{exceeds as is_past, is_wide_in as is_wide_of};
-ghost use Rattle.kind_terms.specs.Words.{families, is_among, has_width as has_a_width, is_built_in as is_built_in_name, is_plain_number as is_plain, number_behind, has_some_width as has_a_positive_width};
+ghost use Rattle.kind_terms.specs.Words.{families, is_among, has_width as has_a_width, is_built_in as is_built_in_name, is_plain_number as is_plain, number_after, has_some_width as has_a_positive_width};
 ghost use Rattle.kind_terms.specs.Types.{is_family as is_family_name};
 
 fn are_digits(bytes: &[u8]) -> bool
@@ -28,7 +28,7 @@ fn is_plain_number(digits: &[u8]) -> bool
 
 // Whether the name is the word and then such a number.
 fn is_numbered(word: &[u8], name: &[u8]) -> bool
-    ensures { result ≡ is_some (number_behind word.now name.now) }
+    ensures { result ≡ is_some (number_after word.now name.now) }
 {
     name.starts_with(word) && is_plain_number(&name[word.len()..])
 }
@@ -49,7 +49,7 @@ fn exceeds(digits: &[u8], most: u32) -> bool
 }
 
 fn is_wide_in(word: &[u8], most: u32, name: &[u8]) -> bool
-    ensures { result ≡ is_past most (number_behind word.now name.now) }
+    ensures { result ≡ is_past most (number_after word.now name.now) }
 {
     name.starts_with(word)
         && is_plain_number(&name[word.len()..])
@@ -63,7 +63,7 @@ pub fn has_width(name: &[u8]) -> bool
     is_numbered(b"uint", name) || is_numbered(b"int", name) || is_numbered(b"bits", name)
 }
 
-/// Whether the width behind the name of a family is beyond its greatest.
+/// Whether the width after the name of a family is beyond its greatest.
 pub fn is_wide(name: &[u8]) -> bool
     ensures { result ≡ list_any (is_wide_of name.now) families }
 {

@@ -14,7 +14,7 @@ use Rattle.syntax_check.specs.declared.machine.Frame.{Frame}
 use Rattle.syntax_check.specs.declared.machine.Frame.TheVariants as frames
 use Rattle.syntax_check.specs.Machine.{State, at, run, given_to, schema_start, word_start, is_schema_end, is_word_end}
 use Rattle.syntax_check.proofs.Trail.{results}
-use Rattle.syntax_check.proofs.Fits.{Text, a_schema, a_word, SumFits, in_paren, on_left, on_right, in_word, ItemsFit, in_record, in_declaration, SpotFits, operand, argument, width, field, guarded, param, Fits, FitsState, fits_start, fits_headed, fits_items, fits_brace, fits_brace_name, fits_kind, fits_kind_end, fits_item_name, fits_item_blank, fits_term, fits_apply, fits_applied, fits_operated, fits_typed, fits_bit, fits_bit_end, fits_result, fits_params, run_keeps}
+use Rattle.syntax_check.proofs.Fits.{Text, a_schema, a_word, SumFits, in_paren, on_left, on_right, in_word, ItemsFit, in_record, in_declaration, SpotFits, operand, argument, width, field, guarded, param, Fits, FitsState, fits_start, fits_marked, fits_headed, fits_items, fits_brace, fits_brace_name, fits_kind, fits_kind_end, fits_item_name, fits_item_blank, fits_term, fits_apply, fits_applied, fits_operated, fits_typed, fits_bit, fits_bit_end, fits_result, fits_params, run_keeps}
 
 -- ---- whether the result of the declaration is behind
 
@@ -118,6 +118,7 @@ mutual
 closing : {t : Text} {mode : Mode} {below : List Frame} → Fits t mode below → (m : Bounds) (x : List ℕ) (lv : Count)
     → Closing t m x (at mode lv below) (is_result_behind (at mode lv below))
 closing fits_start m x lv = ([], at modes.Start lv [], refl, refl, refl)
+closing fits_marked m x lv = (word x ∷ sign Equal ∷ word x ∷ sign Semicolon ∷ [], at modes.Start lv [], refl, refl, refl)
 closing fits_headed m x lv = (sign Equal ∷ word x ∷ sign Semicolon ∷ [], at modes.Start lv [], refl, refl, refl)
 closing (fits_items {k = n} f) m x lv = close_items f m x settled n lv
 closing (fits_brace {k = n} f) m x lv =

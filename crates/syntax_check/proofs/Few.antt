@@ -5,14 +5,14 @@ use Rattle.tlb_syntax.specs.Grammar.{Bounds, Declarations}
 use Rattle.tlb_syntax.specs.Written.{CanGoOn, HasFew, unbounded}
 use Rattle.syntax_check.specs.Machine.{State, run, schema_start, is_schema_end}
 use Rattle.syntax_check.specs.Judge.{is_result, count_of}
-use Rattle.syntax_check.proofs.Phase.{Phase, between, before, behind, phase_of, Turn, opening, within, naming, further, closing, in_a_word, nowhere}
+use Rattle.syntax_check.proofs.Phase.{Phase, between, marked, before, behind, unnamed, phase_of, Turn, opening, marking, heading, within, naming, further, closing, in_a_word, nowhere}
 use Rattle.syntax_check.proofs.Trail.{results, results_on}
 use Rattle.syntax_check.proofs.Runs.{schema_runs, schema_results}
 use Rattle.syntax_check.proofs.Said.{schema_said}
 use Rattle.syntax_check.proofs.Ending.{SchemaEnding, schema_ending}
 use Rattle.syntax_check.proofs.Stepwise.{ok_one, run_front, run_join, one_run, step_ok}
 use Rattle.syntax_check.proofs.Counts.{count_more, fresh, count_fresh, FewNames, few_types, types_few}
-use Rattle.syntax_check.proofs.Named.{spelled, named, results_one, end_without, start_is_end, in_schema, schema_turn, behind_turn, three, between_start, not_at_result, one_result}
+use Rattle.syntax_check.proofs.Named.{spelled, named, results_one, end_without, start_is_end, in_schema, schema_turn, behind_turn, four, between_start, not_at_result, one_result}
 use Rattle.syntax_check.proofs.Fronts.{Language}
 
 abbrev pub schemas : Language Declarations
@@ -27,11 +27,6 @@ schemas = record {
 }
 
 -- ---- names within the limits
-
--- the declaration that is open counts too
-abbrev pub unnamed : Phase → ℕ
-unnamed before = 1
-unnamed _ = 0
 
 pub record Few (ph : Phase) (names : List (List ℕ)) : Type 0 where
   pub all : length names + unnamed ph ≤ 4096
@@ -66,13 +61,19 @@ few_named (tag b) names h room = few_same before behind names h (omega arith)
 few_named (sign s) names h room = few_same before behind names h (omega arith)
 few_named other names h room = few_same before behind names h (omega arith)
 
+few_opened : (b : Phase) (t : Lexeme) (names : List (List ℕ)) → unnamed b ≡ 1 → Few between names
+    → (length names ≡ 4096 → ⊥) → Few b (names ++ [])
+few_opened b t names one h room = subst (Few b) (sym (append-nil names))
+    (record { all = below_4096 (length names) (unnamed b) one (omega (arith, h.all)) room; of_one = h.of_one })
+  where
+    below_4096 : (n k : ℕ) → k ≡ 1 → n ≤ 4096 → (n ≡ 4096 → ⊥) → n + k ≤ 4096
+    below_4096 n k e a b = grind arith
+
 pub few_turn : (a b : Phase) (flag : Bool) (t : Lexeme) (names : List (List ℕ)) → Turn a flag b → in_schema a ≡ true
     → Few a names → Room a flag t names → Few b (names ++ (if flag then spelled t else []))
-few_turn _ _ _ t names opening e h room = subst (Few before) (sym (append-nil names))
-    (record { all = below_4096 (length names) (omega (arith, h.all)) (room.0 refl); of_one = h.of_one })
-  where
-    below_4096 : (n : ℕ) → n ≤ 4096 → (n ≡ 4096 → ⊥) → n + 1 ≤ 4096
-    below_4096 n a b = grind arith
+few_turn _ _ _ t names opening e h room = few_opened before t names refl h (room.0 refl)
+few_turn _ _ _ t names marking e h room = few_opened marked t names refl h (room.0 refl)
+few_turn _ _ _ t names heading e h room = few_same marked before names h (omega arith)
 few_turn _ _ _ t names within e h room = few_same before before names h (omega arith)
 few_turn _ _ _ t names naming e h room = few_named t names h (room.1 refl)
 few_turn _ _ _ t names further e h room = few_same behind behind names h (omega arith)
@@ -134,7 +135,7 @@ pub few_goes : (front : List Lexeme) (st : State) (names : List (List ℕ)) → 
     front ≡ Ok st → in_schema (phase_of st) ≡ true → names ≡ results unbounded (schema_start unbounded) front
     → Few (phase_of st) names →
     CanGoOn Declarations unbounded HasFew front
-few_goes front st names e w same few = go (three (phase_of st) w)
+few_goes front st names e w same few = go (four (phase_of st) w)
   where
     all_names : List (List ℕ)
     all_names = results unbounded (schema_start unbounded) front
@@ -153,10 +154,10 @@ few_goes front st names e w same few = go (three (phase_of st) w)
         let q = quiet k.0 st k.1 k.2 k.3 w ph in
         can_end front q.0 st q.1 e q.2 q.3 (none_more q.0 q.4)
 
-    one_more : phase_of st ≡ before → (more : List Lexeme) → results unbounded st more ≡ fresh all_names ∷ []
+    one_more : unnamed (phase_of st) ≡ 1 → (more : List Lexeme) → results unbounded st more ≡ fresh all_names ∷ []
         → FewNames (all_names ++ results unbounded st more)
     one_more ph more n = subst FewNames (sym (ap (λ z. all_names ++ z) n)) (record {
-      all = omega (arith, few_all.all, ap unnamed ph, length-append all_names (fresh all_names ∷ []));
+      all = omega (arith, few_all.all, ph, length-append all_names (fresh all_names ∷ []));
       of_one = λ x. each x (count_more x (fresh all_names) all_names);
     })
       where
@@ -167,11 +168,8 @@ few_goes front st names e w same few = go (three (phase_of st) w)
         each x (inl h) = omega (arith, h.1, count_fresh all_names)
         each x (inr h) = omega (arith, h, few_all.of_one x)
 
-    go : (phase_of st ≡ between) ⊎ ((phase_of st ≡ before) ⊎ (phase_of st ≡ behind)) → CanGoOn Declarations unbounded
-        HasFew front
-    go (inl ph) = quietly (inr ph)
-    go (inr (inr ph)) = quietly (inl ph)
-    go (inr (inl ph)) = ends k.4
+    named_later : unnamed (phase_of st) ≡ 1 → CanGoOn Declarations unbounded HasFew front
+    named_later ph = ends k.4
       where
         k : SchemaEnding unbounded (fresh all_names) st
         k = schema_ending unbounded front st e (fresh all_names)
@@ -181,11 +179,18 @@ few_goes front st names e w same few = go (three (phase_of st) w)
         ends (inl n) = can_end front k.0 st k.1 e k.2 k.3 (none_more k.0 n)
         ends (inr n) = can_end front k.0 st k.1 e k.2 k.3 (one_more ph k.0 n)
 
+    go : (phase_of st ≡ between) ⊎ ((phase_of st ≡ marked) ⊎ ((phase_of st ≡ before) ⊎ (phase_of st ≡ behind)))
+        → CanGoOn Declarations unbounded HasFew front
+    go (inl ph) = quietly (inr ph)
+    go (inr (inr (inr ph))) = quietly (inl ph)
+    go (inr (inl ph)) = named_later (ap unnamed ph)
+    go (inr (inr (inl ph))) = named_later (ap unnamed ph)
+
 -- what a text with few constructors says of a front of it
 pub few_of : (front : List Lexeme) (st : State) → run unbounded (schema_start unbounded) front ≡ Ok st
     → CanGoOn Declarations unbounded HasFew front →
     (rest : List (List ℕ)) × FewNames (results unbounded (schema_start unbounded) front ++ rest)
-    × (phase_of st ≡ before → 1 ≤ length rest)
+    × (unnamed (phase_of st) ≡ 1 → 1 ≤ length rest)
 few_of front st e c =
     let k = schema_runs unbounded (front ++ c.more) c.tree c.written in
     let w = run_front unbounded (schema_start unbounded) front c.more k.0 k.1 in

@@ -1,6 +1,6 @@
 -- The states that a run can be in: each open bracket stands where it may, and what is innermost fits the mode.
 use Rattle.std.proofs.Common.{◌≡◌, zero, suc, Bool, true, false, nat_le, bytes_eq, List, [], ◌∷◌, codes, Option, Some, None, Ok, Err, subst, if◌then◌else◌}
-use Rattle.tlb_syntax.specs.declared.sign.Sign.TheVariants.{Hash, Colon, Semicolon, Equal, CloseParen, OpenBrace, CloseBrace, CloseBracket, Question, Dot, Asterisk, Plus}
+use Rattle.tlb_syntax.specs.declared.sign.Sign.TheVariants.{Hash, Colon, Semicolon, Equal, CloseParen, OpenBrace, CloseBrace, CloseBracket, Question, Dot, Asterisk, Plus, Bang}
 use Rattle.tlb_syntax.specs.Lexeme.{Lexeme, word, blank, number, tag, sign}
 use Rattle.tlb_syntax.specs.Grammar.{Count, Bounds}
 use Rattle.syntax_check.specs.declared.machine.Side.{Side}
@@ -46,6 +46,7 @@ mutual
 
 pub data Fits : Text → Mode → List Frame → Type 0 where
   fits_start : Fits a_schema modes.Start []
+  fits_marked : Fits a_schema modes.Marked []
   fits_headed : Fits a_schema modes.Headed []
   fits_items : {t : Text} {k : Count} {below : List Frame} → ItemsFit t below → Fits t (modes.Items k) below
   fits_brace : {t : Text} {k : Count} {below : List Frame} → ItemsFit t below → Fits t (modes.Brace k) below
@@ -190,7 +191,11 @@ step_keeps : {t : Text} {mode : Mode} {below : List Frame} (m : Bounds) (lv : Co
     → Keeps t (step_mode m mode lv below u)
 step_keeps m lv (word x) fits_start = fits_headed
 step_keeps m lv blank fits_start = fits_headed
+step_keeps m lv (sign Bang) fits_start = fits_marked
 step_keeps m lv u fits_start = tt
+step_keeps m lv (word x) fits_marked = fits_headed
+step_keeps m lv blank fits_marked = fits_headed
+step_keeps m lv u fits_marked = tt
 step_keeps m lv (tag (Some b)) fits_headed = fits_items in_declaration
 step_keeps m lv (tag None) fits_headed = tt
 step_keeps m lv u fits_headed = items_keeps m m.items lv u in_declaration

@@ -7,7 +7,7 @@ use Rattle.syntax_check.specs.declared.machine.Side.TheVariants.{Paren, Left, Ri
 use Rattle.syntax_check.specs.declared.machine.Spot.{Spot}
 use Rattle.syntax_check.specs.declared.machine.Spot.TheVariants.{Operand, Argument, Width, Field, Guarded, Param}
 use Rattle.syntax_check.specs.declared.machine.Mode.{Mode}
-use Rattle.syntax_check.specs.declared.machine.Mode.TheVariants.{Start, Headed, Items, Brace, BraceName, Kind, KindEnd, ItemName, ItemBlank, Term, Apply, Applied, Operated, Typed, Bit, BitEnd, Result as ResultName, Params}
+use Rattle.syntax_check.specs.declared.machine.Mode.TheVariants.{Start, Marked, Headed, Items, Brace, BraceName, Kind, KindEnd, ItemName, ItemBlank, Term, Apply, Applied, Operated, Typed, Bit, BitEnd, Result as ResultName, Params}
 use Rattle.syntax_check.specs.declared.machine.Frame.{Frame}
 use Rattle.syntax_check.specs.declared.machine.Frame.TheVariants as frames
 use Rattle.syntax_check.specs.declared.machine.Cause.{Cause}
@@ -46,6 +46,7 @@ spot_without f (Param k) = Param (lost f.params k)
 
 abbrev pub mode_without : Switches → Mode → Mode
 mode_without f Start = Start
+mode_without f Marked = Marked
 mode_without f Headed = Headed
 mode_without f (Items k) = Items (lost f.items k)
 mode_without f (Brace k) = Brace (lost f.items k)
@@ -99,6 +100,7 @@ free_spot_is (Param k) = refl
 
 free_mode_is : (mode : Mode) → free_mode mode ≡ mode_without every mode
 free_mode_is Start = refl
+free_mode_is Marked = refl
 free_mode_is Headed = refl
 free_mode_is (Items k) = refl
 free_mode_is (Brace k) = refl

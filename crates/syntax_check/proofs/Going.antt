@@ -1,33 +1,39 @@
 -- Where a schema's front stands: in which declaration, and that no declaration so far was one too many.
-use Rattle.std.proofs.Common.{◌≡◌, ◌⊎◌, inl, inr, ℕ, ◌+◌, ◌<◌, ◌≤◌, Bool, true, false, if◌then◌else◌, List, [], ◌∷◌, ◌++◌, length, take, Option, Some, Ok, Err, refl, sym, ap, ◌∙◌, subst, arith, length-append, append_assoc}
-use Rattle.std.proofs.Math.Seq.{take-append_seam}
+use Rattle.std.proofs.Common.{◌≡◌, ◌⊎◌, inl, inr, ℕ, ◌+◌, ◌<◌, ◌≤◌, Bool, true, false, if◌then◌else◌, List, [], ◌∷◌, ◌++◌, length, take, drop, Option, Some, Ok, Err, refl, sym, ap, ◌∙◌, subst, arith, length-append, append_assoc}
+use Rattle.std.proofs.Math.Seq.{take-append_seam, drop-append_seam}
 use Rattle.tlb_syntax.specs.Lexeme.{Lexeme, word, blank, number, tag, sign, other}
-use Rattle.tlb_syntax.specs.Grammar.{Declarations}
+use Rattle.tlb_syntax.specs.declared.sign.Sign.TheVariants.{Bang}
+use Rattle.tlb_syntax.specs.Grammar.{Heads, Declarations}
 use Rattle.tlb_syntax.specs.Tree.{SchemaView}
-use Rattle.tlb_syntax.specs.Written.{form_of, CanGoOn, IsAny, ended, Exceeds, Declares, HasFew, unbounded}
+use Rattle.tlb_syntax.specs.Written.{form_of, CanGoOn, IsAny, ended, Exceeds, NameStands, at_once, after_mark, Begins, Declares, HasFew, unbounded}
 use Rattle.syntax_check.specs.declared.machine.Cause.{Cause}
 use Rattle.syntax_check.specs.declared.machine.Cause.TheVariants.{Syntax}
 use Rattle.syntax_check.specs.Machine.{State, Outcome, step, run, schema_start, is_schema_end}
-use Rattle.syntax_check.specs.Judge.{is_start, is_result, heads, count_of}
+use Rattle.syntax_check.specs.Judge.{awaits_name, is_result, heads, count_of}
 use Rattle.syntax_check.proofs.Forgetting.{every, without}
-use Rattle.syntax_check.proofs.Phase.{Phase, between, before, behind, phase_of, Turn}
+use Rattle.syntax_check.proofs.Phase.{Phase, between, marked, before, behind, unnamed, phase_of, is_start, is_marked, Turn}
 use Rattle.syntax_check.proofs.Steps.{IsOk}
 use Rattle.syntax_check.proofs.Trail.{results}
 use Rattle.syntax_check.proofs.Runs.{schema_runs}
 use Rattle.syntax_check.proofs.Said.{schema_said}
 use Rattle.syntax_check.proofs.Stepwise.{ok_one, clash, shorter, same_split, run_front, run_more, last_step, step_ok}
 use Rattle.syntax_check.proofs.Counts.{count_append, count_itself, FewNames}
-use Rattle.syntax_check.proofs.Named.{spelled, named, results_more, start_is_end, named_form, in_schema, schema_turn, opening_turn, behind_turn, between_start, start_between, not_at_result, start_goes, start_stops, result_goes}
+use Rattle.syntax_check.proofs.Named.{spelled, named, results_more, start_is_end, named_form, in_schema, schema_turn, opening_turn, marking_turn, behind_turn, between_start, start_between, marked_between, not_at_result, begins, begins_with, heads_name, start_goes, start_stops, marked_stops, mark_leads, name_leads, result_goes}
+use Rattle.syntax_check.proofs.Judged.{awaits_not, awaits_start, awaits_marked}
 use Rattle.syntax_check.proofs.Fronts.{runs_without, goes_on, came, no_way}
 use Rattle.syntax_check.proofs.Firsts.{below_or, below_or_same}
 use Rattle.syntax_check.proofs.Few.{schemas, Few, Room, few_turn, few_goes, few_of}
 
--- a place in the declaration that began behind so many lexemes
-pub record Inside (ls : List Lexeme) (place begun : ℕ) : Type 0 where
-  pub before : begun < place
+-- a place in a declaration: where that begins, and where its name stands, once that is there
+pub record Inside (ls front : List Lexeme) (place begun : ℕ) (is_mark : Bool) : Type 0 where
+  pub start : ℕ
+  pub before : start < place
   pub earlier : SchemaView
-  pub whole : Declarations unbounded (take begun ls) earlier
-  pub last : (later : ℕ) (s : SchemaView) → begun < later → later ≤ place → Declarations unbounded (take later ls) s → ⊥
+  pub whole : Declarations unbounded (take start ls) earlier
+  pub last : (later : ℕ) (s : SchemaView) → start < later → later ≤ place → Declarations unbounded (take later ls) s → ⊥
+  pub mark : is_mark ≡ true → (place ≡ start + 1) × ((others : List Lexeme) × (front ≡ others ++ sign Bang ∷ []))
+  pub name : is_mark ≡ false → (begun < place) × ((offset : ℕ) × NameStands (drop start ls) offset
+      × (begun ≡ start + offset))
 
 -- the machine without bounds stands behind the front
 pub record Going (ls front rest : List Lexeme) (st : State) (place begun : ℕ) (names : List (List ℕ)) : Type 0 where
@@ -37,13 +43,18 @@ pub record Going (ls front rest : List Lexeme) (st : State) (place begun : ℕ) 
   pub phase : in_schema (phase_of st) ≡ true
   pub all_names : names ≡ results unbounded (schema_start unbounded) front
   pub few : Few (phase_of st) names
-  pub inside : is_start st ≡ false → Inside ls place begun
+  pub inside : is_start st ≡ false → Inside ls front place begun (is_marked st)
   pub none_yet : (later : ℕ) → later < place → Exceeds Declarations unbounded HasFew ls later → ⊥
 
 pub take_front : (ls front rest : List Lexeme) (place : ℕ) → ls ≡ front ++ rest → length front ≡ place
     → take place ls ≡ front
 take_front ls front rest place whole size = ap (λ n. take n ls) (sym size) ∙ ap (take (length front)) whole
     ∙ take-append_seam front rest
+
+pub drop_front : (ls front rest : List Lexeme) (place : ℕ) → ls ≡ front ++ rest → length front ≡ place
+    → drop place ls ≡ rest
+drop_front ls front rest place whole size = ap (λ n. drop n ls) (sym size) ∙ ap (drop (length front)) whole
+    ∙ drop-append_seam front rest
 
 pub one_longer : (front : List Lexeme) (t : Lexeme) (place : ℕ) → length front ≡ place
     → length (front ++ t ∷ []) ≡ place + 1
@@ -117,9 +128,8 @@ same_form other = inl refl
 
 module _ {ls front ts : List Lexeme} {st : State} {place begun : ℕ} {names : List (List ℕ)} (t : Lexeme)
     (g : Going ls front (t ∷ ts) st place begun names) where
-  -- the declaration that the lexeme belongs to
-  pub declares : (b : Bool) → is_start st ≡ b → Declares ls (if b then place else begun) place
-  declares true e =
+  pub begins_here : is_start st ≡ true → Begins ls place place
+  begins_here e =
       let w = schema_said unbounded front st g.taken (sym (start_is_end st) ∙ e) in
       let P : List Lexeme → Type 0 = λ z. Declarations unbounded z w.0 in
       record {
@@ -129,49 +139,154 @@ module _ {ls front ts : List Lexeme} {st : State} {place begun : ℕ} {names : L
         last = λ later s a b d. absurd
             (omega arith);
       }
-  declares false e = let i = g.inside e in record {
+
+  -- a name stands at the front's end
+  pub name_here : heads t ≡ true → NameStands (drop place ls) 0
+  name_here h =
+      let P : List Lexeme → Type 0 = λ z. NameStands z 0 in
+      subst P (sym (drop_front ls front (t ∷ ts) place g.whole g.size)) (at_once (heads_name t h).1)
+
+  -- the declaration that the lexeme belongs to, by its name
+  pub declares_here : is_start st ≡ true → heads t ≡ true → Declares ls place place
+  declares_here e h = record {
+    start = place;
+    begins = begins_here e;
+    offset = 0;
+    name = name_here h;
+    is_place = omega arith;
+  }
+
+  pub declares : is_start st ≡ false → is_marked st ≡ false → Declares ls begun place
+  declares e f =
+      let i = g.inside e in
+      let n = i.name f in
+      record {
+        start = i.start;
+        begins = record { before = omega (arith, i.before); earlier = i.earlier; whole = i.whole; last = i.last };
+        offset = n.1.0;
+        name = n.1.1;
+        is_place = n.1.2;
+      }
+
+  not_both : (c : Bool) → c ≡ true → c ≡ false → ⊥
+  not_both c x y = cc
+
+  begun_here : awaits_name st ≡ true → (if awaits_name st then place else begun) ≡ place
+  begun_here e = ap (λ b. if b then place else begun) e
+
+  begun_before : awaits_name st ≡ false → (if awaits_name st then place else begun) ≡ begun
+  begun_before e = ap (λ b. if b then place else begun) e
+
+  -- no declaration ends with the lexeme
+  not_ended : (next : State) → step unbounded st t ≡ Ok next → is_start next ≡ false → (later : ℕ) (s : SchemaView)
+      → later ≡ place + 1 → Declarations unbounded (take later ls) s → ⊥
+  not_ended next h ahead later s same w =
+      let P : ℕ → Type 0 = λ n. Declarations unbounded (take n ls) s in
+      let Q : List Lexeme → Type 0 = λ z. Declarations unbounded z s in
+      let k = schema_runs unbounded (front ++ t ∷ []) s
+      (subst Q (take_front ls (front ++ t ∷ []) ts (place + 1) (one_further ls front ts t g.whole)
+      (one_longer front t place g.size)) (subst P same w)) in
+      not_both (is_start next) (start_is_end next ∙ ap is_schema_end
+      (ok_one next k.0 (sym (next_taken t g next h) ∙ k.1)) ∙ k.2) ahead
+
+  -- a declaration that is begun goes on to be the last
+  still_last : (next : State) → step unbounded st t ≡ Ok next → is_start next ≡ false → (start : ℕ)
+      → ((later : ℕ) (s : SchemaView) → start < later → later ≤ place → Declarations unbounded (take later ls) s → ⊥)
+      → (later : ℕ) (s : SchemaView) → start < later → later ≤ place + 1 → Declarations unbounded (take later ls) s → ⊥
+  still_last next h ahead start earlier later s x y w = go (below_or place later)
+    where
+      go : (place < later) ⊎ (later ≤ place) → ⊥
+      go (inl far) = not_ended next h ahead later s (omega arith) w
+      go (inr near) = earlier later s x near w
+
+  -- a declaration begins with a `!` or with its name
+  first_inside : (next : State) → step unbounded st t ≡ Ok next → is_start next ≡ false → is_start st ≡ true
+      → Inside ls (front ++ t ∷ []) (place + 1) (if awaits_name st then place else begun) (is_marked next)
+  first_inside next h ahead e = record {
+    start = place;
+    before = omega arith;
+    earlier = b.earlier;
+    whole = b.whole;
+    last = still_last next h ahead place b.last;
+    mark = λ m. (refl, (front, ap (λ z. front ++ z ∷ []) (is_bang m opened)));
+    name = λ m. let k = begun_here (awaits_start st e) in (omega (arith, k), (0, name_here (is_name m opened), omega (arith, k)));
+  }
+    where
+      b : Begins ls place place
+      b = begins_here e
+
+      begins_is : (c : Bool) → begins t ≡ c → c ≡ true
+      begins_is true f = refl
+      begins_is false f = absurd (clash (step unbounded st t) next Syntax h (start_stops unbounded st t e f))
+
+      opened : (t ≡ sign Bang) ⊎ (heads t ≡ true)
+      opened = begins_with t (begins_is (begins t) refl)
+
+      is_bang : is_marked next ≡ true → (t ≡ sign Bang) ⊎ (heads t ≡ true) → t ≡ sign Bang
+      is_bang m (inl x) = x
+      is_bang m (inr x) = absurd (not_both (is_marked next) m (name_leads unbounded st next t e x h))
+
+      is_name : is_marked next ≡ false → (t ≡ sign Bang) ⊎ (heads t ≡ true) → heads t ≡ true
+      is_name m (inl x) = absurd (not_both (is_marked next) (mark_leads unbounded st next t e x h) m)
+      is_name m (inr x) = x
+
+  further_inside : (next : State) → step unbounded st t ≡ Ok next → is_start next ≡ false → is_start st ≡ false
+      → Inside ls (front ++ t ∷ []) (place + 1) (if awaits_name st then place else begun) (is_marked next)
+  further_inside next h ahead e = record {
+    start = i.start;
     before = omega (arith, i.before);
     earlier = i.earlier;
     whole = i.whole;
-    last = i.last;
-  }
-
-  next_inside : (next : State) → step unbounded st t ≡ Ok next → is_start next ≡ false → (b : Bool) → is_start st ≡ b
-      → Inside ls (place + 1) (if b then place else begun)
-  next_inside next h ahead b e = record {
-    before = below b e;
-    earlier = d.earlier;
-    whole = d.whole;
-    last = λ later s x y z. last later s x (below_or place later) y z;
+    last = still_last next h ahead i.start i.last;
+    mark = λ m. absurd (not_both (is_start st) (between_start st (marking_turn (phase_of st) (phase_of next)
+        (is_result st) (next_turn t g next h) g.phase (marked_between next (next_phase t g next h) m))) e);
+    name = λ m. named_at (is_marked st) refl;
   }
     where
-      d : Declares ls (if b then place else begun) place
-      d = declares b e
+      i : Inside ls front place begun (is_marked st)
+      i = g.inside e
 
-      below : (c : Bool) → is_start st ≡ c → (if c then place else begun) < place + 1
-      below true f = omega arith
-      below false f = omega (arith, (g.inside f).before)
+      head : is_marked st ≡ true → (c : Bool) → heads t ≡ c → c ≡ true
+      head m true f = refl
+      head m false f = absurd (clash (step unbounded st t) next Syntax h (marked_stops unbounded st t m f))
 
-      differ : (c : Bool) → c ≡ true → c ≡ false → ⊥
-      differ c x y = cc
+      -- behind the `!`
+      after_it : (others : List Lexeme) (x : Option (List ℕ)) → Heads t x → front ≡ others ++ sign Bang ∷ []
+          → place ≡ i.start + 1 → NameStands (drop i.start ls) 1
+      after_it others x hd whole is =
+          let P : List Lexeme → Type 0 = λ z. NameStands z 1 in
+          let all : ls ≡ others ++ sign Bang ∷ t ∷ ts = g.whole ∙ ap (λ z. z ++ t ∷ ts) whole
+          ∙ append_assoc others (sign Bang ∷ []) (t ∷ ts) in
+          let size : length others ≡ i.start = omega (
+            arith,
+            g.size,
+            ap length whole,
+            length-append others (sign Bang
+                ∷ []),
+            is,
+          ) in
+          subst P (sym (drop_front ls others (sign Bang ∷ t ∷ ts) i.start all size)) (after_mark hd)
 
-      here : (later : ℕ) (s : SchemaView) → later ≡ place + 1 → Declarations unbounded (take later ls) s → ⊥
-      here later s same w =
-          let P : ℕ → Type 0 = λ n. Declarations unbounded (take n ls) s in
-          let Q : List Lexeme → Type 0 = λ z. Declarations unbounded z s in
-          let k = schema_runs unbounded (front ++ t ∷ []) s
-          (subst Q (take_front ls (front ++ t ∷ []) ts (place + 1) (one_further ls front ts t g.whole)
-          (one_longer front t place g.size)) (subst P same w)) in
-          differ (is_start next) (start_is_end next ∙ ap is_schema_end
-          (ok_one next k.0 (sym (next_taken t g next h) ∙ k.1)) ∙ k.2) ahead
+      named_at : (m : Bool) → is_marked st ≡ m → ((if awaits_name st then place else begun) < place + 1)
+          × ((offset : ℕ) × NameStands (drop i.start ls) offset
+          × ((if awaits_name st then place else begun) ≡ i.start + offset))
+      named_at true m =
+          let k = begun_here (awaits_marked st m) in
+          let b = i.mark m in
+          let n = heads_name t (head m (heads t) refl) in
+          (omega (arith, k), (1, after_it b.1.0 n.0 n.1 b.1.1 b.0, omega (arith, k, b.0)))
+      named_at false m =
+          let k = begun_before (awaits_not st e m) in
+          let n = i.name m in
+          (omega (arith, k, n.0), (n.1.0, n.1.1, k ∙ n.1.2))
 
-      last : (later : ℕ) (s : SchemaView) → (if b then place else begun) < later → (place < later) ⊎ (later ≤ place)
-          → later ≤ place + 1 → Declarations unbounded (take later ls) s → ⊥
-      last later s x (inl far) y w = here later s (omega arith) w
-      last later s x (inr near) y w = d.last later s x near w
+  next_inside : (next : State) → step unbounded st t ≡ Ok next → is_start next ≡ false → (b : Bool) → is_start st ≡ b
+      → Inside ls (front ++ t ∷ []) (place + 1) (if awaits_name st then place else begun) (is_marked next)
+  next_inside next h ahead true e = first_inside next h ahead e
+  next_inside next h ahead false e = further_inside next h ahead e
 
   -- what exceeds at this lexeme
-  here_exceeds : Exceeds Declarations unbounded HasFew ls place → CanGoOn Declarations unbounded IsAny
+  pub here_exceeds : Exceeds Declarations unbounded HasFew ls place → CanGoOn Declarations unbounded IsAny
       (ended front (form_of t)) × (CanGoOn Declarations unbounded HasFew (ended front (form_of t)) → ⊥)
   here_exceeds s =
       let k = same_split front s.split.front ts s.split.later t s.split.at (sym g.whole ∙ s.split.whole)
@@ -194,7 +309,7 @@ module _ {ls front ts : List Lexeme} {st : State} {place begun : ℕ} {names : L
       (next_few t g next h room)
 
   pub going_on : (next : State) → step unbounded st t ≡ Ok next → Room (phase_of st) (is_result st) t names
-      → Going ls (front ++ t ∷ []) ts next (place + 1) (if is_start st then place else begun) (names ++ named st t)
+      → Going ls (front ++ t ∷ []) ts next (place + 1) (if awaits_name st then place else begun) (names ++ named st t)
   going_on next h room = record {
     whole = one_further ls front ts t g.whole;
     size = one_longer front t place g.size;
@@ -277,20 +392,20 @@ module _ {ls front ts : List Lexeme} {st : State} {place begun : ℕ} {names : L
 
   -- what a text with few constructors says of the names with this lexeme's
   few_with : (next : State) → step unbounded st t ≡ Ok next → CanGoOn Declarations unbounded HasFew (ended front t)
-      → (rest : List (List ℕ)) × FewNames ((names ++ named st t) ++ rest) × (phase_of next ≡ before → 1 ≤ length rest)
+      → (rest : List (List ℕ)) × FewNames ((names ++ named st t) ++ rest) × (unnamed (phase_of next) ≡ 1 → 1 ≤ length rest)
   few_with next h c =
       let k = few_of (front ++ t ∷ []) next (next_taken t g next h) c in
       let P : List (List ℕ) → Type 0 = λ z. FewNames (z ++ k.0) in
       (k.0, subst P (sym (next_names t g next h)) k.1, k.2)
 
-  pub too_many_in_all : is_start st ≡ true → heads t ≡ true → form_of t ≡ t → length names ≡ 4096
+  pub too_many_in_all : is_start st ≡ true → begins t ≡ true → form_of t ≡ t → length names ≡ 4096
       → Exceeds Declarations unbounded HasFew ls place
   too_many_in_all start head form full =
       let n = start_goes unbounded st t start head in
       exceeds_here n.0 n.1 form (λ c.
       let k = few_with n.0 n.1 c in
-      let more = k.2 (opening_turn (phase_of st) (phase_of n.0) (is_result st) (next_turn t g n.0 n.1)
-      (start_between st g.phase start)) in
+      let more = k.2 (opened (phase_of n.0) (opening_turn (phase_of st) (phase_of n.0) (is_result st)
+      (next_turn t g n.0 n.1) (start_between st g.phase start))) in
       absurd (omega (
         arith,
         full,
@@ -300,6 +415,10 @@ module _ {ls front ts : List Lexeme} {st : State} {place begun : ℕ} {names : L
         length-append names
             (named st t),
       )))
+    where
+      opened : (ph : Phase) → (ph ≡ before) ⊎ (ph ≡ marked) → unnamed ph ≡ 1
+      opened ph (inl e) = ap unnamed e
+      opened ph (inr e) = ap unnamed e
 
   pub too_many_of_one : (x : List ℕ) → is_result st ≡ true → t ≡ word x → count_of x names ≡ 256 → Exceeds Declarations
       unbounded HasFew ls place
@@ -363,16 +482,16 @@ behind_far (t ∷ ts) ls front st place begun names q later g ph s d =
         let P : List Lexeme → Type 0 = λ z. Declarations unbounded z w.0 in
         let here = subst P (sym (take_front ls (front ++ t ∷ []) ts (place + 1) (one_further ls front ts t g.whole)
         (one_longer front t place g.size))) w.1 in
-        after here (below_or q (place + 1)) (below_or later (place + 1))
+        after here (below_or d.start (place + 1)) (below_or later (place + 1))
       where
-        after : {s : SchemaView} → Declarations unbounded (take (place + 1) ls) s → (q < place + 1) ⊎ (place + 1 ≤ q)
-            → (later < place + 1) ⊎ (place + 1 ≤ later) → place < q
-        after w (inr x) y = omega arith
+        after : {s : SchemaView} → Declarations unbounded (take (place + 1) ls) s → (d.start < place + 1)
+            ⊎ (place + 1 ≤ d.start) → (later < place + 1) ⊎ (place + 1 ≤ later) → place < q
+        after w (inr x) y = omega (arith, d.is_place)
         after w (inl x) (inl y) = absurd ((going_on t g next h room).none_yet later y s)
-        after {s = tree} w (inl x) (inr y) = absurd (d.last (place + 1) tree x y w)
+        after {s = tree} w (inl x) (inr y) = absurd (d.begins.last (place + 1) tree x y w)
 
     go : (o : Outcome) → step unbounded st t ≡ o → ((next : State) → step unbounded st t ≡ Ok next
-        → Going ls (front ++ t ∷ []) ts next (place + 1) (if is_start st then place else begun) (names ++ named st t)
+        → Going ls (front ++ t ∷ []) ts next (place + 1) (if awaits_name st then place else begun) (names ++ named st t)
         → phase_of next ≡ behind → place + 1 < q) → place < q
     go (Err why) h ih = absurd (none_stopped t g why later h s)
     go (Ok next) h ih = turns (behind_turn (phase_of st) (phase_of next) (is_result st) (next_turn t g next h) ph)

@@ -4,10 +4,10 @@ use Rattle.tlb_syntax.specs.Lexeme.{Lexeme, word, blank, number, tag, sign, othe
 use Rattle.tlb_syntax.specs.Written.{unbounded, standard}
 use Rattle.syntax_check.specs.declared.machine.Cause.{Cause}
 use Rattle.syntax_check.specs.declared.machine.Cause.TheVariants.{Syntax, DeepType, TooManyConstructors, TooManyFields, TooManyParams}
-use Rattle.syntax_check.specs.declared.machine.Mode.TheVariants.{Start, Result as ResultName}
+use Rattle.syntax_check.specs.declared.machine.Mode.TheVariants.{Start, Marked, Result as ResultName}
 use Rattle.syntax_check.specs.Machine.{State, at, Outcome, step}
-use Rattle.syntax_check.specs.Judge.{Verdict, Stand, is_start, is_result, counted, judged_result, judged_name, onward, or_met, after_step, advance_past, advance, finish, go_on}
-use Rattle.syntax_check.proofs.Phase.{Phase, between, before, broken, phase_of}
+use Rattle.syntax_check.specs.Judge.{Verdict, Stand, awaits_name, is_result, counted, judged_result, judged_name, onward, or_met, after_step, advance_past, advance, finish, go_on}
+use Rattle.syntax_check.proofs.Phase.{Phase, between, marked, before, broken, phase_of, is_start, is_marked}
 use Rattle.syntax_check.proofs.Stepwise.{sound}
 use Rattle.syntax_check.proofs.Steps.{IsLimit}
 
@@ -48,6 +48,25 @@ start_phase (at Start lv []) e = inl refl
 start_phase (at Start lv (x ∷ below)) e = inr refl
 start_phase (at mode lv below) e = cc
 
+pub marked_phase : (st : State) → is_marked st ≡ true → (phase_of st ≡ marked) ⊎ (phase_of st ≡ broken)
+marked_phase (at Marked lv []) e = inl refl
+marked_phase (at Marked lv (x ∷ below)) e = inr refl
+marked_phase (at mode lv below) e = cc
+
+-- a name comes at one of the two
+pub awaits_not : (st : State) → is_start st ≡ false → is_marked st ≡ false → awaits_name st ≡ false
+awaits_not (at Start lv below) e f = cc
+awaits_not (at Marked lv below) e f = cc
+awaits_not (at mode lv below) e f = refl
+
+pub awaits_start : (st : State) → is_start st ≡ true → awaits_name st ≡ true
+awaits_start (at Start lv below) e = refl
+awaits_start (at mode lv below) e = cc
+
+pub awaits_marked : (st : State) → is_marked st ≡ true → awaits_name st ≡ true
+awaits_marked (at Marked lv below) e = refl
+awaits_marked (at mode lv below) e = cc
+
 pub result_phase : (st : State) → is_result st ≡ true → (phase_of st ≡ before) ⊎ (phase_of st ≡ broken)
 result_phase (at ResultName lv []) e = inl refl
 result_phase (at ResultName lv (x ∷ below)) e = inr refl
@@ -64,17 +83,21 @@ pub not_start : (st : State) → sound (phase_of st) ≡ true → (phase_of st �
 not_start st ok never = is_false (is_start st) (λ e. phases_differ (phase_of st) between between never ok
     (start_phase st e))
 
+pub not_marked : (st : State) → sound (phase_of st) ≡ true → (phase_of st ≡ marked → ⊥) → is_marked st ≡ false
+not_marked st ok never = is_false (is_marked st) (λ e. phases_differ (phase_of st) marked marked never ok
+    (marked_phase st e))
+
 pub not_result : (st : State) → sound (phase_of st) ≡ true → (phase_of st ≡ before → ⊥) → is_result st ≡ false
 not_result st ok never = is_false (is_result st) (λ e. phases_differ (phase_of st) before before never ok
     (result_phase st e))
 
 -- ---- names
 
-pub counted_not : (a : Stand) → is_start a.state ≡ false → counted a ≡ None
+pub counted_not : (a : Stand) → awaits_name a.state ≡ false → counted a ≡ None
 counted_not a e = ap (λ b. if b then (if length a.names == 4096 then or_met a.met (TooManyConstructors, a.place) else
     a.met) else None) e
 
-pub unjudged : (a : Stand) (t : Lexeme) → is_start a.state ≡ false → is_result a.state ≡ false → judged_name a t ≡ None
+pub unjudged : (a : Stand) (t : Lexeme) → awaits_name a.state ≡ false → is_result a.state ≡ false → judged_name a t ≡ None
 unjudged a (word x) e f = ap (λ b. if b then judged_result a x else counted a) f ∙ counted_not a e
 unjudged a blank e f = counted_not a e
 unjudged a (number n) e f = refl

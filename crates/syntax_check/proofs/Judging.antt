@@ -6,7 +6,7 @@ use Rattle.tlb_lexer.specs.Cut.{IsPlaced, PlacedFrom}
 use Rattle.tlb_syntax.specs.Lexeme.{Lexeme, lexeme_of, lexemes}
 use Rattle.tlb_syntax.specs.Grammar.{Bounds}
 use Rattle.tlb_syntax.specs.Written.{unbounded}
-use Rattle.syntax_check.specs.declared.machine.Mode.TheVariants.{Start, Result as ResultName}
+use Rattle.syntax_check.specs.declared.machine.Mode.TheVariants.{Start, Marked, Result as ResultName}
 use Rattle.syntax_check.specs.declared.machine.Cause.{Cause}
 use Rattle.syntax_check.specs.declared.machine.Cause.TheVariants.{Syntax, DeepType, TooManyConstructors, TooManyFields, TooManyParams}
 use Rattle.syntax_check.specs.declared.judge.Refusal.{Refusal}
@@ -22,6 +22,7 @@ onward_free : (st : State) (m n bounds : Bounds) (place begun : ℕ) (names : Li
     onward (record { bounds = m; state = st; place = place; begun = begun; names = names; met = met }) t bounds now next ≡
     onward (record { bounds = n; state = free st; place = place; begun = begun; names = names; met = met_then }) t bounds now next
 onward_free (at Start lv below) m n bounds place begun names met met_then now t next = refl
+onward_free (at Marked lv below) m n bounds place begun names met met_then now t next = refl
 onward_free (at ResultName lv below) m n bounds place begun names met met_then now t next = refl
 onward_free (at _ lv below) m n bounds place begun names met met_then now t next = refl
 

@@ -1,24 +1,31 @@
 -- Where in a declaration a state stands, and the levels that may be opened outside all brackets.
-use Rattle.std.proofs.Common.{◌≡◌, Bool, true, false, List, [], ◌∷◌, refl}
+use Rattle.std.proofs.Common.{◌≡◌, ℕ, Bool, true, false, List, [], ◌∷◌, refl}
 use Rattle.tlb_syntax.specs.Grammar.{Count}
 use Rattle.syntax_check.specs.declared.machine.Side.{Side}
 use Rattle.syntax_check.specs.declared.machine.Side.TheVariants.{Paren, Left, Right, Word}
 use Rattle.syntax_check.specs.declared.machine.Spot.{Spot}
 use Rattle.syntax_check.specs.declared.machine.Spot.TheVariants.{Operand, Argument, Width, Field, Guarded, Param}
 use Rattle.syntax_check.specs.declared.machine.Mode.{Mode}
-use Rattle.syntax_check.specs.declared.machine.Mode.TheVariants.{Start, Headed, Term, Apply, Applied, Operated, Result as ResultName, Params}
+use Rattle.syntax_check.specs.declared.machine.Mode.TheVariants.{Start, Marked, Headed, Term, Apply, Applied, Operated, Result as ResultName, Params}
 use Rattle.syntax_check.specs.declared.machine.Frame.{Frame}
 use Rattle.syntax_check.specs.declared.machine.Frame.TheVariants as frames
 use Rattle.syntax_check.specs.Machine.{State, at, given_to}
 use Rattle.syntax_check.specs.Judge.{is_result}
 
--- between declarations, in one up to its result or behind that, in a type word, or in no text
+-- between declarations, behind the `!` of one, in one up to its result or behind that, in a type word, or in no text
 pub data Phase : Type 0 where
   between : Phase
+  marked : Phase
   before : Phase
   behind : Phase
   in_word : Phase
   broken : Phase
+
+-- the declaration that is open, of which no result was read
+abbrev pub unnamed : Phase → ℕ
+unnamed marked = 1
+unnamed before = 1
+unnamed _ = 0
 
 abbrev pub is_nil : List Frame → Bool
 is_nil [] = true
@@ -49,6 +56,7 @@ frames_phase (frames.Record spot lv ∷ below) = spot_phase spot (is_nil below) 
 
 abbrev pub mode_phase : Mode → Bool → Phase → Phase
 mode_phase Start nil rest = only nil between
+mode_phase Marked nil rest = only nil marked
 mode_phase Headed nil rest = only nil before
 mode_phase (Term spot inner) nil rest = spot_phase spot nil rest
 mode_phase (Apply p s) nil rest = side_phase p nil rest
@@ -61,6 +69,15 @@ mode_phase _ nil rest = rest
 abbrev pub phase_of : State → Phase
 phase_of (at mode lv below) = mode_phase mode (is_nil below) (frames_phase below)
 
+-- between declarations, and behind the `!` of one
+abbrev pub is_start : State → Bool
+is_start (at Start lv below) = true
+is_start _ = false
+
+abbrev pub is_marked : State → Bool
+is_marked (at Marked lv below) = true
+is_marked _ = false
+
 abbrev pub base : Count → List Frame → Count
 base lv [] = lv
 base lv (frames.Paren spot outer ∷ below) = base outer below
@@ -72,6 +89,8 @@ base_of (at mode lv below) = base lv below
 -- how one step goes on, where the flag says that it reads a result
 pub data Turn : Phase → Bool → Phase → Type 0 where
   opening : Turn between false before
+  marking : Turn between false marked
+  heading : Turn marked false before
   within : Turn before false before
   naming : Turn before true behind
   further : Turn behind false behind

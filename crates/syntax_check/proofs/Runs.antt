@@ -6,7 +6,7 @@ use Rattle.tlb_syntax.specs.declared.sign.Sign.{Sign}
 use Rattle.tlb_syntax.specs.declared.sign.Sign.TheVariants.{Hash, HashHash, HashLess, HashLessEqual, Colon, Equal, OpenParen, CloseParen, OpenBrace, CloseBrace, OpenBracket, CloseBracket, Caret, Tilde, Question, Dot, Asterisk, Plus}
 use Rattle.tlb_syntax.specs.Lexeme.{Lexeme, word, blank, number, sign}
 use Rattle.tlb_syntax.specs.Tree.{ExprView, ExprList, ItemView, ItemList, TypeView, TagView, ConstructorView, SchemaView}
-use Rattle.tlb_syntax.specs.Grammar.{Count, Bounds, Spends, freely, one_less, Compares, equal, less, less_equal, greater, greater_equal, Heads, by_name, by_blank, Tagged, tagged, untagged, Term, a_number, a_name, a_hash, an_output, a_reference, a_paren, a_record, Terms, no_terms, a_term, Apply, of_name, of_bits, of_below, of_up_to, of_term, Product, one_factor, two_factors, Sum, a_sum, Addends, no_addend, an_addend, Typed, always, on_number, on_bit, AnItem, of_numbers, of_types, a_check, a_field, a_bare_field, Items, no_item, one_item, Params, no_param, a_param, Declaration, a_declaration, Declarations, no_declaration, one_more, TypeWord}
+use Rattle.tlb_syntax.specs.Grammar.{Count, Bounds, Spends, freely, one_less, Compares, equal, less, less_equal, greater, greater_equal, Heads, by_name, by_blank, Tagged, tagged, untagged, Term, a_number, a_name, a_hash, an_output, a_reference, a_paren, a_record, Terms, no_terms, a_term, Apply, of_name, of_bits, of_below, of_up_to, of_term, Product, one_factor, two_factors, Sum, a_sum, Addends, no_addend, an_addend, Typed, always, on_number, on_bit, AnItem, of_numbers, of_types, a_check, a_field, a_bare_field, Items, no_item, one_item, Params, no_param, a_param, Declared, a_declaration, Declaration, of_ordinary, of_exotic, Declarations, no_declaration, one_more, TypeWord}
 use Rattle.syntax_check.specs.declared.machine.Side.{Side}
 use Rattle.syntax_check.specs.declared.machine.Side.TheVariants as sides
 use Rattle.syntax_check.specs.declared.machine.Spot.{Spot}
@@ -498,14 +498,37 @@ heads_same : (m : Bounds) {h : Lexeme} {x : Option (List ℕ)} (d : Count) (s : 
 heads_same m d s below by_name = refl
 heads_same m d s below by_blank = refl
 
-declaration_runs : (m : Bounds) {s r : List Lexeme} {c : ConstructorView} → Declaration m s c r
-    → trail m (schema_start m) s ≡ after_name c.result (trail m (schema_start m) r)
-declaration_runs m (a_declaration {s = s} {after_items = after} {r = r} {y = y} h t is es) =
+marked_same : (m : Bounds) {h : Lexeme} {x : Option (List ℕ)} (d : Count) (s : List Lexeme) (below : List Frame)
+    → Heads h x
+    → Same m modes.Marked d below (h ∷ s) modes.Headed d below s
+marked_same m d s below by_name = refl
+marked_same m d s below by_blank = refl
+
+-- from before the name, or from behind the `!`
+data Naming : Bool → Mode → Type 0 where
+  at_start : Naming false modes.Start
+  at_mark : Naming true modes.Marked
+
+naming_same : (m : Bounds) {exotic : Bool} {mode : Mode} {h : Lexeme} {x : Option (List ℕ)} (d : Count)
+    (s : List Lexeme) (below : List Frame) → Naming exotic mode → Heads h x
+    → Same m mode d below (h ∷ s) modes.Headed d below s
+naming_same m d s below at_start h = heads_same m d s below h
+naming_same m d s below at_mark h = marked_same m d s below h
+
+declared_runs : (m : Bounds) {exotic : Bool} {mode : Mode} {s r : List Lexeme} {c : ConstructorView}
+    → Naming exotic mode → Declared m exotic s c r
+    → trail m (at mode m.levels []) s ≡ after_name c.result (trail m (schema_start m) r)
+declared_runs m n (a_declaration {s = s} {after_items = after} {r = r} {y = y} h t is es) =
     let a = tagged_runs m t [] in
     let b = items_runs m is [] a.0 a.1 in
     let c = params_runs m es [] in
-    heads_same m m.levels s [] h ∙ a.2 ∙ b.2 ∙ pause_same m m.levels (word y ∷ after) [] b.1.1 at_equal
+    naming_same m m.levels s [] n h ∙ a.2 ∙ b.2 ∙ pause_same m m.levels (word y ∷ after) [] b.1.1 at_equal
     ∙ ap (after_name y) c.1
+
+declaration_runs : (m : Bounds) {s r : List Lexeme} {c : ConstructorView} → Declaration m s c r
+    → trail m (schema_start m) s ≡ after_name c.result (trail m (schema_start m) r)
+declaration_runs m (of_ordinary d) = declared_runs m at_start d
+declaration_runs m (of_exotic d) = declared_runs m at_mark d
 
 declarations_runs : (m : Bounds) {ls : List Lexeme} {s : SchemaView} → Declarations m ls s
     → trail m (schema_start m) ls ≡ (Ok (schema_start m), map (λ c. c.result) s)

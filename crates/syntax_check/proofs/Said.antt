@@ -4,10 +4,10 @@ use Rattle.std.proofs.lemmas.Bool.{leb-true, false≢true}
 use Rattle.std.proofs.lemmas.Slice.Eq.{bytes_eq-Decides}
 use Rattle.tlb_syntax.specs.declared.sign.Sign.{Sign}
 use Rattle.nat_solver.specs.declared.compare.Op.{Op}
-use Rattle.tlb_syntax.specs.declared.sign.Sign.TheVariants.{Hash, HashHash, HashLess, HashLessEqual, Colon, Semicolon, Equal, OpenParen, CloseParen, OpenBrace, CloseBrace, OpenBracket, CloseBracket, Caret, Tilde, Question, Dot, Asterisk, Plus, Less, LessEqual, Greater, GreaterEqual}
+use Rattle.tlb_syntax.specs.declared.sign.Sign.TheVariants.{Hash, HashHash, HashLess, HashLessEqual, Colon, Semicolon, Equal, OpenParen, CloseParen, OpenBrace, CloseBrace, OpenBracket, CloseBracket, Caret, Tilde, Question, Dot, Asterisk, Plus, Less, LessEqual, Greater, GreaterEqual, Bang}
 use Rattle.tlb_syntax.specs.Lexeme.{Lexeme, word, blank, number, tag, sign}
 use Rattle.tlb_syntax.specs.Tree.{ExprView, ItemView, ItemList, TagView, ConstructorView, SchemaView, named, no_exprs, plus, plain}
-use Rattle.tlb_syntax.specs.Grammar.{Count, Bounds, Spends, freely, one_less, Compares, equal, less, less_equal, greater, greater_equal, Heads, by_name, by_blank, Tagged, tagged, untagged, Term, a_number, a_name, a_hash, an_output, a_reference, a_paren, a_record, no_terms, a_term, Apply, of_name, of_bits, of_below, of_up_to, of_term, one_factor, two_factors, a_sum, no_addend, an_addend, always, on_number, on_bit, AnItem, of_numbers, of_types, a_check, a_field, a_bare_field, Items, no_item, one_item, no_param, a_param, Declaration, a_declaration, Declarations, no_declaration, one_more, TypeWord}
+use Rattle.tlb_syntax.specs.Grammar.{Count, Bounds, Spends, freely, one_less, Compares, equal, less, less_equal, greater, greater_equal, Heads, by_name, by_blank, Tagged, tagged, untagged, Term, a_number, a_name, a_hash, an_output, a_reference, a_paren, a_record, no_terms, a_term, Apply, of_name, of_bits, of_below, of_up_to, of_term, one_factor, two_factors, a_sum, no_addend, an_addend, always, on_number, on_bit, AnItem, of_numbers, of_types, a_check, a_field, a_bare_field, Items, no_item, one_item, no_param, a_param, Declared, a_declaration, Declaration, of_ordinary, of_exotic, Declarations, no_declaration, one_more, TypeWord}
 use Rattle.syntax_check.specs.declared.machine.Side.{Side}
 use Rattle.syntax_check.specs.declared.machine.Side.TheVariants as sides
 use Rattle.syntax_check.specs.declared.machine.Spot.{Spot}
@@ -19,7 +19,7 @@ use Rattle.syntax_check.specs.declared.machine.Frame.TheVariants as frames
 use Rattle.syntax_check.specs.declared.machine.Cause.{Cause}
 use Rattle.syntax_check.specs.declared.machine.Cause.TheVariants.{Syntax, DeepType, TooManyFields, TooManyParams}
 use Rattle.syntax_check.specs.Machine.{State, at, Outcome, and_then, spend, Begin, leaf, no_leaf, prefix, paren, record_, begin_of, begin_sign, begin_number, begins, is_width, compares, opens, bare_or_end, ends_items, ends_sum, operated, applied, apply, items, typed, params, term, step_mode, run, schema_start, word_start, is_schema_end, is_word_end}
-use Rattle.syntax_check.proofs.Says.{Completes, Resulted, resulted, EndsSum, paren_ends, left_ends, right_ends, word_ends, EndsItems, record_ends, declaration_ends, Says, says_start, says_headed, says_items, says_brace, says_brace_name, says_kind, says_kind_end, says_item_name, says_item_blank, says_term, says_apply, says_applied, says_operated, says_typed, says_bit, says_bit_end, says_result, says_params}
+use Rattle.syntax_check.proofs.Says.{Completes, Resulted, resulted, EndsSum, paren_ends, left_ends, right_ends, word_ends, EndsItems, record_ends, declaration_ends, Says, says_start, says_marked, says_headed, says_items, says_brace, says_brace_name, says_kind, says_kind_end, says_item_name, says_item_blank, says_term, says_apply, says_applied, says_operated, says_typed, says_bit, says_bit_end, says_result, says_params}
 
 -- what the state says that a step leads to
 abbrev Told : Bounds → Outcome → List Lexeme → Type 0
@@ -338,28 +338,41 @@ params_told m {t} None k lv below ts w h = ends t h
     ends u h = elim h [ ]
 
 -- a declaration, and those behind it
-declared : (m : Bounds) {h : Lexeme} {x : Option (List ℕ)} {g : TagView} {s mid r : List Lexeme} {is : ItemList}
+declared : (m : Bounds) (exotic : Bool) {h : Lexeme} {x : Option (List ℕ)} {g : TagView} {s mid r : List Lexeme} {is : ItemList}
     → Resulted m r → Heads h x → Tagged s g mid
     → Items m m.levels m.items mid is (sign Equal ∷ r)
-    → (c : ConstructorView) × (r : List Lexeme) × (cs : SchemaView) × Declaration m (h ∷ s) c r × Declarations m r cs
-declared m (resulted ps ds) h g its = (_, _, _, a_declaration h g its ps, ds)
+    → (c : ConstructorView) × (r : List Lexeme) × (cs : SchemaView) × Declared m exotic (h ∷ s) c r
+    × Declarations m r cs
+declared m exotic (resulted ps ds) h g its = (_, _, _, a_declaration h g its ps, ds)
 
-outside_declared : (m : Bounds) {h : Lexeme} {x : Option (List ℕ)} {g : TagView} {s r : List Lexeme}
+outside_declared : (m : Bounds) (exotic : Bool) {h : Lexeme} {x : Option (List ℕ)} {g : TagView} {s r : List Lexeme}
     → Says m (modes.Items m.items) m.levels [] r → Heads h x → Tagged s g r
-    → (c : ConstructorView) × (r : List Lexeme) × (cs : SchemaView) × Declaration m (h ∷ s) c r × Declarations m r cs
-outside_declared m (says_items its (declaration_ends f)) h g = declared m (f refl) h g its
+    → (c : ConstructorView) × (r : List Lexeme) × (cs : SchemaView) × Declared m exotic (h ∷ s) c r
+    × Declarations m r cs
+outside_declared m exotic (says_items its (declaration_ends f)) h g = declared m exotic (f refl) h g its
 
 headed_told : (m : Bounds) {s r : List Lexeme} {g : TagView} (lv : Count) (below : List Frame) → Tagged s g r
     → Says m (modes.Items m.items) lv below r → Says m modes.Headed lv below s
-headed_told m {s} {r} lv below g rest = says_headed (λ out h x hd.
+headed_told m {s} {r} lv below g rest = says_headed (λ out exotic h x hd.
     let P : Count → Type 0 = λ z. Says m (modes.Items m.items) z below r in
     let Q : List Frame → Type 0 = λ z. Says m (modes.Items m.items) m.levels z r in
-    outside_declared m (subst Q out.1 (subst P out.0 rest)) hd g)
+    outside_declared m exotic (subst Q out.1 (subst P out.0 rest)) hd g)
 
 start_told : (m : Bounds) {h : Lexeme} {x : Option (List ℕ)} {s : List Lexeme} {lv : Count} {below : List Frame}
     → Heads h x → Says m modes.Headed lv below s
     → Says m modes.Start lv below (h ∷ s)
-start_told m {h} {x} hd (says_headed f) = says_start (λ out. let a = f out h x hd in (a.0 ∷ a.2, one_more a.3 a.4))
+start_told m {h} {x} hd (says_headed f) = says_start (λ out.
+    let a = f out false h x hd in
+    (a.0 ∷ a.2, one_more (of_ordinary a.3) a.4))
+
+marked_told : (m : Bounds) {h : Lexeme} {x : Option (List ℕ)} {s : List Lexeme} {lv : Count} {below : List Frame}
+    → Heads h x → Says m modes.Headed lv below s
+    → Says m modes.Marked lv below (h ∷ s)
+marked_told m {h} {x} hd (says_headed f) = says_marked (λ out. f out true h x hd)
+
+mark_told : (m : Bounds) {s : List Lexeme} {lv : Count} {below : List Frame} → Says m modes.Marked lv below s
+    → Says m modes.Start lv below (sign Bang ∷ s)
+mark_told m (says_marked f) = says_start (λ out. let a = f out in (a.0 ∷ a.2, one_more (of_exotic a.3) a.4))
 
 -- ---- one step
 
@@ -368,7 +381,11 @@ told : (m : Bounds) (mode : Mode) (lv : Count) (below : List Frame) (t : Lexeme)
     → Told m (step_mode m mode lv below t) ts → Says m mode lv below (t ∷ ts)
 told m modes.Start lv below (word x) ts h = start_told m by_name h
 told m modes.Start lv below blank ts h = start_told m by_blank h
+told m modes.Start lv below (sign Bang) ts h = mark_told m h
 told m modes.Start lv below t ts h = elim h [ ]
+told m modes.Marked lv below (word x) ts h = marked_told m by_name h
+told m modes.Marked lv below blank ts h = marked_told m by_blank h
+told m modes.Marked lv below t ts h = elim h [ ]
 told m modes.Headed lv below (tag (Some b)) ts h = headed_told m lv below tagged h
 told m modes.Headed lv below (tag None) ts h = elim h [ ]
 told m modes.Headed lv below t ts h = headed_told m lv below untagged (items_told m m.items lv below t ts h)

@@ -5,7 +5,7 @@ use Rattle.nat_solver.specs.declared.compare.Op.{Op}
 use Rattle.tlb_syntax.specs.declared.sign.Sign.TheVariants.{Colon, Semicolon, Equal, CloseParen, OpenBrace, CloseBrace, CloseBracket, Question}
 use Rattle.tlb_syntax.specs.Lexeme.{Lexeme, word, blank, number, sign}
 use Rattle.tlb_syntax.specs.Tree.{ExprView, ExprList, ItemView, ItemList, TypeView, ConstructorView, SchemaView}
-use Rattle.tlb_syntax.specs.Grammar.{Count, Bounds, Compares, Heads, Term, Terms, Apply, Product, Sum, Addends, Typed, AnItem, Items, Params, Declaration, Declarations}
+use Rattle.tlb_syntax.specs.Grammar.{Count, Bounds, Compares, Heads, Term, Terms, Apply, Product, Sum, Addends, Typed, AnItem, Items, Params, Declared, Declarations}
 use Rattle.syntax_check.specs.declared.machine.Side.{Side}
 use Rattle.syntax_check.specs.declared.machine.Side.TheVariants as sides
 use Rattle.syntax_check.specs.declared.machine.Spot.{Spot}
@@ -68,9 +68,13 @@ mutual
   pub data Says (m : Bounds) : Mode → Count → List Frame → List Lexeme → Type 0 where
     says_start : {lv : Count} {below : List Frame} {s : List Lexeme}
         → (IsOutside m lv below → (cs : SchemaView) × Declarations m s cs) → Says m modes.Start lv below s
+    says_marked : {lv : Count} {below : List Frame} {s : List Lexeme}
+        → (IsOutside m lv below → (c : ConstructorView) × (r : List Lexeme) × (cs : SchemaView) × Declared m true s c r
+        × Declarations m r cs)
+        → Says m modes.Marked lv below s
     says_headed : {lv : Count} {below : List Frame} {s : List Lexeme}
-        → (IsOutside m lv below → (h : Lexeme) (x : Option (List ℕ)) → Heads h x
-        → (c : ConstructorView) × (r : List Lexeme) × (cs : SchemaView) × Declaration m (h ∷ s) c r
+        → (IsOutside m lv below → (exotic : Bool) (h : Lexeme) (x : Option (List ℕ)) → Heads h x
+        → (c : ConstructorView) × (r : List Lexeme) × (cs : SchemaView) × Declared m exotic (h ∷ s) c r
         × Declarations m r cs)
         → Says m modes.Headed lv below s
     says_items : {k lv : Count} {below : List Frame} {s r : List Lexeme} {is : ItemList} → Items m lv k s is r

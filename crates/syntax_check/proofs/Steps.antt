@@ -1,7 +1,7 @@
 -- What one step says of the step on a state without some of its counts, and on a lexeme of the same form.
 use Rattle.std.proofs.Common.{◌≡◌, ◌⊎◌, inl, inr, ℕ, zero, suc, Bool, true, false, List, [], ◌∷◌, map, bytes_eq, codes, nat_le, if◌then◌else◌, Option, Some, None, Result, Ok, Err, refl, sym, ap, ◌∙◌, subst}
 use Rattle.tlb_syntax.specs.declared.sign.Sign.{Sign}
-use Rattle.tlb_syntax.specs.declared.sign.Sign.TheVariants.{Hash, Colon, Semicolon, Equal, CloseParen, OpenBrace, CloseBrace, CloseBracket, Question, Dot, Asterisk, Plus}
+use Rattle.tlb_syntax.specs.declared.sign.Sign.TheVariants.{Hash, Colon, Semicolon, Equal, CloseParen, OpenBrace, CloseBrace, CloseBracket, Question, Dot, Asterisk, Plus, Bang}
 use Rattle.tlb_syntax.specs.Lexeme.{Lexeme, word, blank, number, tag, sign, other}
 use Rattle.tlb_syntax.specs.Grammar.{Count, Bounds}
 use Rattle.tlb_syntax.specs.Written.{form_of}
@@ -10,7 +10,7 @@ use Rattle.syntax_check.specs.declared.machine.Side.TheVariants.{Paren, Left, Ri
 use Rattle.syntax_check.specs.declared.machine.Spot.{Spot}
 use Rattle.syntax_check.specs.declared.machine.Spot.TheVariants.{Operand, Argument, Width, Field, Param}
 use Rattle.syntax_check.specs.declared.machine.Mode.{Mode}
-use Rattle.syntax_check.specs.declared.machine.Mode.TheVariants.{Start, Headed, Items, Brace, BraceName, Kind, KindEnd, ItemName, ItemBlank, Term, Apply, Applied, Operated, Typed, Bit, BitEnd, Result as ResultName, Params}
+use Rattle.syntax_check.specs.declared.machine.Mode.TheVariants.{Start, Marked, Headed, Items, Brace, BraceName, Kind, KindEnd, ItemName, ItemBlank, Term, Apply, Applied, Operated, Typed, Bit, BitEnd, Result as ResultName, Params}
 use Rattle.syntax_check.specs.declared.machine.Frame.{Frame}
 use Rattle.syntax_check.specs.declared.machine.Frame.TheVariants as frames
 use Rattle.syntax_check.specs.declared.machine.Cause.{Cause}
@@ -18,7 +18,7 @@ use Rattle.syntax_check.specs.declared.machine.Cause.TheVariants.{Syntax, DeepTy
 use Rattle.syntax_check.specs.Machine.{State, at, Outcome, and_then, spend, Begin, leaf, no_leaf, prefix, paren, record_, begin_sign, begin_number, begin_of, is_width, compares, begins, term, ends_sum, operated, applied, apply, bare_item, ends_items, bare_or_end, items, typed, params, step}
 use Rattle.syntax_check.specs.Judge.{is_result}
 use Rattle.syntax_check.proofs.Forgetting.{Switches, lost, side_without, spot_without, frame_without, without, bounds_without, given_without, IsOpen, open_without, Spending, may, may_not, spending, spend_lost}
-use Rattle.syntax_check.proofs.Phase.{Phase, between, before, behind, broken, is_nil, only, side_phase, spot_phase, frames_phase, phase_of, base, base_of, Turn, opening, within, naming, closing, nowhere, Turned, Stays, stays_behind, stays_turn, only_stays, side_stays, spot_stays, frames_stay, given_phase}
+use Rattle.syntax_check.proofs.Phase.{Phase, between, marked, before, behind, broken, is_nil, only, side_phase, spot_phase, frames_phase, phase_of, base, base_of, Turn, opening, marking, heading, within, naming, closing, nowhere, Turned, Stays, stays_behind, stays_turn, only_stays, side_stays, spot_stays, frames_stay, given_phase}
 
 abbrev pub IsOk : Outcome → Type 0
 IsOk o = (next : State) × (o ≡ Ok next)
@@ -492,6 +492,14 @@ start_turn : (below : List Frame) → Turn (only (is_nil below) between) false (
 start_turn [] = opening
 start_turn (x ∷ below) = nowhere
 
+mark_turn : (below : List Frame) → Turn (only (is_nil below) between) false (only (is_nil below) marked)
+mark_turn [] = marking
+mark_turn (x ∷ below) = nowhere
+
+marked_turn : (below : List Frame) → Turn (only (is_nil below) marked) false (only (is_nil below) before)
+marked_turn [] = heading
+marked_turn (x ∷ below) = nowhere
+
 headed_turn : (below : List Frame) → Turn (only (is_nil below) before) false (frames_phase below)
 headed_turn [] = within
 headed_turn (x ∷ below) = nowhere
@@ -535,7 +543,11 @@ mode_facts : (m : Bounds) (mode : Mode) (lv : Count) (below : List Frame) (t : L
     t
 mode_facts m Start lv below (word x) = both (λ f. refl) (record { turn = start_turn below; same_base = refl })
 mode_facts m Start lv below blank = both (λ f. refl) (record { turn = start_turn below; same_base = refl })
+mode_facts m Start lv below (sign Bang) = both (λ f. refl) (record { turn = mark_turn below; same_base = refl })
 mode_facts m Start lv below t = refuses (λ f. refl)
+mode_facts m Marked lv below (word x) = both (λ f. refl) (record { turn = marked_turn below; same_base = refl })
+mode_facts m Marked lv below blank = both (λ f. refl) (record { turn = marked_turn below; same_base = refl })
+mode_facts m Marked lv below t = refuses (λ f. refl)
 mode_facts m Headed lv below (tag (Some b)) = both (λ f. refl) (headed lv below _ (refl, refl))
 mode_facts m Headed lv below (tag None) = refuses (λ f. refl)
 mode_facts m Headed lv below t = facts_along (λ f. refl) (λ f. refl) (λ next q. headed lv below next q) (λ z. z)

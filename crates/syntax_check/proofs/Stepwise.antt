@@ -8,7 +8,7 @@ use Rattle.syntax_check.specs.declared.machine.Cause.TheVariants.{Syntax, TooMan
 use Rattle.syntax_check.specs.Machine.{State, Outcome, and_then, step, run}
 use Rattle.syntax_check.specs.Judge.{is_result}
 use Rattle.syntax_check.proofs.Forgetting.{Switches, without, bounds_without}
-use Rattle.syntax_check.proofs.Phase.{Phase, in_word, broken, phase_of, base_of, Turn, opening, within, naming, further, closing, in_a_word, nowhere, Turned}
+use Rattle.syntax_check.proofs.Phase.{Phase, in_word, broken, phase_of, base_of, Turn, opening, marking, heading, within, naming, further, closing, in_a_word, nowhere, Turned}
 use Rattle.syntax_check.proofs.Steps.{IsOk, Keeps, Lifts, IsLimit, Facts, goes, stops, exceeds, step_by, ManyAt, step_facts}
 use Rattle.syntax_check.proofs.Trail.{runs_on}
 
@@ -156,6 +156,8 @@ sound _ = true
 
 sound_turn : (a b : Phase) (flag : Bool) → Turn a flag b → sound a ≡ true → sound b ≡ true
 sound_turn _ _ _ opening e = refl
+sound_turn _ _ _ marking e = refl
+sound_turn _ _ _ heading e = refl
 sound_turn _ _ _ within e = refl
 sound_turn _ _ _ naming e = refl
 sound_turn _ _ _ further e = refl
@@ -165,6 +167,8 @@ sound_turn _ _ _ nowhere e = cc
 
 pub word_turn : (a b : Phase) (flag : Bool) → Turn a flag b → a ≡ in_word → b ≡ in_word
 word_turn _ _ _ opening e = cc
+word_turn _ _ _ marking e = cc
+word_turn _ _ _ heading e = cc
 word_turn _ _ _ within e = cc
 word_turn _ _ _ naming e = cc
 word_turn _ _ _ further e = cc

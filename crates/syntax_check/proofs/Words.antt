@@ -12,7 +12,7 @@ use Rattle.syntax_check.specs.Machine.{State, at, Outcome, step, run, word_start
 use Rattle.syntax_check.specs.Judge.{Verdict, Stand, onward, freed, after_step, judged_name, finish, go_on, go, free}
 use Rattle.syntax_check.specs.Verdict.{cause_of, WordWritten, WordIsRefused}
 use Rattle.syntax_check.proofs.Forgetting.{Switches, every, without, free_is}
-use Rattle.syntax_check.proofs.Phase.{Phase, between, before, behind, in_word, broken, phase_of}
+use Rattle.syntax_check.proofs.Phase.{Phase, between, marked, before, behind, in_word, broken, phase_of}
 use Rattle.syntax_check.proofs.Steps.{ManyAt}
 use Rattle.syntax_check.proofs.Runs.{word_runs}
 use Rattle.syntax_check.proofs.Said.{word_said}
@@ -20,7 +20,7 @@ use Rattle.syntax_check.proofs.Ending.{word_ending}
 use Rattle.syntax_check.proofs.Stepwise.{run_more, step_limit, no_constructors, sound, Sound, sound_run, word_run}
 use Rattle.syntax_check.proofs.Fronts.{Language, runs_without, end_is}
 use Rattle.syntax_check.proofs.Firsts.{Plain, plain_here, plain_first, end_first, no_limit}
-use Rattle.syntax_check.proofs.Judged.{within_limits, past_limit, not_start, not_result, unjudged, advance_unjudged, finish_met, failed_met}
+use Rattle.syntax_check.proofs.Judged.{within_limits, past_limit, awaits_not, not_start, not_marked, not_result, unjudged, advance_unjudged, finish_met, failed_met}
 
 pub word_end_without : (f : Switches) (st : State) → is_word_end (without f st) ≡ is_word_end st
 word_end_without f (at (Applied Paren s) lv below) = refl
@@ -50,7 +50,8 @@ word_phase m front st e = word_run m front (word_start m) st e refl
 
 -- no name is judged in a type word
 unjudged_word : (a : Stand) (t : Lexeme) → phase_of a.state ≡ in_word → judged_name a t ≡ None
-unjudged_word a t e = unjudged a t (not_start a.state (ap sound e) (differ_1 (phase_of a.state) e))
+unjudged_word a t e = unjudged a t (awaits_not a.state (not_start a.state (ap sound e) (differ_1 (phase_of a.state)
+    e)) (not_marked a.state (ap sound e) (differ_3 (phase_of a.state) e)))
     (not_result a.state (ap sound e) (differ_2 (phase_of a.state) e))
   where
     differ_1 : (ph : Phase) → ph ≡ in_word → ph ≡ between → ⊥
@@ -58,6 +59,9 @@ unjudged_word a t e = unjudged a t (not_start a.state (ap sound e) (differ_1 (ph
 
     differ_2 : (ph : Phase) → ph ≡ in_word → ph ≡ before → ⊥
     differ_2 ph e h = cc
+
+    differ_3 : (ph : Phase) → ph ≡ in_word → ph ≡ marked → ⊥
+    differ_3 ph e h = cc
 
 -- behind a limit the answer stands
 word_met : (rest front : List Lexeme) (st : State) (place begun : ℕ) (names : List (List ℕ)) (met : Cause × ℕ)

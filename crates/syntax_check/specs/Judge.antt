@@ -9,7 +9,7 @@ use Rattle.syntax_check.specs.declared.machine.Side.TheVariants.{Paren, Left, Ri
 use Rattle.syntax_check.specs.declared.machine.Spot.{Spot}
 use Rattle.syntax_check.specs.declared.machine.Spot.TheVariants.{Operand, Argument, Width, Field, Guarded, Param}
 use Rattle.syntax_check.specs.declared.machine.Mode.{Mode}
-use Rattle.syntax_check.specs.declared.machine.Mode.TheVariants.{Start, Headed, Items, Brace, BraceName, Kind, KindEnd, ItemName, ItemBlank, Term, Apply, Applied, Operated, Typed, Bit, BitEnd, Result as ResultName, Params}
+use Rattle.syntax_check.specs.declared.machine.Mode.TheVariants.{Start, Marked, Headed, Items, Brace, BraceName, Kind, KindEnd, ItemName, ItemBlank, Term, Apply, Applied, Operated, Typed, Bit, BitEnd, Result as ResultName, Params}
 use Rattle.syntax_check.specs.declared.machine.Frame.{Frame}
 use Rattle.syntax_check.specs.declared.machine.Frame.TheVariants as frames
 use Rattle.syntax_check.specs.declared.machine.Cause.{Cause}
@@ -34,6 +34,7 @@ free_spot (Param k) = Param None
 
 abbrev pub free_mode : Mode → Mode
 free_mode Start = Start
+free_mode Marked = Marked
 free_mode Headed = Headed
 free_mode (Items k) = Items None
 free_mode (Brace k) = Brace None
@@ -70,8 +71,8 @@ abbrev pub or_met : Verdict → Cause × ℕ → Verdict
 or_met (Some met) late = Some met
 or_met None late = Some late
 
--- Where the machine stands: its bounds and state, how many lexemes are behind it, how many were before the declaration
--- that it is in, the results of the declarations so far, and the limit that was met in this one.
+-- Where the machine stands: its bounds and state, how many lexemes are behind it, how many were before the name of the
+-- declaration that it is in, the results of the declarations so far, and the limit that was met in this one.
 pub record Stand : Type 0 where
   pub bounds : Bounds
   pub state : State
@@ -80,9 +81,11 @@ pub record Stand : Type 0 where
   pub names : List (List ℕ)
   pub met : Verdict
 
-abbrev pub is_start : State → Bool
-is_start (at Start lv below) = true
-is_start _ = false
+-- where the name of a declaration may come
+abbrev pub awaits_name : State → Bool
+awaits_name (at Start lv below) = true
+awaits_name (at Marked lv below) = true
+awaits_name _ = false
 
 abbrev pub is_result : State → Bool
 is_result (at ResultName lv below) = true
@@ -99,7 +102,7 @@ count_of x names = count_by (λ y. bytes_eq y x) names
 -- the name of a declaration: the limit that was met before it, or the 4,097th
 abbrev pub counted : Stand → Verdict
 counted a =
-    if is_start a.state then (if length a.names == 4096 then or_met a.met (TooManyConstructors, a.place) else a.met)
+    if awaits_name a.state then (if length a.names == 4096 then or_met a.met (TooManyConstructors, a.place) else a.met)
     else None
 
 -- behind a whole declaration's result: the 257th of its type, or the limit that was met in it
@@ -117,7 +120,7 @@ names_with a t = a.names
 
 abbrev pub onward : Stand → Lexeme → Bounds → Verdict → State → Stand
 onward a t m met next =
-    record { bounds = m; state = next; place = a.place + 1; begun = if is_start a.state then a.place else a.begun; names = names_with a t; met = met }
+    record { bounds = m; state = next; place = a.place + 1; begun = if awaits_name a.state then a.place else a.begun; names = names_with a t; met = met }
 
 -- what goes on behind a limit
 abbrev pub freed : Stand → Lexeme → Cause → Outcome → Result Stand (Cause × ℕ)

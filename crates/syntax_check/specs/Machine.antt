@@ -2,7 +2,7 @@
 -- public calls speak of the productions alone; proofs/ ties the machine to them.
 use Rattle.std.specs.Prelude.{ℕ, zero, suc, Bool, true, false, nat_le, List, [], ◌∷◌, bytes_eq, codes, if◌then◌else◌, Option, Some, None, Result, Ok, Err}
 use Rattle.tlb_syntax.specs.declared.sign.Sign.{Sign}
-use Rattle.tlb_syntax.specs.declared.sign.Sign.TheVariants.{Hash, HashHash, HashLess, HashLessEqual, Colon, Semicolon, Equal, OpenParen, CloseParen, OpenBrace, CloseBrace, OpenBracket, CloseBracket, Caret, Tilde, Question, Dot, Asterisk, Plus, Less, LessEqual, Greater, GreaterEqual}
+use Rattle.tlb_syntax.specs.declared.sign.Sign.TheVariants.{Hash, HashHash, HashLess, HashLessEqual, Colon, Semicolon, Equal, OpenParen, CloseParen, OpenBrace, CloseBrace, OpenBracket, CloseBracket, Caret, Tilde, Question, Dot, Asterisk, Plus, Less, LessEqual, Greater, GreaterEqual, Bang}
 use Rattle.tlb_syntax.specs.Lexeme.{Lexeme, word, blank, number, tag, sign}
 use Rattle.tlb_syntax.specs.Grammar.{Count, Bounds}
 use Rattle.syntax_check.specs.declared.machine.Side.{Side}
@@ -10,7 +10,7 @@ use Rattle.syntax_check.specs.declared.machine.Side.TheVariants.{Paren, Left, Ri
 use Rattle.syntax_check.specs.declared.machine.Spot.{Spot}
 use Rattle.syntax_check.specs.declared.machine.Spot.TheVariants.{Operand, Argument, Width, Field, Guarded, Param}
 use Rattle.syntax_check.specs.declared.machine.Mode.{Mode}
-use Rattle.syntax_check.specs.declared.machine.Mode.TheVariants.{Start, Headed, Items, Brace, BraceName, Kind, KindEnd, ItemName, ItemBlank, Term, Apply, Applied, Operated, Typed, Bit, BitEnd, Result as ResultName, Params}
+use Rattle.syntax_check.specs.declared.machine.Mode.TheVariants.{Start, Marked, Headed, Items, Brace, BraceName, Kind, KindEnd, ItemName, ItemBlank, Term, Apply, Applied, Operated, Typed, Bit, BitEnd, Result as ResultName, Params}
 use Rattle.syntax_check.specs.declared.machine.Frame.{Frame}
 use Rattle.syntax_check.specs.declared.machine.Frame.TheVariants as frames
 use Rattle.syntax_check.specs.declared.machine.Cause.{Cause}
@@ -174,7 +174,11 @@ params m None k lv below t = Err Syntax
 abbrev pub step_mode : Bounds → Mode → Count → List Frame → Lexeme → Outcome
 step_mode m Start lv below (word x) = Ok (at Headed lv below)
 step_mode m Start lv below blank = Ok (at Headed lv below)
+step_mode m Start lv below (sign Bang) = Ok (at Marked lv below)
 step_mode m Start lv below t = Err Syntax
+step_mode m Marked lv below (word x) = Ok (at Headed lv below)
+step_mode m Marked lv below blank = Ok (at Headed lv below)
+step_mode m Marked lv below t = Err Syntax
 step_mode m Headed lv below (tag (Some b)) = Ok (at (Items m.items) lv below)
 step_mode m Headed lv below (tag None) = Err Syntax
 step_mode m Headed lv below t = items m m.items lv below t

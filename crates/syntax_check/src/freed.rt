@@ -41,6 +41,7 @@ impl Mode {
     {
         match self {
             Mode::Start => Mode::Start,
+            Mode::Marked => Mode::Marked,
             Mode::Headed => Mode::Headed,
             Mode::Items(_) => Mode::Items(None),
             Mode::Brace(_) => Mode::Brace(None),

@@ -43,7 +43,7 @@ pub(crate) struct Judge<'a> {
     pub machine: Machine,
     /// How many lexemes were judged.
     pub place: u32,
-    /// How many of them stand before the declaration that the text is in.
+    /// How many of them stand before the name of the declaration that the text is in.
     pub begun: u32,
     /// The types of the declarations, in the order of the text.
     pub names: Vec<&'a [u8]>,
@@ -71,10 +71,10 @@ impl Machine {
         }
     }
 
-    fn is_at_start(&self) -> bool
-        ensures { result ≡ verdicts.is_start (state self.now) }
+    fn awaits_name(&self) -> bool
+        ensures { result ≡ verdicts.awaits_name (state self.now) }
     {
-        matches!(self.mode, Mode::Start)
+        matches!(self.mode, Mode::Start | Mode::Marked)
     }
 
     fn is_at_result(&self) -> bool
@@ -146,7 +146,7 @@ impl<'a> Judge<'a> {
     fn counted(&self) -> Option<Refusal>
         ensures { told_verdict result ≡ verdicts.counted (stand self.now) }
     {
-        if !self.machine.is_at_start() {
+        if !self.machine.awaits_name() {
             return None;
         }
         match self.met {
@@ -211,7 +211,7 @@ impl<'a> Judge<'a> {
             (told_verdict self.old.met) (behind to (below self.old.machine))) }
     {
         self.keep_name(next)?;
-        if self.machine.is_at_start() {
+        if self.machine.awaits_name() {
             self.begun = self.place;
         }
         self.machine.go(to)?;

@@ -33,6 +33,8 @@ pub enum Spot {
 pub enum Mode {
     /// Between declarations.
     Start,
+    /// Behind the `!` of a declaration.
+    Marked,
     /// Behind a declaration's name.
     Headed,
     /// In a record, between items.

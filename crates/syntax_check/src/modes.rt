@@ -22,6 +22,16 @@ impl Machine {
     {
         match next {
             Lexeme::Name(_) | Lexeme::Blank => Ok(self.stay(Mode::Headed)),
+            Lexeme::Sign(Sign::Bang) => Ok(self.stay(Mode::Marked)),
+            _ => Err(Cause::Syntax),
+        }
+    }
+
+    fn marked(&self, next: Lexeme) -> Result<Move, Cause>
+        ensures { in_mode self.now Mode.Marked (lexeme next.entry) ≡ outcome result (below self.now) }
+    {
+        match next {
+            Lexeme::Name(_) | Lexeme::Blank => Ok(self.stay(Mode::Headed)),
             _ => Err(Cause::Syntax),
         }
     }
@@ -172,6 +182,7 @@ impl Machine {
     {
         match self.mode {
             Mode::Start => self.starts(next),
+            Mode::Marked => self.marked(next),
             Mode::Headed => self.headed(next),
             Mode::Items(items) => self.items(items, next),
             Mode::Brace(items) => self.brace(items, next),

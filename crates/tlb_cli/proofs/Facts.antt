@@ -16,7 +16,7 @@ use Rattle.tlb_kinds.proofs.Firsts.{refused_not_kinded}
 use Rattle.tlb_lexer.proofs.Whole.{cut_once}
 use Rattle.tlb_lexer.specs.declared.Token.{Token}
 use Rattle.tlb_syntax.specs.Tree.{SchemaView}
-use Rattle.typed_value.specs.Val.{Val}
+use Rattle.typed_value.specs.Values.{Plain}
 use Rattle.tlb_cli.specs.Bag.{Bag, RefusesBag}
 use Rattle.tlb_cli.specs.Cell.{Cell, RefusesCell, exotic, stuck, SpellsValue}
 use Rattle.tlb_cli.specs.FlatForm.{FlatForm, FormOf, RefusesForm}
@@ -78,7 +78,7 @@ cell-refused_once d t r s (stuck spot cause kind stops is) (exotic other same) =
 cell-refused_once d t r s (stuck spot cause kind stops is) (stuck place why other stops_too same) =
     let one = stop-once d _ _ spot place cause why stops stops_too in is ∙ stop-same d spot place cause why one.spot one.cause ∙ sym same
 
-cell-never_both : (d : Declaration) (t : Tree) (r : Refusal) (v : Val) → RefusesCell d t r → SpellsValue d t v → ⊥
+cell-never_both : (d : Declaration) (t : Tree) (r : Refusal) (v : Plain) → RefusesCell d t r → SpellsValue d t v → ⊥
 cell-never_both d t r v (exotic kind is) spells = false≢true (sym spells.ordinary ∙ kind)
 cell-never_both d t r v (stuck spot cause kind stops is) spells = reading-or_stuck d _ _ v spot cause spells.reading stops
 

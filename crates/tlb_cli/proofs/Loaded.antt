@@ -3,7 +3,7 @@ use Rattle.std.proofs.Common.{◌≡◌, ◌∙◌, subst, sym, refl, arith, ℕ
 use Rattle.tlb_edge.specs.Files.{Name}
 use Rattle.cell_nodes.specs.Tree.{mask}
 use Rattle.cell_nodes.specs.declared.tree.Tree.{Tree}
-use Rattle.flat_records.specs.Text.{text_of}
+use Rattle.value_text.specs.Text.{text_of}
 use Rattle.flat_records.specs.declared.declaration.Declaration.{Declaration}
 use Rattle.tlb_syntax.specs.Tree.{SchemaView}
 use Rattle.tlb_cli.specs.Bag.{Bag}

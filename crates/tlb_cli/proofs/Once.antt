@@ -5,7 +5,7 @@ use Rattle.std.proofs.lemmas.List.Elements.{All-head, All-tail}
 use Rattle.tlb_edge.specs.Files.{Files, Name, file_at}
 use Rattle.tlb_files.specs.Counts.{FileName}
 use Rattle.tlb_files.specs.Loading.{Loading, not_held, too_long, loaded, with_bytes, with_file, loading}
-use Rattle.flat_records.specs.Text.{text_of}
+use Rattle.value_text.specs.Text.{text_of}
 use Rattle.cell_nodes.specs.Tree.{mask}
 use Rattle.tlb_cli.specs.Forms.{Form, HoldsAll, at, files_of, form_of}
 use Rattle.tlb_cli.specs.Hash.{Hashes}

@@ -3,10 +3,10 @@ use Rattle.std.proofs.Common.{◌≡◌, ℕ, List, Result, Ok, Err, Vec}
 use Rattle.std.specs.declared.alloc.Global.{Global}
 use Rattle.tlb_edge.specs.Files.{Name}
 use Rattle.cell_nodes.specs.declared.tree.Tree.{Tree}
-use Rattle.flat_records.specs.Text.{text_of}
+use Rattle.value_text.specs.Text.{text_of}
 use Rattle.flat_records.specs.declared.declaration.Declaration.{Declaration}
 use Rattle.tlb_syntax.specs.Tree.{SchemaView}
-use Rattle.typed_value.specs.Val.{Val}
+use Rattle.typed_value.specs.Values.{Plain}
 use Rattle.tlb_cli.specs.Bag.{Bag}
 use Rattle.tlb_cli.specs.Cell.{Cell}
 use Rattle.tlb_cli.specs.FlatForm.{FlatForm}
@@ -64,6 +64,6 @@ module _ (word : Name) (schema bag : List ℕ) where
   pub past-bag : (d : Declaration) (root : Tree) (r : Result Text Stop) → Bag bag (Ok root) → Answers (FromCell d root) text_by r → Answers (FromBag bag d) text_by r
   past-bag d root r given answers = next-goes_on (Bag bag) (λ root. FromCell d root) text_by root r given answers
 
-  pub past-cell : (d : Declaration) (root : Tree) (value : Val) (r : Result Text Stop) → Cell d root (Ok value) → Answers (Gives (line_of (text_of value))) text_by r →
+  pub past-cell : (d : Declaration) (root : Tree) (value : Plain) (r : Result Text Stop) → Cell d root (Ok value) → Answers (Gives (line_of (text_of value))) text_by r →
       Answers (FromCell d root) text_by r
   past-cell d root value r given answers = next-goes_on (Cell d root) (λ value. Gives (line_of (text_of value))) text_by value r given answers

@@ -7,7 +7,7 @@ use Rattle.flat_records.specs.declared.declaration.Declaration.{Declaration}
 use Rattle.flat_records.specs.declared.read.Cause.{Cause}
 use Rattle.flat_records.specs.declared.read.Spot.{Spot}
 use Rattle.flat_records.specs.declared.read.Spot.TheVariants.{Root}
-use Rattle.typed_value.specs.Val.{Val}
+use Rattle.typed_value.specs.Values.{Plain}
 use Rattle.tlb_cli.specs.Lines.{spot_text}
 use Rattle.tlb_cli.specs.Refusal.{Refusal, cell}
 use Rattle.tlb_cli.specs.Stage.{stage}
@@ -21,9 +21,9 @@ pub data RefusesCell (d : Declaration) (t : Tree) (refusal : Refusal) : Type 0 w
       → refusal ≡ cell (spot_text d spot) (ByReading cause) → RefusesCell d t refusal
 
 -- or the cell spells a value
-pub record SpellsValue (d : Declaration) (t : Tree) (value : Val) : Type 0 where
+pub record SpellsValue (d : Declaration) (t : Tree) (value : Plain) : Type 0 where
   pub ordinary : is_exotic (out-Tree t).kind ≡ false
   pub reading : Reading d (out-Tree t).bits (length (out-Tree t).children) value
 
-abbrev pub Cell : Declaration → Tree → Result Val Refusal → Type 0
+abbrev pub Cell : Declaration → Tree → Result Plain Refusal → Type 0
 Cell d t = stage (RefusesCell d t) (SpellsValue d t)

@@ -1,7 +1,7 @@
 -- `read SCHEMA TYPE BAG`: the value that the bag's cell spells at the type.
 use Rattle.std.specs.Prelude.{ℕ, List}
 use Rattle.tlb_edge.specs.Files.{Name}
-use Rattle.flat_records.specs.Text.{text_of}
+use Rattle.value_text.specs.Text.{text_of}
 use Rattle.tlb_cli.specs.Bag.{Bag}
 use Rattle.tlb_cli.specs.Cell.{Cell}
 use Rattle.tlb_cli.specs.FlatForm.{FlatForm}

@@ -1,6 +1,6 @@
 //! `read SCHEMA TYPE BAG`
 ghost use Rattle.std.specs.Prelude.{◌≡◌, ◌≤◌, length, IfOk};
-ghost use Rattle.flat_records.specs.Text.{text_of};
+ghost use Rattle.value_text.specs.Text.{text_of};
 ghost use Rattle.typed_value.specs.View.{value};
 ghost use Rattle.tlb_cli.specs.Lines.{line_of};
 ghost use Rattle.tlb_cli.specs.Read.{Reads};

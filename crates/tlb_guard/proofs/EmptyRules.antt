@@ -22,9 +22,9 @@ use Rattle.tlb_guard.specs.Facts.{IsBelow, IsLeast, gives, holds}
 use Rattle.tlb_guard.specs.Numbering.{passes, place_of, types_in, views, word_at}
 use Rattle.tlb_guard.specs.Views.{AddsRule, AreTypes}
 use Rattle.tlb_guard.proofs.LeastRounds.{gives_by, least_seen}
-use Rattle.tlb_guard.proofs.Numbered.{place_word, some_place, position-cons}
+use Rattle.tlb_guard.proofs.Numberings.{place_word, some_place, position-cons}
 use Rattle.tlb_guard.proofs.Rounds.{same_truth}
-use Rattle.tlb_guard.proofs.Stays.{empty_mono, empty_within}
+use Rattle.tlb_guard.proofs.LaterRounds.{empty_mono, empty_within}
 
 abbrev pub rule : ℕ → List ℕ → Rule
 rule head body = record { head = head; body = body }

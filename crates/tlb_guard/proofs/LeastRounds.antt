@@ -40,11 +40,11 @@ module _ (rules : List Rule) (seeds : List ℕ) where
       ]
 
   pub gives_mono : IsMonotone (gives rules seeds)
-  gives_mono p q part n e = told (or_cases (list_any (λ s. s == n) seeds) (list_any (gives_by p n) rules) e)
+  gives_mono p q part n e = by_cases (or_cases (list_any (λ s. s == n) seeds) (list_any (gives_by p n) rules) e)
     where
-      told : (list_any (λ s. s == n) seeds ≡ true) ⊎ (list_any (gives_by p n) rules ≡ true) → gives rules seeds q n ≡ true
-      told (inl h) = or_left (list_any (λ s. s == n) seeds) (list_any (gives_by q n) rules) h
-      told (inr h) = or_right (list_any (λ s. s == n) seeds) (list_any (gives_by q n) rules) (by_mono p q part n rules h)
+      by_cases : (list_any (λ s. s == n) seeds ≡ true) ⊎ (list_any (gives_by p n) rules ≡ true) → gives rules seeds q n ≡ true
+      by_cases (inl h) = or_left (list_any (λ s. s == n) seeds) (list_any (gives_by q n) rules) h
+      by_cases (inr h) = or_right (list_any (λ s. s == n) seeds) (list_any (gives_by q n) rules) (by_mono p q part n rules h)
 
   -- what the rules give at all
   abbrev pub given : List ℕ
@@ -67,16 +67,16 @@ module _ (rules : List Rule) (seeds : List ℕ) where
       ]
 
   pub gives_within : IsWithin given (gives rules seeds)
-  gives_within p n e = told (or_cases (list_any (λ s. s == n) seeds) (list_any (gives_by p n) rules) e)
+  gives_within p n e = by_cases (or_cases (list_any (λ s. s == n) seeds) (list_any (gives_by p n) rules) e)
     where
-      told : (list_any (λ s. s == n) seeds ≡ true) ⊎ (list_any (gives_by p n) rules ≡ true) → IsMember given n
-      told (inl h) = seed_member n seeds (map head_of rules) h
-      told (inr h) = member_right seeds (map head_of rules) n (head_member p n rules h)
+      by_cases : (list_any (λ s. s == n) seeds ≡ true) ⊎ (list_any (gives_by p n) rules ≡ true) → IsMember given n
+      by_cases (inl h) = seed_member n seeds (map head_of rules) h
+      by_cases (inr h) = member_right seeds (map head_of rules) n (head_member p n rules h)
 
   -- ---- closed sets
 
   pub closed_gives : (p : Test ℕ) → IsClosed rules seeds p → IsPart (gives rules seeds p) p
-  closed_gives p closed n e = told (or_cases (list_any (λ s. s == n) seeds) (list_any (gives_by p n) rules) e)
+  closed_gives p closed n e = by_cases (or_cases (list_any (λ s. s == n) seeds) (list_any (gives_by p n) rules) e)
     where
       seeded : Any (λ s. (s == n) ≡ true) seeds → p n ≡ true
       seeded a =
@@ -94,9 +94,9 @@ module _ (rules : List Rule) (seeds : List ℕ) where
           let here : p r.head ≡ true = subst R a.3 (closed.ruled a.0 r a.2) parts.1 in
           subst P (eqb-true r.head n parts.0) here
 
-      told : (list_any (λ s. s == n) seeds ≡ true) ⊎ (list_any (gives_by p n) rules ≡ true) → p n ≡ true
-      told (inl h) = seeded (Any-from_list_any (λ s. s == n) seeds h)
-      told (inr h) = ruled (Any-from_list_any (gives_by p n) rules h)
+      by_cases : (list_any (λ s. s == n) seeds ≡ true) ⊎ (list_any (gives_by p n) rules ≡ true) → p n ≡ true
+      by_cases (inl h) = seeded (Any-from_list_any (λ s. s == n) seeds h)
+      by_cases (inr h) = ruled (Any-from_list_any (gives_by p n) rules h)
 
   pub gives_closed : (p : Test ℕ) → IsPart (gives rules seeds p) p → IsClosed rules seeds p
   gives_closed p part = record {

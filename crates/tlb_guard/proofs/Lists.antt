@@ -12,11 +12,11 @@ use Rattle.tlb_guard.proofs.Rounds.{IsMember}
 
 -- two tests joined
 pub or_weaker : (a b c d : Bool) → (a ≡ true → c ≡ true) → (b ≡ true → d ≡ true) → (a || b) ≡ true → (c || d) ≡ true
-or_weaker a b c d f g e = told (or_cases a b e)
+or_weaker a b c d f g e = by_cases (or_cases a b e)
   where
-    told : (a ≡ true) ⊎ (b ≡ true) → (c || d) ≡ true
-    told (inl h) = or_left c d (f h)
-    told (inr h) = or_right c d (g h)
+    by_cases : (a ≡ true) ⊎ (b ≡ true) → (c || d) ≡ true
+    by_cases (inl h) = or_left c d (f h)
+    by_cases (inr h) = or_right c d (g h)
 
 -- a weaker test holds of some member where a stronger one does
 pub any_weaker : {A : Type 0} (p q : A → Bool) → ((x : A) → p x ≡ true → q x ≡ true) → (xs : List A) → list_any p xs ≡ true → list_any q xs ≡ true

@@ -18,7 +18,7 @@ use Rattle.tlb_guard.specs.DeclaredTypes.{Parameter, is_type_parameter}
 use Rattle.tlb_guard.specs.Variables.{AddsRules, at_place}
 use Rattle.tlb_guard.proofs.Rounds.{same_truth}
 use Rattle.tlb_guard.proofs.LeastRounds.{gives_by}
-use Rattle.tlb_guard.proofs.Numbered.{place_word}
+use Rattle.tlb_guard.proofs.Numberings.{place_word}
 use Rattle.tlb_guard.proofs.TypeEdges.{same_place}
 
 -- ---- truths
@@ -62,15 +62,15 @@ adds_as s a c old new adds same = record {
 -- ---- the numbers of parameters
 
 parameter_some : (w place of n : ℕ) → parameter_at w place (Some of) ≡ Some n → (place < w) × (n ≡ of * w + place)
-parameter_some w place of n e = told (nat_lt place w) refl e
+parameter_some w place of n e = by_cases (nat_lt place w) refl e
   where
-    told : (b : Bool) → nat_lt place w ≡ b → cond b (Some (of * w + place)) None ≡ Some n → (place < w) × (n ≡ of * w + place)
-    told true is h = (ltb-true place w is, cc)
-    told false is h = absurd (cc)
+    by_cases : (b : Bool) → nat_lt place w ≡ b → cond b (Some (of * w + place)) None ≡ Some n → (place < w) × (n ≡ of * w + place)
+    by_cases true is h = (ltb-true place w is, cc)
+    by_cases false is h = absurd (cc)
 
-pub parameter_from : (w place n : ℕ) (o : Option ℕ) → parameter_at w place o ≡ Some n → (m : ℕ) × (o ≡ Some m) × (place < w) × (n ≡ m * w + place)
-parameter_from w place n None e = absurd (cc)
-parameter_from w place n (Some of) e = let h = parameter_some w place of n e in (of, refl, h.0, h.1)
+pub parameter_from : (w item_index n : ℕ) (o : Option ℕ) → parameter_at w place o ≡ Some n → (m : ℕ) × (o ≡ Some m) × (place < w) × (n ≡ m * w + place)
+parameter_from w item_index n None e = absurd (cc)
+parameter_from w item_index n (Some of) e = let h = parameter_some w place of n e in (of, refl, h.0, h.1)
 
 same_row : (w a b c d : ℕ) → b < w → d < w → a * w + b ≡ c * w + d → a ≡ c
 same_row w a b c d lt below e = sym (div-mul-add a w b lt) ∙ ap (λ n. n / w) e ∙ div-mul-add c w d below
@@ -118,7 +118,7 @@ module _ (s : SchemaView) (x : Word) (number place : ℕ) (through : List ℕ) (
       forth : (t : Test ℕ) (p : Parameter) (n : ℕ) → parameter_number s p ≡ Some n → ((head == n) && list_all t through) ≡ true → (is_type_parameter s p && test t p) ≡ true
       forth t p n e h =
           let a = and_parts (head == n) (list_all t through) h in
-          let q = parameter_from (width s) p.place n (place_of s p.of) e in
+          let q = parameter_from (width s) p.item_index n (place_of s p.of) e in
           let same : number * width s + place ≡ q.0 * width s + p.place = sym row.1 ∙ eqb-true head n a.0 ∙ q.3 in
           let number_is : number ≡ q.0 = same_row (width s) number place q.0 p.place row.0 q.2 same in
           let place_is : place ≡ p.place = same_column (width s) number place q.0 p.place row.0 q.2 same in

@@ -43,16 +43,16 @@ module _ (edges : List Edge) (end : ℕ) where
   -- whatever reaches the end is it, or has an edge to what reaches it
   pub reaching_by : (n : ℕ) → reaching edges end n ≡ true → (n ≡ end) ⊎ Any (λ (e : Edge). leads_into (reaching edges end) n e ≡ true) edges
   reaching_by n e =
-      told (or_cases (list_any (λ s. s == n) (end ∷ [])) (list_any (gives_by (reaching edges end) n) back) (reaching_grows n e))
+      by_cases (or_cases (list_any (λ s. s == n) (end ∷ [])) (list_any (gives_by (reaching edges end) n) back) (reaching_grows n e))
     where
       at_end : ((end == n) ≡ true) ⊎ (false ≡ true) → n ≡ end
       at_end (inl h) = sym (eqb-true end n h)
       at_end (inr h) = absurd (false≢true h)
 
-      told : (list_any (λ s. s == n) (end ∷ []) ≡ true) ⊎ (list_any (gives_by (reaching edges end) n) back ≡ true)
+      by_cases : (list_any (λ s. s == n) (end ∷ []) ≡ true) ⊎ (list_any (gives_by (reaching edges end) n) back ≡ true)
           → (n ≡ end) ⊎ Any (λ (e : Edge). leads_into (reaching edges end) n e ≡ true) edges
-      told (inl h) = inl (at_end (or_cases (end == n) false h))
-      told (inr h) =
+      by_cases (inl h) = inl (at_end (or_cases (end == n) false h))
+      by_cases (inr h) =
           inr (Any-from_list_any (leads_into (reaching edges end) n) edges (sym (any_back (reaching edges end) n edges) ∙ h))
 
 -- the least set under rules that lead back
@@ -64,16 +64,16 @@ searched edges rules end count found is least =
 -- one more search is kept
 pub search_kept : (edges : List Edge) (searches : List (Option (List Bool))) (at : ℕ) (found : List Bool) → at < length searches
     → ((n : ℕ) → holds found n ≡ reaching edges at n) → AreSearches edges searches → AreSearches edges (set searches at (Some found))
-search_kept edges searches at found lt new are end other is n = told (cases_eq end at)
+search_kept edges searches at found lt new are end other is n = by_cases (cases_eq end at)
   where
-    told : (end ≡ at) ⊎ (end ≡ at → ⊥) → holds other n ≡ reaching edges end n
-    told (inl e) =
+    by_cases : (end ≡ at) ⊎ (end ≡ at → ⊥) → holds other n ≡ reaching edges end n
+    by_cases (inl e) =
         let S : ℕ → Type 0 = λ z. slice_get (set searches at (Some found)) z ≡ Some (Some other) in
         let here = get_or_from_slice_get (set searches at (Some found)) at (Some other) None (subst S e is) in
         let there = get_or-set_same searches at (Some found) None lt in
         let same : other ≡ found = cc in
         ap (λ z. holds z n) same ∙ new n ∙ ap (λ z. reaching edges z n) (sym e)
-    told (inr ne) =
+    by_cases (inr ne) =
         let below : end < length searches = omega (arith, slice_get_within (set searches at (Some found)) end (Some other) is, length-set searches at (Some found)) in
         let here = get_or_from_slice_get (set searches at (Some found)) end (Some other) None is in
         let there = get_or-set_other searches at end (Some found) None ne in
@@ -130,7 +130,7 @@ module _ (edges : List Edge) (targets : List (List ℕ)) (are : AreTargets targe
 
   pub off_cycle : (rules : List Rule) (count : ℕ) (found : List Bool) → All (λ (r : Rule). r.body ≡ users_at targets r.head) rules
       → IsLeast rules [] count found → holds found e.to ≡ false
-  off_cycle rules count found bodies least = told (cases_Bool (holds found e.to))
+  off_cycle rules count found bodies least = by_cases (cases_Bool (holds found e.to))
     where
       ruled : (r : Rule) → r.body ≡ users_at targets r.head → list_all away r.body ≡ true → (reaching edges e.from r.head ≡ true) ⊎ (reaching edges e.from r.head ≡ false) → away r.head ≡ true
       ruled r body all (inr h) = not_from_false (reaching edges e.from r.head) h
@@ -148,8 +148,8 @@ module _ (edges : List Edge) (targets : List (List ℕ)) (are : AreTargets targe
           none : (j : ℕ) → j < 0 → ⊥
           none j lt = omega (arith, lt)
 
-      told : (holds found e.to ≡ true) ⊎ (holds found e.to ≡ false) → holds found e.to ≡ false
-      told (inr h) = h
-      told (inl h) =
+      by_cases : (holds found e.to ≡ true) ⊎ (holds found e.to ≡ false) → holds found e.to ≡ false
+      by_cases (inr h) = h
+      by_cases (inl h) =
           let gone : away e.to ≡ true = least.sound away closed e.to h in
           absurd (false≢true (sym (not-true (reaching edges e.from e.to) gone) ∙ trip))

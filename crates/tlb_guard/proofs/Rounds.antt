@@ -112,12 +112,12 @@ module _ {A : Type 0} (rules : Test A → Test A) (mono : IsMonotone rules) wher
         next (inr le) (inr lt) = inr (omega (arith, le, lt))
 
     closed_early : (k : ℕ) × (k ≤ length xs) × IsPart (round rules (suc k)) (round rules k)
-    closed_early = told (settled (suc (length xs)))
+    closed_early = by_cases (settled (suc (length xs)))
       where
-        told : ((k : ℕ) × (k < suc (length xs)) × IsPart (round rules (suc k)) (round rules k)) ⊎ (suc (length xs) ≤ members (round rules (suc (length xs))) xs)
+        by_cases : ((k : ℕ) × (k < suc (length xs)) × IsPart (round rules (suc k)) (round rules k)) ⊎ (suc (length xs) ≤ members (round rules (suc (length xs))) xs)
             → (k : ℕ) × (k ≤ length xs) × IsPart (round rules (suc k)) (round rules k)
-        told (inl s) = (s.0, omega (arith, s.1), s.2)
-        told (inr le) = let bound = members_few (round rules (suc (length xs))) xs in absurd (omega (arith, le, bound))
+        by_cases (inl s) = (s.0, omega (arith, s.1), s.2)
+        by_cases (inr le) = let bound = members_few (round rules (suc (length xs))) xs in absurd (omega (arith, le, bound))
 
     -- every round is a part of that whose number is the length of the list
     pub within_last : (n : ℕ) → IsPart (round rules n) (round rules (length xs))

@@ -17,21 +17,21 @@ use Rattle.tlb_guard.specs.Rounds.{Test, round}
 use Rattle.tlb_guard.specs.Facts.{gives, holds}
 use Rattle.tlb_guard.specs.Numbering.{passes, place_of, types_in, parameters_in, word_at}
 use Rattle.tlb_guard.specs.DeclaredTypes.{Parameter, declared_types, result_of, type_count}
-use Rattle.tlb_guard.specs.Exposed.{Front, a_type, a_variable, is_type, Known, Exposed, exposed_by, exposed_parameters, known}
+use Rattle.tlb_guard.specs.Exposed.{ExposedTerm, a_type, a_variable, is_type, Known, Exposed, exposed_by, exposed_parameters, known}
 use Rattle.tlb_guard.specs.Empty.{may_take_nothing}
 use Rattle.tlb_guard.specs.Views.{knowing}
-use Rattle.tlb_guard.specs.Cycles.{is_edge, back_rules, is_reached, is_on_cycle, leads_back, first_unguarded_item, Place, place, or_else, first_from}
-use Rattle.tlb_guard.specs.Edges.{IsNumbered, TypeEdge, back_rule, edge_to, edges_by, edges_from, is_round_trip, place_by, reaching, type_edge}
+use Rattle.tlb_guard.specs.Cycles.{is_edge, back_rules, is_reached, is_on_cycle, leads_back, first_unguarded_item, ItemIndex, place, or_else, first_from}
+use Rattle.tlb_guard.specs.Edges.{IsNumbered, TypeEdge, back_rule, edge_to, edges_by, edges_from, is_round_trip, index_by, reaching, type_edge}
 use Rattle.tlb_guard.proofs.Rounds.{IsMember, same_truth}
 use Rattle.tlb_guard.proofs.Lists.{among_distinct}
-use Rattle.tlb_guard.proofs.Numbered.{place_word}
-use Rattle.tlb_guard.proofs.Reaching.{back_mono, back_within}
+use Rattle.tlb_guard.proofs.Numberings.{place_word}
+use Rattle.tlb_guard.proofs.ReachedTypes.{back_mono, back_within}
 use Rattle.tlb_guard.proofs.LeastRounds.{given, gives_by, head_of, last_seen}
 use Rattle.tlb_guard.proofs.RoundTrips.{leads_into, any_back}
 
 -- ---- the first that leads back
 
-abbrev pub at_of : TypeEdge → Place
+abbrev pub at_of : TypeEdge → ItemIndex
 at_of t = t.at
 
 abbrev pub is_trip : Known → TypeEdge → Bool
@@ -45,25 +45,25 @@ first_or None b = refl
 first_or (Some t) b = refl
 
 at_type : (b : Bool) (x y : Word) (n item : ℕ) (rest : Option TypeEdge) (others : Option Exposed)
-    → option_map at_of rest ≡ option_map (place n) (option_map item_of others)
-    → option_map at_of (cond b (Some (record { from = x; to = y; at = place n item })) rest)
-    ≡ option_map (place n) (option_map item_of (cond b (Some (record { item = item; front = a_type y })) others))
+    → option_map at_of rest ≡ option_map (item_index n) (option_map item_of others)
+    → option_map at_of (cond b (Some (record { from = x; to = y; at = item_index n item })) rest)
+    ≡ option_map (item_index n) (option_map item_of (cond b (Some (record { item = item; term = a_type y })) others))
 at_type true x y n item rest others e = refl
 at_type false x y n item rest others e = e
 
-at_front : (k : Known) (x : Word) (n item : ℕ) (f : Front) (rest : List TypeEdge) (others : Option Exposed)
-    → option_map at_of (find (is_trip k) rest) ≡ option_map (place n) (option_map item_of others)
+at_term : (k : Known) (x : Word) (n item : ℕ) (f : ExposedTerm) (rest : List TypeEdge) (others : Option Exposed)
+    → option_map at_of (find (is_trip k) rest) ≡ option_map (item_index n) (option_map item_of others)
     → option_map at_of (find (is_trip k) (edge_to x n item f ++ rest))
-    ≡ option_map (place n) (option_map item_of (cond (leads_back k x f) (Some (record { item = item; front = f })) others))
-at_front k x n item (a_type y) rest others e = at_type (is_on_cycle k x y) x y n item (find (is_trip k) rest) others e
-at_front k x n item (a_variable y) rest others e = e
+    ≡ option_map (item_index n) (option_map item_of (cond (leads_back k x f) (Some (record { item = item; term = f })) others))
+at_term k x n item (a_type y) rest others e = at_type (is_on_cycle k x y) x y n item (find (is_trip k) rest) others e
+at_term k x n item (a_variable y) rest others e = e
 
 by_first : (k : Known) (x : Word) (n : ℕ) (es : List Exposed)
     → option_map at_of (find (is_trip k) (edges_by x n es))
-    ≡ option_map (place n) (option_map item_of (find (λ (e : Exposed). leads_back k x e.front) es))
+    ≡ option_map (item_index n) (option_map item_of (find (λ (e : Exposed). leads_back k x e.term) es))
 by_first k x n [] = refl
 by_first k x n (e ∷ es) =
-    at_front k x n e.item e.front (edges_by x n es) (find (λ (z : Exposed). leads_back k x z.front) es) (by_first k x n es)
+    at_term k x n e.item e.term (edges_by x n es) (find (λ (z : Exposed). leads_back k x z.term) es) (by_first k x n es)
 
 pub from_first : (k : Known) (n : ℕ) (s : SchemaView) → option_map at_of (find (is_trip k) (edges_from k n s)) ≡ first_from k n s
 from_first k n [] = refl
@@ -71,7 +71,7 @@ from_first k n (c ∷ cs) =
     ap (option_map at_of) (find-append (is_trip k) (edges_by c.result n (exposed_by k c)) (edges_from k (n + 1) cs))
     ∙ first_or (find (is_trip k) (edges_by c.result n (exposed_by k c))) (find (is_trip k) (edges_from k (n + 1) cs))
     ∙ ap (λ z. or_else z (option_map at_of (find (is_trip k) (edges_from k (n + 1) cs)))) (by_first k c.result n (exposed_by k c))
-    ∙ ap (or_else (option_map (place n) (first_unguarded_item k c))) (from_first k (n + 1) cs)
+    ∙ ap (or_else (option_map (item_index n) (first_unguarded_item k c))) (from_first k (n + 1) cs)
 
 -- ---- whether there is an edge
 
@@ -87,34 +87,34 @@ or_and : (b t r : Bool) → ((b && t) || (b && r)) ≡ (b && (t || r))
 or_and true t r = refl
 or_and false t r = refl
 
-front_joins : (x y z : Word) (n item : ℕ) (f : Front) (rest : List TypeEdge) (others : Bool)
+term_joins : (x y z : Word) (n item : ℕ) (f : ExposedTerm) (rest : List TypeEdge) (others : Bool)
     → list_any (joins x y) rest ≡ (bytes_eq z x && others)
     → list_any (joins x y) (edge_to z n item f ++ rest) ≡ (bytes_eq z x && (is_type y f || others))
-front_joins x y z n item (a_type w) rest others e =
+term_joins x y z n item (a_type w) rest others e =
     ap (λ b. (bytes_eq z x && bytes_eq w y) || b) e ∙ or_and (bytes_eq z x) (bytes_eq w y) others
-front_joins x y z n item (a_variable w) rest others e = e
+term_joins x y z n item (a_variable w) rest others e = e
 
 by_joins : (x y z : Word) (n : ℕ) (es : List Exposed)
-    → list_any (joins x y) (edges_by z n es) ≡ (bytes_eq z x && list_any (λ (e : Exposed). is_type y e.front) es)
+    → list_any (joins x y) (edges_by z n es) ≡ (bytes_eq z x && list_any (λ (e : Exposed). is_type y e.term) es)
 by_joins x y z n [] = sym (and_false (bytes_eq z x))
 by_joins x y z n (e ∷ es) =
-    front_joins x y z n e.item e.front (edges_by z n es) (list_any (λ (d : Exposed). is_type y d.front) es) (by_joins x y z n es)
+    term_joins x y z n e.item e.term (edges_by z n es) (list_any (λ (d : Exposed). is_type y d.term) es) (by_joins x y z n es)
 
 of_joins : (k : Known) (y : Word) (b : Bool) (c : ConstructorView) (cs : SchemaView) (a r : Bool)
-    → r ≡ list_any (λ (d : ConstructorView). list_any (λ (e : Exposed). is_type y e.front) (exposed_by k d)) cs
-    → a ≡ list_any (λ (e : Exposed). is_type y e.front) (exposed_by k c)
-    → ((b && a) || r) ≡ list_any (λ (d : ConstructorView). list_any (λ (e : Exposed). is_type y e.front) (exposed_by k d)) (cond b (c ∷ cs) cs)
-of_joins k y true c cs a r rest is = ap (λ z. z || r) is ∙ ap (λ z. list_any (λ (e : Exposed). is_type y e.front) (exposed_by k c) || z) rest
+    → r ≡ list_any (λ (d : ConstructorView). list_any (λ (e : Exposed). is_type y e.term) (exposed_by k d)) cs
+    → a ≡ list_any (λ (e : Exposed). is_type y e.term) (exposed_by k c)
+    → ((b && a) || r) ≡ list_any (λ (d : ConstructorView). list_any (λ (e : Exposed). is_type y e.term) (exposed_by k d)) (cond b (c ∷ cs) cs)
+of_joins k y true c cs a r rest is = ap (λ z. z || r) is ∙ ap (λ z. list_any (λ (e : Exposed). is_type y e.term) (exposed_by k c) || z) rest
 of_joins k y false c cs a r rest is = rest
 
 pub from_joins : (k : Known) (x y : Word) (n : ℕ) (s : SchemaView)
     → list_any (joins x y) (edges_from k n s)
-    ≡ list_any (λ (c : ConstructorView). list_any (λ (e : Exposed). is_type y e.front) (exposed_by k c)) (of_type s x)
+    ≡ list_any (λ (c : ConstructorView). list_any (λ (e : Exposed). is_type y e.term) (exposed_by k c)) (of_type s x)
 from_joins k x y n [] = refl
 from_joins k x y n (c ∷ cs) =
     list_any-append (joins x y) (edges_by c.result n (exposed_by k c)) (edges_from k (n + 1) cs)
     ∙ ap (λ b. b || list_any (joins x y) (edges_from k (n + 1) cs)) (by_joins x y c.result n (exposed_by k c))
-    ∙ of_joins k y (bytes_eq c.result x) c (of_type cs x) (list_any (λ (e : Exposed). is_type y e.front) (exposed_by k c))
+    ∙ of_joins k y (bytes_eq c.result x) c (of_type cs x) (list_any (λ (e : Exposed). is_type y e.term) (exposed_by k c))
     (list_any (joins x y) (edges_from k (n + 1) cs)) (from_joins k x y (n + 1) cs) refl
 
 -- ---- words and numbers
@@ -192,7 +192,7 @@ module _ (k : Known) (edges : List Edge) (are : map (type_edge k.types) edges �
 
   to_numbers : (p : Test ℕ) (x : Word) → back_rules k end (types_in k.types p) x ≡ true → types_in k.types (gives rules (m ∷ []) p) x ≡ true
   to_numbers p x h =
-      told (or_cases (bytes_eq x end) (list_any (λ y. is_edge k x y && types_in k.types p y) (declared_types k.types)) h)
+      by_cases (or_cases (bytes_eq x end) (list_any (λ y. is_edge k x y && types_in k.types p y) (declared_types k.types)) h)
     where
       by_edge : (y : Word) → (is_edge k x y && types_in k.types p y) ≡ true → types_in k.types (gives rules (m ∷ []) p) x ≡ true
       by_edge y b =
@@ -201,14 +201,14 @@ module _ (k : Known) (edges : List Edge) (are : map (type_edge k.types) edges �
           let to : p e.1.to ≡ true = sym (seen_some p y e.1.to e.4.1) ∙ parts.1 in
           seen_some (gives rules (m ∷ []) p) x e.1.from e.4.0 ∙ gives_edge p e.1.from (e.0, e.1, e.2, e.3, (refl, to))
 
-      told : (bytes_eq x end ≡ true) ⊎ (list_any (λ y. is_edge k x y && types_in k.types p y) (declared_types k.types) ≡ true)
+      by_cases : (bytes_eq x end ≡ true) ⊎ (list_any (λ y. is_edge k x y && types_in k.types p y) (declared_types k.types) ≡ true)
           → types_in k.types (gives rules (m ∷ []) p) x ≡ true
-      told (inl e) =
+      by_cases (inl e) =
           let P : Word → Type 0 = λ z. types_in k.types (gives rules (m ∷ []) p) z ≡ true in
           subst P (sym ((bytes_eq-Decides x end).0 e))
           (seen_some (gives rules (m ∷ []) p) end m at_end
           ∙ or_left (list_any (λ s. s == m) (m ∷ [])) (list_any (gives_by p m) rules) (or_left (m == m) false (eq-eqb m m refl)))
-      told (inr a) =
+      by_cases (inr a) =
           let y = Any-from_list_any (λ y. is_edge k x y && types_in k.types p y) (declared_types k.types) a in by_edge y.1 y.4
 
   from_numbers : (p : Test ℕ) (x : Word) → types_in k.types (gives rules (m ∷ []) p) x ≡ true → back_rules k end (types_in k.types p) x ≡ true
@@ -241,11 +241,11 @@ module _ (k : Known) (edges : List Edge) (are : map (type_edge k.types) edges �
           (and_from (is_edge k x y) (types_in k.types p y) edge to))
 
       at_number : (n : ℕ) × (place_of k.types x ≡ Some n) × (gives rules (m ∷ []) p n ≡ true) → back_rules k end (types_in k.types p) x ≡ true
-      at_number a = told (or_cases (list_any (λ s. s == a.0) (m ∷ [])) (list_any (gives_by p a.0) rules) a.2)
+      at_number a = by_cases (or_cases (list_any (λ s. s == a.0) (m ∷ [])) (list_any (gives_by p a.0) rules) a.2)
         where
-          told : (list_any (λ s. s == a.0) (m ∷ []) ≡ true) ⊎ (list_any (gives_by p a.0) rules ≡ true) → back_rules k end (types_in k.types p) x ≡ true
-          told (inl e) = at_seed a.0 a.1 (or_cases (m == a.0) false e)
-          told (inr e) = at_edge a.0 a.1 (Any-from_list_any (leads_into p a.0) edges (sym (any_back p a.0 edges) ∙ e))
+          by_cases : (list_any (λ s. s == a.0) (m ∷ []) ≡ true) ⊎ (list_any (gives_by p a.0) rules ≡ true) → back_rules k end (types_in k.types p) x ≡ true
+          by_cases (inl e) = at_seed a.0 a.1 (or_cases (m == a.0) false e)
+          by_cases (inr e) = at_edge a.0 a.1 (Any-from_list_any (leads_into p a.0) edges (sym (any_back p a.0 edges) ∙ e))
 
   -- one use of the rules over words is one over numbers
   pub back_tied : (p : Test ℕ) (x : Word) → back_rules k end (types_in k.types p) x ≡ types_in k.types (gives rules (m ∷ []) p) x
@@ -275,12 +275,12 @@ find_map {A = A} {B = B} f q p (x ∷ xs) all =
     at_test a true y z ys zs e is rest = ap (λ t. cond t (Some y) ys) e ∙ ap Some is
     at_test a false y z ys zs e is rest = ap (λ t. cond t (Some y) ys) e ∙ rest
 
-place_of_edge : (s : SchemaView) (o : Option Edge) → option_map at_of (option_map (type_edge s) o) ≡ option_map place_by (option_map (λ (e : Edge). e.at) o)
+place_of_edge : (s : SchemaView) (o : Option Edge) → option_map at_of (option_map (type_edge s) o) ≡ option_map index_by (option_map (λ (e : Edge). e.at) o)
 place_of_edge s None = refl
 place_of_edge s (Some e) = refl
 
 pub first_tied : (k : Known) (edges : List Edge) → map (type_edge k.types) edges ≡ edges_from k 0 k.types → All (IsNumbered k.types) edges
-    → option_map place_by (option_map (λ (e : Edge). e.at) (find (is_round_trip edges) edges)) ≡ first_from k 0 k.types
+    → option_map index_by (option_map (λ (e : Edge). e.at) (find (is_round_trip edges) edges)) ≡ first_from k 0 k.types
 first_tied k edges are numbered =
     let test : All (λ (e : Edge). is_trip k (type_edge k.types e) ≡ is_round_trip edges e) edges =
     λ j d lt.

@@ -5,7 +5,7 @@ use Rattle.std.specs.Prelude.{ℕ, zero, suc, ◌&&◌, ◌||◌, not, List, [],
 use Rattle.tlb_syntax.specs.Tree.{ExprList, TagView, ConstructorView, SchemaView, no_exprs, an_expr, computed, given}
 use Rattle.kind_terms.specs.Words.{Word, is_among, is_built_in}
 use Rattle.kind_terms.specs.Dictionaries.{is_dictionary, of_type}
-use Rattle.kind_terms.specs.declared.kind.Kind.{Kind}
+use Rattle.kind_terms.specs.declared.kind.TermKind.{TermKind}
 use Rattle.kind_terms.specs.Params.{kinds, is_type_in, bare_name}
 
 -- each word once
@@ -35,14 +35,14 @@ pub record Parameter : Type 0 where
   pub place : ℕ
 
 -- the first constructor of a type fixes its parameters
-abbrev pub first_kinds : SchemaView → List Kind
-first_kinds [] = []
-first_kinds (c ∷ cs) = kinds c
+abbrev pub parameter_kinds : SchemaView → List TermKind
+parameter_kinds [] = []
+parameter_kinds (c ∷ cs) = kinds c
 
-abbrev pub kinds_of_type : SchemaView → Word → List Kind
-kinds_of_type types x = first_kinds (of_type types x)
+abbrev pub kinds_of_type : SchemaView → Word → List TermKind
+kinds_of_type types x = parameter_kinds (of_type types x)
 
-abbrev pub is_type_kind : Option Kind → Bool
+abbrev pub is_type_kind : Option TermKind → Bool
 is_type_kind None = false
 is_type_kind (Some k) = is_type_in k
 

@@ -8,8 +8,8 @@ use Rattle.kind_terms.specs.Words.{Word}
 use Rattle.tlb_guard.specs.Rounds.{Test, round}
 use Rattle.tlb_guard.specs.Facts.{holds, gives}
 use Rattle.tlb_guard.specs.Numbering.{place_of, word_at}
-use Rattle.tlb_guard.specs.Exposed.{Front, a_type, a_variable, Known, Exposed, exposed_by}
-use Rattle.tlb_guard.specs.Cycles.{Place, place}
+use Rattle.tlb_guard.specs.Exposed.{ExposedTerm, a_type, a_variable, Known, Exposed, exposed_by}
+use Rattle.tlb_guard.specs.Cycles.{ItemIndex, item_index}
 use Rattle.tlb_guard.specs.Users.{HasUser}
 
 -- What reaches the edge's second type, its first reaches too.
@@ -30,17 +30,17 @@ is_round_trip edges e = reaching edges e.from e.to
 pub record TypeEdge : Type 0 where
   pub from : Word
   pub to : Word
-  pub at : Place
+  pub at : ItemIndex
 
 -- what a type exposes through an item leads to a type, unless it is a variable
-abbrev pub edge_to : Word → ℕ → ℕ → Front → List TypeEdge
-edge_to x n item (a_type y) = record { from = x; to = y; at = place n item } ∷ []
+abbrev pub edge_to : Word → ℕ → ℕ → ExposedTerm → List TypeEdge
+edge_to x n item (a_type y) = record { from = x; to = y; at = item_index n item } ∷ []
 edge_to x n item (a_variable y) = []
 
 -- by what the constructor at that place exposes
 abbrev pub edges_by : Word → ℕ → List Exposed → List TypeEdge
 edges_by x n [] = []
-edges_by x n (e ∷ es) = edge_to x n e.item e.front ++ edges_by x n es
+edges_by x n (e ∷ es) = edge_to x n e.item e.term ++ edges_by x n es
 
 -- of these declarations, from this place on, by what each exposes
 abbrev pub edges_at : ℕ → SchemaView → List (List Exposed) → List TypeEdge
@@ -52,11 +52,11 @@ abbrev pub edges_from : Known → ℕ → SchemaView → List TypeEdge
 edges_from k n s = edges_at n s (map (exposed_by k) s)
 
 -- an item of a constructor, by the places of both from 0
-abbrev pub place_by : Unguarded → Place
-place_by u = record { constructor = u.constructor; item = u.item }
+abbrev pub index_by : Unguarded → ItemIndex
+index_by u = record { constructor = u.constructor; item = u.item }
 
 abbrev pub type_edge : SchemaView → Edge → TypeEdge
-type_edge s e = record { from = word_at s e.from; to = word_at s e.to; at = place_by e.at }
+type_edge s e = record { from = word_at s e.from; to = word_at s e.to; at = index_by e.at }
 
 abbrev pub edges_in : SchemaView → Option Edge → List TypeEdge
 edges_in s None = []

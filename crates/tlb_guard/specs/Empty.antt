@@ -43,7 +43,7 @@ may_be_empty_type empty x es =
     else empty x
 
 -- Whether what stands there, with these names in scope, may take nothing. Type variables, and types that are repeated or
--- stand behind a condition, may; a record may where each of its fields may.
+-- stand after a condition, may; a record may where each of its fields may.
 abbrev mutual
   pub may_be_empty : Test Word → List Word → ExprView → Bool
   may_be_empty empty scope (lit n) = true

@@ -1,4 +1,4 @@
--- What stands at the front of a type, before anything is taken for sure.
+-- What stands first in a type, before anything is taken for sure.
 -- Source: the TON documentation on TL-B (parametrized types), and this project's rules.
 use Rattle.std.specs.Prelude.{ℕ, ◌+◌, ◌&&◌, List, [], ◌∷◌, ◌++◌, map, Bool, true, false, Option, Some, None, bytes_eq, if◌then◌else◌}
 use Rattle.std.specs.List.{list_any}
@@ -11,15 +11,15 @@ use Rattle.tlb_guard.specs.DeclaredTypes.{Parameter, is_declared_type, is_type_p
 use Rattle.tlb_guard.specs.Empty.{is_variable, may_be_empty_item, may_take_nothing}
 
 -- what is exposed
-pub data Front : Type 0 where
-  a_type : Word → Front
-  a_variable : Word → Front
+pub data ExposedTerm : Type 0 where
+  a_type : Word → ExposedTerm
+  a_variable : Word → ExposedTerm
 
-abbrev pub is_type : Word → Front → Bool
+abbrev pub is_type : Word → ExposedTerm → Bool
 is_type x (a_type y) = bytes_eq y x
 is_type x (a_variable y) = false
 
-abbrev pub is_variable_called : Option Word → Front → Bool
+abbrev pub is_variable_called : Option Word → ExposedTerm → Bool
 is_variable_called None f = false
 is_variable_called (Some x) (a_type y) = false
 is_variable_called (Some x) (a_variable y) = bytes_eq y x
@@ -31,7 +31,7 @@ pub record Known : Type 0 where
   pub exposed : Test Parameter
 
 -- a declared type, and what comes from its arguments
-abbrev pub type_and : Bool → Word → List Front → List Front
+abbrev pub type_and : Bool → Word → List ExposedTerm → List ExposedTerm
 type_and true x from_arguments = a_type x ∷ from_arguments
 type_and false x from_arguments = []
 
@@ -39,59 +39,59 @@ type_and false x from_arguments = []
 -- and what an argument exposes where the parameter at its place is exposed; a repetition exposes what the repeated type
 -- exposes; a record exposes what its fields expose, up to and with the first that may not take nothing.
 abbrev mutual
-  pub fronts : Known → List Word → ExprView → List Front
-  fronts k scope (lit n) = []
-  fronts k scope (named x es) =
+  pub terms_of : Known → List Word → ExprView → List ExposedTerm
+  terms_of k scope (lit n) = []
+  terms_of k scope (named x es) =
       if is_variable scope x es then a_variable x ∷ []
-      else type_and (is_declared_type k.types x) x (argument_fronts k scope x 0 es)
-  fronts k scope nat32 = []
-  fronts k scope (bits es) = []
-  fronts k scope (below es) = []
-  fronts k scope (up_to es) = []
-  fronts k scope (plus a b) = []
-  fronts k scope (star a b) = fronts k scope b
-  fronts k scope (out e) = []
-  fronts k scope (ref e) = []
-  fronts k scope (group is) = item_fronts k scope is
+      else type_and (is_declared_type k.types x) x (terms_of_arguments k scope x 0 es)
+  terms_of k scope nat32 = []
+  terms_of k scope (bits es) = []
+  terms_of k scope (below es) = []
+  terms_of k scope (up_to es) = []
+  terms_of k scope (plus a b) = []
+  terms_of k scope (star a b) = terms_of k scope b
+  terms_of k scope (out e) = []
+  terms_of k scope (ref e) = []
+  terms_of k scope (group is) = terms_of_items k scope is
 
   -- of the arguments of a type, from this place on
-  pub argument_fronts : Known → List Word → Word → ℕ → ExprList → List Front
-  argument_fronts k scope x n no_exprs = []
-  argument_fronts k scope x n (an_expr e es) =
-      (if k.exposed (record { of = x; place = n }) then fronts k scope e else [])
-      ++ argument_fronts k scope x (n + 1) es
+  pub terms_of_arguments : Known → List Word → Word → ℕ → ExprList → List ExposedTerm
+  terms_of_arguments k scope x n no_exprs = []
+  terms_of_arguments k scope x n (an_expr e es) =
+      (if k.exposed (record { of = x; place = n }) then terms_of k scope e else [])
+      ++ terms_of_arguments k scope x (n + 1) es
 
-  pub field_fronts : Known → List Word → TypeView → List Front
-  field_fronts k scope (plain e) = fronts k scope e
-  field_fronts k scope (when c e) = fronts k scope e
-  field_fronts k scope (when_bit c b e) = fronts k scope e
+  pub terms_of_field : Known → List Word → TypeView → List ExposedTerm
+  terms_of_field k scope (plain e) = terms_of k scope e
+  terms_of_field k scope (when c e) = terms_of k scope e
+  terms_of_field k scope (when_bit c b e) = terms_of k scope e
 
-  pub item_front : Known → List Word → ItemView → List Front
-  item_front k scope (implicit x kind) = []
-  item_front k scope (check a op b) = []
-  item_front k scope (explicit x t) = field_fronts k scope t
+  pub terms_of_item : Known → List Word → ItemView → List ExposedTerm
+  terms_of_item k scope (implicit x kind) = []
+  terms_of_item k scope (check a op b) = []
+  terms_of_item k scope (explicit x t) = terms_of_field k scope t
 
-  pub item_fronts : Known → List Word → ItemList → List Front
-  item_fronts k scope no_items = []
-  item_fronts k scope (an_item i is) =
-      item_front k scope i
-      ++ (if may_be_empty_item k.empty scope i then item_fronts k (scope ++ field_names i) is else [])
+  pub terms_of_items : Known → List Word → ItemList → List ExposedTerm
+  terms_of_items k scope no_items = []
+  terms_of_items k scope (an_item i is) =
+      terms_of_item k scope i
+      ++ (if may_be_empty_item k.empty scope i then terms_of_items k (scope ++ field_names i) is else [])
 
 -- ---- constructors
 
 -- what a constructor exposes through its item at this place, from 0
 pub record Exposed : Type 0 where
   pub item : ℕ
-  pub front : Front
+  pub term : ExposedTerm
 
-abbrev pub through : ℕ → Front → Exposed
-through n f = record { item = n; front = f }
+abbrev pub through : ℕ → ExposedTerm → Exposed
+through n f = record { item = n; term = f }
 
 -- of the items of a constructor, from this place on
 abbrev pub exposed_from : Known → List Word → ℕ → ItemList → List Exposed
 exposed_from k scope n no_items = []
 exposed_from k scope n (an_item i is) =
-    map (through n) (item_front k scope i)
+    map (through n) (terms_of_item k scope i)
     ++ (if may_be_empty_item k.empty scope i then exposed_from k (scope ++ field_names i) (n + 1) is else [])
 
 -- A constructor with the empty tag exposes what its fields expose, up to and with the first that may not take nothing.
@@ -101,7 +101,7 @@ exposed_by k c = if has_empty_tag c then exposed_from k [] 0 c.items else []
 -- ---- parameters
 
 abbrev pub exposes_variable : Known → Option Word → ConstructorView → Bool
-exposes_variable k x c = list_any (λ (e : Exposed). is_variable_called x e.front) (exposed_by k c)
+exposes_variable k x c = list_any (λ (e : Exposed). is_variable_called x e.term) (exposed_by k c)
 
 -- one use of the rules: a type parameter is exposed where a constructor exposes its variable
 abbrev pub exposed_rules : SchemaView → Test Word → Test Parameter → Test Parameter

@@ -19,6 +19,6 @@ ExposedStays =
     → round (exposed_rules types (may_take_nothing types)) n p ≡ exposed_parameters types p
 
 -- what is reached at all is reached by at most as many edges as there are types
-abbrev pub FewEdgesReach : Type 0
-FewEdgesReach =
+abbrev pub ReachedWithinTypeCount : Type 0
+ReachedWithinTypeCount =
     (k : Known) (n : ℕ) (from end : Word) → is_reached k n from end ≡ true → is_reached k (type_count k.types) from end ≡ true

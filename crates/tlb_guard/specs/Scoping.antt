@@ -7,7 +7,7 @@ use Rattle.kind_terms.specs.Words.{Word}
 abbrev pub names : List (Bor Name) → List Word
 names scope = map (λ n. n.now) scope
 
--- the names in scope stay there, and others come behind them
-pub record IsFront (old new : List (Bor Name)) : Type 0 where
+-- the names in scope stay there, and others come after them
+pub record IsScopePrefix (old new : List (Bor Name)) : Type 0 where
   pub longer : length old ≤ length new
   pub same : take (length old) new ≡ old

@@ -16,5 +16,5 @@ AreUsersTo users rules n =
     → HasUser users (slice_index (slice_index_or rules k d).body j) k
 
 -- the rules are among the first n
-abbrev pub AreFew : ℕ → List (List ℕ) → Type 0
-AreFew n users = All (All (λ k. k < n)) users
+abbrev pub AreNumbersBelow : ℕ → List (List ℕ) → Type 0
+AreNumbersBelow n users = All (All (λ k. k < n)) users

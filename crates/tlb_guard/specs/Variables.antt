@@ -4,7 +4,7 @@ use Rattle.std.specs.List.{list_any, list_all}
 use Rattle.tlb_syntax.specs.Tree.{ConstructorView, SchemaView}
 use Rattle.kind_terms.specs.Words.{Word}
 use Rattle.tlb_guard.specs.declared.rules.Rule.{Rule}
-use Rattle.tlb_guard.specs.declared.front.Lead.{Lead}
+use Rattle.tlb_guard.specs.declared.exposures.Exposure.{Exposure}
 use Rattle.tlb_guard.specs.Rounds.{Test}
 use Rattle.tlb_guard.specs.Facts.{IsBelow, gives}
 use Rattle.tlb_guard.specs.Numbering.{parameter_number, width}
@@ -19,7 +19,7 @@ is_called_at c x place = is_variable_called (variable_at c.params place) (a_vari
 -- whether the constructor is of the parameter's type and exposes its variable
 abbrev pub names : Parameter → ConstructorView → List Exposed → Bool
 names p c es =
-    bytes_eq c.result p.of && list_any (λ (e : Exposed). is_variable_called (variable_at c.params p.place) e.front) es
+    bytes_eq c.result p.of && list_any (λ (e : Exposed). is_variable_called (variable_at c.params p.place) e.term) es
 
 -- of these constructors, by what each exposes
 abbrev pub named_at : Parameter → SchemaView → List (List Exposed) → Bool
@@ -42,15 +42,15 @@ at_place x place through t p = bytes_eq x p.of && ((p.place == place) && list_al
 
 -- the parameters of that variable among the first n
 abbrev pub called_among : ConstructorView → Word → List ℕ → ℕ → Test ℕ → Parameter → Bool
-called_among c x through n t p = bytes_eq c.result p.of && ((nat_lt p.place n && is_called_at c x p.place) && list_all t through)
+called_among c x through n t p = bytes_eq c.result p.of && ((nat_lt p.item_index n && is_called_at c x p.place) && list_all t through)
 
 abbrev pub called : ConstructorView → Word → List ℕ → Test ℕ → Parameter → Bool
 called c x through t p = bytes_eq c.result p.of && (is_called_at c x p.place && list_all t through)
 
--- the parameters that the constructor exposes by its leads
-abbrev pub named_by : SchemaView → ConstructorView → List Lead → Test ℕ → Parameter → Bool
-named_by s c leads t p = names p c (exposed_in s t leads)
+-- the parameters that the constructor exposes by its exposures
+abbrev pub named_by : SchemaView → ConstructorView → List Exposure → Test ℕ → Parameter → Bool
+named_by s c exposures t p = names p c (exposed_in s t exposures)
 
--- the leads are what the constructors expose, whatever parameters are exposed
-abbrev pub AreLeads : SchemaView → List Bool → List (List Lead) → Type 0
-AreLeads s empty leads = (t : Test ℕ) → map (exposed_in s t) leads ≡ map (exposed_by (knowing s empty t)) s
+-- the exposures are what the constructors expose, whatever parameters are exposed
+abbrev pub AreExposures : SchemaView → List Bool → List (List Exposure) → Type 0
+AreExposures s empty exposures = (t : Test ℕ) → map (exposed_in s t) exposures ≡ map (exposed_by (knowing s empty t)) s

@@ -2,7 +2,7 @@
 ghost use Rattle.std.specs.Prelude.{◌≡◌, ℕ, All, IfOk, OnOk, List, length, map, find, option_map};
 ghost use Rattle.tlb_guard.specs.declared.edges.Edge.{Edge as EdgeView};
 ghost use Rattle.tlb_guard.specs.Facts.{IsBelow};
-ghost use Rattle.tlb_guard.specs.Users.{AreFew, AreUsersTo};
+ghost use Rattle.tlb_guard.specs.Users.{AreNumbersBelow, AreUsersTo};
 ghost use Rattle.tlb_guard.specs.Edges.{AreOffCycles, AreSearches, AreTargets, IsEdgeBelow, back_rule, is_round_trip};
 
 use crate::least::{least, least_with};
@@ -46,7 +46,7 @@ fn back_rules(alloc: Global, edges: &[Edge]) -> Result<Items<Rule>, NoMemory>
 fn targets_of(alloc: Global, count: usize, edges: &[Edge]) -> Result<Vec<Items<usize>>, NoMemory>
     requires { All (IsEdgeBelow count) edges.now }
     ensures size { IfOk result (λ targets. length targets.items ≡ count) }
-    ensures below { IfOk result (λ targets. AreFew count targets.items) }
+    ensures below { IfOk result (λ targets. AreNumbersBelow count targets.items) }
     ensures targets { IfOk result (λ targets. AreTargets targets.items edges.now) }
 {
     let mut targets = no_users(alloc, count)?;
@@ -90,7 +90,7 @@ fn is_on_cycle(
     searches: &mut [Option<Items<bool>>],
 ) -> Result<bool, NoMemory>
     requires below { All (IsBelow (length users.now)) rules.now }
-    requires few { AreFew (length rules.now) users.now }
+    requires bounded { AreNumbersBelow (length rules.now) users.now }
     requires users { AreUsersTo users.now rules.now (length rules.now) }
     requires edge { IsEdgeBelow (length users.now) edge.now }
     requires size { length searches.old ≡ length users.now }

@@ -3,7 +3,7 @@ ghost use Rattle.std.specs.Prelude.{◌≡◌, ℕ, List, length, OnOk, IfOk};
 ghost use Rattle.tlb_syntax.specs.View.{expr, exprs, item, items, constructor as constructor_view};
 ghost use Rattle.tlb_guard.specs.Facts.{holds};
 ghost use Rattle.tlb_guard.specs.Numbering.{types_in, views};
-ghost use Rattle.tlb_guard.specs.Scoping.{IsFront};
+ghost use Rattle.tlb_guard.specs.Scoping.{IsScopePrefix};
 ghost use Rattle.tlb_guard.specs.Views.{AddsRule, IsNeeding, KeepsTypes, MeetsNeeds};
 ghost use Rattle.tlb_guard.specs.Empty.{may_be_empty, may_be_empty_type, may_be_empty_item, may_be_empty_items, may_take_nothing};
 
@@ -73,10 +73,7 @@ impl<'s, 'a> Needs<'s, 'a> {
             Expr::Bits(args) | Expr::UpTo(args) => Ok(!is_at_least(1, args.as_slice())),
             Expr::Below(args) => Ok(!is_at_least(2, args.as_slice())),
             Expr::Group(list) => self.of_group(list.as_slice()),
-            Expr::Sum(terms) => match terms.as_slice() {
-                [only] => self.of_expr(only),
-                _ => Ok(true),
-            },
+            Expr::Sum(_, _, _) => Ok(true),
             Expr::Lit(_) | Expr::Star(_, _) | Expr::Out(_) => Ok(true),
         }
     }
@@ -96,7 +93,7 @@ impl<'s, 'a> Needs<'s, 'a> {
     #[cycle(needs)]
     fn of_items(&mut self, list: &'a [Item]) -> Result<bool, NoMemory>
         ensures types { OnOk result (KeepsTypes self.old self.new) }
-        ensures scope { OnOk result (IsFront self.old.scope self.new.scope) }
+        ensures scope { OnOk result (IsScopePrefix self.old.scope self.new.scope) }
         ensures needs { IfOk result (IsNeeding (λ q scope. may_be_empty_items q scope (items list.now)) self.old self.new) }
     {
         for i in list {

@@ -7,10 +7,10 @@ ghost use Rattle.tlb_guard.specs.Empty.{may_take_nothing};
 ghost use Rattle.tlb_guard.specs.Exposed.{a_variable, exposed_parameters, is_variable_called};
 ghost use Rattle.tlb_guard.specs.Facts.{holds};
 ghost use Rattle.tlb_guard.specs.Numbering.{parameters_in, place_of, types_in, views, width};
-ghost use Rattle.tlb_guard.specs.Variables.{AddsRules, AreLeads, at_place, called, named_by};
+ghost use Rattle.tlb_guard.specs.Variables.{AddsRules, AreExposures, at_place, called, named_by};
 ghost use Rattle.tlb_guard.specs.Views.{IsWithin};
 
-use crate::front::{Front, Lead};
+use crate::exposures::{ExposedTerm, Exposure};
 use crate::least::least;
 use crate::rules::Rule;
 use crate::types::Types;
@@ -74,42 +74,42 @@ fn add_called(
     Ok(())
 }
 
-fn add_lead(
+fn add_exposure(
     alloc: Global,
     types: &Types<'_>,
     constructor: &Constructor,
-    lead: &Lead<'_>,
+    exposure: &Exposure<'_>,
     rules: &mut Items<Rule>,
 ) -> Result<(), NoMemory>
-    requires { IsWithin (views types.now) lead.now }
-    ensures { OnOk result (AddsRules (views types.now) (named_by (views types.now) (constructor_view constructor.now) (lead.now ∷ [])) rules.old rules.new) }
+    requires { IsWithin (views types.now) exposure.now }
+    ensures { OnOk result (AddsRules (views types.now) (named_by (views types.now) (constructor_view constructor.now) (exposure.now ∷ [])) rules.old rules.new) }
 {
-    match lead.front {
-        Front::Declared(_) => Ok(()),
-        Front::Variable(variable) => add_called(
+    match exposure.term {
+        ExposedTerm::Declared(_) => Ok(()),
+        ExposedTerm::Variable(variable) => add_called(
             alloc,
             types,
             constructor,
             variable,
-            lead.through.as_slice(),
+            exposure.through.as_slice(),
             rules,
         ),
     }
 }
 
 // Adds the rules by which the constructor exposes the parameters of its type.
-fn add_leads(
+fn add_exposures(
     alloc: Global,
     types: &Types<'_>,
     constructor: &Constructor,
-    leads: &[Lead<'_>],
+    exposures: &[Exposure<'_>],
     rules: &mut Items<Rule>,
 ) -> Result<(), NoMemory>
-    requires { All (IsWithin (views types.now)) leads.now }
-    ensures { OnOk result (AddsRules (views types.now) (named_by (views types.now) (constructor_view constructor.now) leads.now) rules.old rules.new) }
+    requires { All (IsWithin (views types.now)) exposures.now }
+    ensures { OnOk result (AddsRules (views types.now) (named_by (views types.now) (constructor_view constructor.now) exposures.now) rules.old rules.new) }
 {
-    for lead in leads {
-        add_lead(alloc, types, constructor, lead, rules)?;
+    for exposure in exposures {
+        add_exposure(alloc, types, constructor, exposure, rules)?;
     }
     Ok(())
 }
@@ -118,20 +118,20 @@ fn add_leads(
 pub fn exposed_parameters(
     alloc: Global,
     types: &Types<'_>,
-    leads: &[Items<Lead<'_>>],
+    exposures: &[Items<Exposure<'_>>],
 ) -> Result<Items<bool>, NoMemory>
-    requires size { length leads.now ≡ length types.now }
-    requires within { All (All (IsWithin (views types.now))) leads.now }
-    ensures { IfOk result (λ found. (empty : List Bool) → AreLeads (views types.now) empty leads.now → ((x : List ℕ) → types_in (views types.now) (holds empty) x ≡ may_take_nothing (views types.now) x) → (p : Parameter) → parameters_in (views types.now) (holds found) p ≡ exposed_parameters (views types.now) p) }
+    requires size { length exposures.now ≡ length types.now }
+    requires within { All (All (IsWithin (views types.now))) exposures.now }
+    ensures { IfOk result (λ found. (empty : List Bool) → AreExposures (views types.now) empty exposures.now → ((x : List ℕ) → types_in (views types.now) (holds empty) x ≡ may_take_nothing (views types.now) x) → (p : Parameter) → parameters_in (views types.now) (holds found) p ≡ exposed_parameters (views types.now) p) }
 {
     let count = types.parameter_count()?;
     let mut rules: Items<Rule> = Items::new(alloc);
     for (number, constructor) in types.constructors().iter().enumerate() {
-        add_leads(
+        add_exposures(
             alloc,
             types,
             constructor,
-            leads[number].as_slice(),
+            exposures[number].as_slice(),
             &mut rules,
         )?;
     }

@@ -1,5 +1,5 @@
 //! What follows from the definitions alone.
-ghost use Rattle.tlb_guard.specs.Laws.{EmptyStays, ExposedStays, FewEdgesReach};
+ghost use Rattle.tlb_guard.specs.Laws.{EmptyStays, ExposedStays, ReachedWithinTypeCount};
 
 /// No later round of what may take nothing differs.
 pub fn empty_stays()
@@ -12,6 +12,6 @@ pub fn exposed_stays()
 {}
 
 /// What is reached at all is reached by at most as many edges as there are declared types.
-pub fn few_edges_reach()
-    ensures { FewEdgesReach }
+pub fn reached_within_type_count()
+    ensures { ReachedWithinTypeCount }
 {}

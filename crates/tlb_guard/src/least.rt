@@ -1,7 +1,7 @@
 //! The least set of facts that is closed under rules.
 ghost use Rattle.std.specs.Prelude.{◌<◌, [], length, All, IfOk};
 ghost use Rattle.tlb_guard.specs.Facts.{IsBelow, IsLeast};
-ghost use Rattle.tlb_guard.specs.Users.{AreUsersTo, AreFew};
+ghost use Rattle.tlb_guard.specs.Users.{AreUsersTo, AreNumbersBelow};
 
 use crate::rules::{Rule, State, add_all, apply_all, finish};
 use crate::users::users_of;
@@ -18,7 +18,7 @@ pub(crate) fn least_with(
     seeds: &[usize],
 ) -> Result<Items<bool>, NoMemory>
     requires below { All (IsBelow (length users.now)) rules.now }
-    requires few { AreFew (length rules.now) users.now }
+    requires bounded { AreNumbersBelow (length rules.now) users.now }
     requires users { AreUsersTo users.now rules.now (length rules.now) }
     requires seeds { All (λ x. x < length users.now) seeds.now }
     ensures { IfOk result (IsLeast rules.now seeds.now (length users.now)) }

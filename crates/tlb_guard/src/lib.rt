@@ -5,7 +5,7 @@ mod cycles;
 mod edges;
 mod empty;
 mod exposed;
-mod front;
+mod exposures;
 pub mod laws;
 mod least;
 mod rules;

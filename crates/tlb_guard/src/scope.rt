@@ -3,7 +3,7 @@ ghost use Rattle.std.specs.Prelude.{◌≡◌, ◌≤◌, ◌++◌, OnOk, length
 ghost use Rattle.tlb_syntax.specs.View.{expr, exprs, item};
 ghost use Rattle.kind_terms.specs.Scopes.{field_names};
 ghost use Rattle.kind_terms.specs.Words.{is_at_least};
-ghost use Rattle.tlb_guard.specs.Scoping.{IsFront, names};
+ghost use Rattle.tlb_guard.specs.Scoping.{IsScopePrefix, names};
 ghost use Rattle.tlb_guard.specs.Empty.{is_variable as is_a_variable, literal as literal_of, literal_argument};
 
 use bit_slice::Name;
@@ -19,17 +19,13 @@ pub fn is_variable(scope: &[&Name], name: &Name, args: &[Expr]) -> bool
     args.is_empty() && is_among(scope, name)
 }
 
-// The number that is written out. A sum of one term stands for that term.
+// The number that is written out.
 fn literal(e: &Expr) -> Option<u32>
     ensures { result ≡ literal_of (expr e.now) }
 {
     match e {
         Expr::Lit(number) => Some(*number),
-        Expr::Sum(terms) => match terms.as_slice() {
-            [] => Some(0),
-            [only] => literal(only),
-            [_, _, ..] => None,
-        },
+        Expr::Sum(_, _, _) => None,
         _ => None,
     }
 }
@@ -50,7 +46,7 @@ pub fn is_at_least(least: u32, args: &[Expr]) -> bool
 /// Brings the name of an item into scope.
 pub fn enter<'a>(scope: &mut Items<&'a Name>, i: &'a Item) -> Result<(), NoMemory>
     ensures names { OnOk result (names scope.new ≡ names scope.old ++ field_names (item i.now)) }
-    ensures front { OnOk result (IsFront scope.old scope.new) }
+    ensures prefix { OnOk result (IsScopePrefix scope.old scope.new) }
 {
     if let Some(name) = field_name(i) {
         scope.push(name)?;
@@ -58,7 +54,7 @@ pub fn enter<'a>(scope: &mut Items<&'a Name>, i: &'a Item) -> Result<(), NoMemor
     Ok(())
 }
 
-/// Ends the scope of the names behind the first `count`.
+/// Ends the scope of the names after the first `count`.
 pub fn leave(scope: &mut Items<&Name>, count: usize)
     requires { count ≤ length scope.old }
     ensures { scope.new ≡ take count scope.old }

@@ -8,7 +8,7 @@ ghost use Rattle.tlb_guard.specs.DeclaredTypes.{has_empty_tag, is_type_kind, is_
 ghost use Rattle.tlb_guard.specs.Numbering.{number_of, parameter_at, place_of, views, width as width_of};
 
 use bit_slice::Name;
-use kind_terms::{Kind, is_built_in, is_dictionary, kind_of};
+use kind_terms::{TermKind, is_built_in, is_dictionary, kind_of};
 use sqlite_items::at;
 use std::alloc::{AllocError, Global};
 use std::collections::HashMap;
@@ -118,7 +118,7 @@ impl<'a> Types<'a> {
             .ok_or(NoMemory)
     }
 
-    /// The number of a type's parameter, unless no type has one at that place. Want of numbers is want of memory.
+    /// The number of a type's parameter, unless no type has one at that place. A number that is too large counts as out of memory.
     pub fn parameter(&self, of: usize, place: usize) -> Result<Option<usize>, NoMemory>
         ensures { IfOk result (λ n. n ≡ parameter_at (width_of (views self.now)) place (Some of)) }
     {
@@ -147,7 +147,7 @@ fn is_input_type(constructor: &Constructor, place: usize) -> bool
 {
     match constructor.params.get(place) {
         None => false,
-        Some(e) => Kind::TypeIn.is_same(kind_of(constructor.items.as_slice(), e)),
+        Some(e) => TermKind::TypeIn.is_same(kind_of(constructor.items.as_slice(), e)),
     }
 }
 

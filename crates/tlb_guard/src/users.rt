@@ -1,7 +1,7 @@
 //! For each fact the rules that have it in their bodies.
 ghost use Rattle.std.specs.Prelude.{◌≡◌, ℕ, ◌+◌, ◌<◌, length, All, OnOk, IfOk, slice_index};
 ghost use Rattle.tlb_guard.specs.Facts.{IsBelow};
-ghost use Rattle.tlb_guard.specs.Users.{HasUser, AreUsersTo, AreFew};
+ghost use Rattle.tlb_guard.specs.Users.{HasUser, AreUsersTo, AreNumbersBelow};
 
 use crate::rules::Rule;
 use sqlite_items::Items;
@@ -10,7 +10,7 @@ use tlb_memory::NoMemory;
 
 /// For each of `count` facts no rules.
 pub(crate) fn no_users(alloc: Global, count: usize) -> Result<Vec<Items<usize>>, NoMemory>
-    ensures { IfOk result (λ users. (length users.items ≡ count) × AreFew 0 users.items) }
+    ensures { IfOk result (λ users. (length users.items ≡ count) × AreNumbersBelow 0 users.items) }
 {
     let mut users = Vec::new(alloc);
     for _fact in 0..count {
@@ -23,7 +23,7 @@ fn add_user(users: &mut [Items<usize>], number: usize, body: &[usize]) -> Result
     requires { All (λ b. b < length users.old) body.now }
     ensures kept { OnOk result ((fact rule : ℕ) → HasUser users.old fact rule → HasUser users.new fact rule) }
     ensures added { OnOk result ((j : ℕ) → j < length body.now → HasUser users.new (slice_index body.now j) number) }
-    ensures few { OnOk result (AreFew number users.old → AreFew (number + 1) users.new) }
+    ensures bounded { OnOk result (AreNumbersBelow number users.old → AreNumbersBelow (number + 1) users.new) }
 {
     for fact in body {
         users[*fact].push(number)?;
@@ -39,7 +39,7 @@ pub(crate) fn users_of(
 ) -> Result<Vec<Items<usize>>, NoMemory>
     requires { All (IsBelow count) rules.now }
     ensures facts { IfOk result (λ users. length users.items ≡ count) }
-    ensures few { IfOk result (λ users. AreFew (length rules.now) users.items) }
+    ensures bounded { IfOk result (λ users. AreNumbersBelow (length rules.now) users.items) }
     ensures users { IfOk result (λ users. AreUsersTo users.items rules.now (length rules.now)) }
 {
     let mut users = no_users(alloc, count)?;

@@ -2,11 +2,11 @@
 use Rattle.std.proofs.Common.{◌≡◌, ◌∙◌, ap, sym, refl, List, [], ◌∷◌, ◌++◌, map, Some, None, Ok, Err, Result}
 use Rattle.tlb_syntax.specs.declared.tree.Schema.{Schema}
 use Rattle.tlb_syntax.specs.Tree.{SchemaView}
-use Rattle.kind_rules.specs.declared.error.Cause.{Cause}
+use Rattle.kind_declarations.specs.declared.error.Cause.{Cause}
 use Rattle.kind_terms.specs.declared.part.Part.{Part}
-use Rattle.kind_rules.specs.Faults.{fault_at, faults, first, verdict}
-use Rattle.kind_rules.specs.Headings.{Heading}
-use Rattle.kind_rules.specs.Nodes.{Judged}
+use Rattle.kind_declarations.specs.Faults.{fault_at, faults, first, verdict}
+use Rattle.kind_declarations.specs.Headings.{Heading}
+use Rattle.kind_declarations.specs.Nodes.{Judged}
 use Rattle.tlb_kinds.specs.declared.error.KindError.{KindError}
 use Rattle.tlb_kinds.specs.Answers.{IsFirst, Finds, IsJudged, IsPassed, IsRefused}
 use Rattle.tlb_kinds.specs.Refusals.{first_refusal, IsKinded}

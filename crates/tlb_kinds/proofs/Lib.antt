@@ -1,4 +1,4 @@
-pub mod BlankNames
+pub mod UnnamedNames
 pub mod Firsts
 pub mod Counting
 pub mod Loops

@@ -1,6 +1,6 @@
 -- The loops over the declarations of a schema.
 use Rattle.std.proofs.Common.{◌≡◌, ◌≤◌, ◌<◌, ◌+◌, ◌∙◌, ap, sym, refl, subst, ℕ, zero, suc, Bool, true, false, List, [], ◌∷◌, ◌++◌, length, map, take, drop, get_or, arith, append_assoc, add-one, length-append, length-drop}
-use Rattle.std.specs.Prelude.{cond, not, remove}
+use Rattle.std.specs.Prelude.{cond, filter, not, remove}
 use Rattle.std.proofs.lemmas.List.{at_drop_more, length-take-le, map-append, take_at, take-append-drop}
 use Rattle.std.proofs.lemmas.List.Elements.{filter-append}
 use Rattle.std.proofs.lemmas.List.Sums.{length-filter, count_by-le-length}
@@ -10,12 +10,12 @@ use Rattle.tlb_syntax.specs.Limits.{AreConstructors, IsConstructor, item_count}
 use Rattle.tlb_syntax.specs.Tree.{ConstructorView, SchemaView}
 use Rattle.tlb_syntax.specs.View.{constructor, item, items}
 use Rattle.kind_terms.specs.Dictionaries.{is_dictionary, without_dictionaries}
-use Rattle.kind_rules.specs.Faults.{first}
-use Rattle.kind_rules.specs.Nodes.{heading_nodes, constructor_nodes}
+use Rattle.kind_declarations.specs.Faults.{first}
+use Rattle.kind_declarations.specs.Nodes.{heading_nodes, constructor_nodes}
 use Rattle.tlb_kinds.specs.declared.error.KindError.{KindError}
 use Rattle.tlb_kinds.specs.declared.error.KindError.TheVariants.{Unguarded}
 use Rattle.tlb_kinds.specs.Answers.{IsFirst}
-use Rattle.tlb_kinds.specs.Refusals.{of_headings, of_contents, unguarded_at}
+use Rattle.tlb_kinds.specs.Refusals.{kept_of, of_headings, of_contents, ordinary, unguarded_at}
 use Rattle.tlb_kinds.specs.Spots.{heading, refusals_at, item_spot}
 use Rattle.tlb_kinds.proofs.Counting.{one_more}
 use Rattle.tlb_kinds.proofs.Firsts.{is_first_more}
@@ -85,19 +85,40 @@ pub item_count-items : (is : List Item) → item_count (items is) ≡ length is
 item_count-items [] = refl
 item_count-items (i ∷ is) = let rest = item_count-items is in omega (arith, rest)
 
-pub kept_within : (s : SchemaView) → AreConstructors s → AreConstructors (without_dictionaries s)
-kept_within [] are = tt
-kept_within (c ∷ cs) are = one_within (is_dictionary c.result) c cs are.0 (kept_within cs are.1)
-  where
-    one_within : (b : Bool) (c : ConstructorView) (cs : SchemaView) → IsConstructor c → AreConstructors (without_dictionaries cs)
-        → AreConstructors (cond (not b) (c ∷ without_dictionaries cs) (without_dictionaries cs))
-    one_within true c cs is are = are
-    one_within false c cs is are = (is, are)
+module _ (out : ConstructorView → Bool) where
+  abbrev keep : SchemaView → SchemaView
+  keep s = filter (λ (c : ConstructorView). not (out c)) s
+
+  one_within : (b : Bool) (c : ConstructorView) (cs : SchemaView) → IsConstructor c → AreConstructors (keep cs)
+      → AreConstructors (cond (not b) (c ∷ keep cs) (keep cs))
+  one_within true c cs is are = are
+  one_within false c cs is are = (is, are)
+
+  are_within : (s : SchemaView) → AreConstructors s → AreConstructors (keep s)
+  are_within [] are = tt
+  are_within (c ∷ cs) are = one_within (out c) c cs are.0 (are_within cs are.1)
+
+  at_most : (s : SchemaView) → length (keep s) ≤ length s
+  at_most s =
+      let p : ConstructorView → Bool = λ (c : ConstructorView). not (out c) in
+      let a = length-filter p s in
+      let b = count_by-le-length p s in
+      omega (arith, a, b)
+
+pub kept_within : (s : SchemaView) → AreConstructors s → AreConstructors (kept_of s)
+kept_within s are =
+    are_within (λ c. is_dictionary c.result) (ordinary s) (are_within (λ c. c.exotic) s are)
+
+pub ordinary_few : (s : SchemaView) → length (ordinary s) ≤ length s
+ordinary_few s = at_most (λ c. c.exotic) s
+
+pub kept_few : (s : SchemaView) → length (kept_of s) ≤ length s
+kept_few s =
+    let a = at_most (λ c. is_dictionary c.result) (ordinary s) in
+    let b = ordinary_few s in
+    omega (arith, a, b)
 
 -- ---- passing over
-
-without_append : (xs ys : SchemaView) → without_dictionaries (xs ++ ys) ≡ without_dictionaries xs ++ without_dictionaries ys
-without_append xs ys = filter-append (λ (c : ConstructorView). not (is_dictionary c.result)) xs ys
 
 parted : (xs : List Constructor) (i : ℕ) (c : Constructor) → i < length xs → c ≡ get_or xs i c
     → map constructor xs ≡ map constructor (take i xs) ++ (constructor c ∷ map constructor (drop (i + 1) xs))
@@ -105,29 +126,51 @@ parted xs i c lt is =
     ap (map constructor) (sym (take-append-drop i xs)) ∙ map-append constructor (take i xs) (drop i xs)
     ∙ ap (λ z. map constructor (take i xs) ++ z) (left xs i c lt is)
 
+module _ (out : ConstructorView → Bool) where
+  keep_append : (xs ys : SchemaView) → keep out (xs ++ ys) ≡ keep out xs ++ keep out ys
+  keep_append xs ys = filter-append (λ (c : ConstructorView). not (out c)) xs ys
+
+  one_removed : (xs : List Constructor) (i : ℕ) (c : Constructor) → i < length xs → c ≡ get_or xs i c → out (constructor c) ≡ true
+      → keep out (map constructor (remove xs i)) ≡ keep out (map constructor xs)
+  one_removed xs i c lt is passed =
+      let rest = map constructor (drop (i + 1) xs) in
+      let gone : keep out (constructor c ∷ rest) ≡ keep out rest =
+      ap (λ b. cond (not b) (constructor c ∷ keep out rest) (keep out rest)) passed in
+      let after : map constructor (remove xs i) ≡ map constructor (take i xs) ++ rest =
+      map-append constructor (take i xs) (drop (suc i) xs) ∙ ap (λ n. map constructor (take i xs) ++ map constructor (drop n xs)) (sym (add-one i)) in
+      ap (keep out) after ∙ keep_append (map constructor (take i xs)) rest
+      ∙ ap (λ z. keep out (map constructor (take i xs)) ++ z) (sym gone)
+      ∙ sym (keep_append (map constructor (take i xs)) (constructor c ∷ rest)) ∙ ap (keep out) (sym (parted xs i c lt is))
+
+  one_stays : (xs : List Constructor) (i : ℕ) (c : Constructor) → i < length xs → c ≡ get_or xs i c → out (constructor c) ≡ false
+      → keep out (map constructor (take i xs)) ≡ map constructor (take i xs)
+      → keep out (map constructor (take (i + 1) xs)) ≡ map constructor (take (i + 1) xs)
+  one_stays xs i c lt is other prefix =
+      let more = one_more xs i c lt is in
+      let alone : keep out (constructor c ∷ []) ≡ constructor c ∷ [] = ap (λ b. cond (not b) (constructor c ∷ []) []) other in
+      ap (keep out) more ∙ keep_append (map constructor (take i xs)) (constructor c ∷ [])
+      ∙ ap (λ z. z ++ keep out (constructor c ∷ [])) prefix ∙ ap (λ z. map constructor (take i xs) ++ z) alone ∙ sym more
+
 pub removed : (xs : List Constructor) (i : ℕ) (c : Constructor) → i < length xs → c ≡ get_or xs i c → is_dictionary c.result ≡ true
     → without_dictionaries (map constructor (remove xs i)) ≡ without_dictionaries (map constructor xs)
-removed xs i c lt is dictionary =
-    let rest = map constructor (drop (i + 1) xs) in
-    let gone : without_dictionaries (constructor c ∷ rest) ≡ without_dictionaries rest =
-    ap (λ b. cond (not b) (constructor c ∷ without_dictionaries rest) (without_dictionaries rest)) dictionary in
-    let after : map constructor (remove xs i) ≡ map constructor (take i xs) ++ rest =
-    map-append constructor (take i xs) (drop (suc i) xs) ∙ ap (λ n. map constructor (take i xs) ++ map constructor (drop n xs)) (sym (add-one i)) in
-    ap without_dictionaries after ∙ without_append (map constructor (take i xs)) rest
-    ∙ ap (λ z. without_dictionaries (map constructor (take i xs)) ++ z) (sym gone)
-    ∙ sym (without_append (map constructor (take i xs)) (constructor c ∷ rest)) ∙ ap without_dictionaries (sym (parted xs i c lt is))
-
-pub front_kept : (xs : List Constructor) (i : ℕ) → i ≤ length xs → take i (remove xs i) ≡ take i xs
-front_kept xs i le = take_at (take i xs) (drop (suc i) xs) i (length-take-le i xs le)
+removed = one_removed (λ c. is_dictionary c.result)
 
 pub one_kept : (xs : List Constructor) (i : ℕ) (c : Constructor) → i < length xs → c ≡ get_or xs i c → is_dictionary c.result ≡ false
     → without_dictionaries (map constructor (take i xs)) ≡ map constructor (take i xs)
     → without_dictionaries (map constructor (take (i + 1) xs)) ≡ map constructor (take (i + 1) xs)
-one_kept xs i c lt is other front =
-    let more = one_more xs i c lt is in
-    let alone : without_dictionaries (constructor c ∷ []) ≡ constructor c ∷ [] = ap (λ b. cond (not b) (constructor c ∷ []) []) other in
-    ap without_dictionaries more ∙ without_append (map constructor (take i xs)) (constructor c ∷ [])
-    ∙ ap (λ z. z ++ without_dictionaries (constructor c ∷ [])) front ∙ ap (λ z. map constructor (take i xs) ++ z) alone ∙ sym more
+one_kept = one_stays (λ c. is_dictionary c.result)
+
+pub exotic_removed : (xs : List Constructor) (i : ℕ) (c : Constructor) → i < length xs → c ≡ get_or xs i c → c.exotic ≡ true
+    → ordinary (map constructor (remove xs i)) ≡ ordinary (map constructor xs)
+exotic_removed = one_removed (λ c. c.exotic)
+
+pub ordinary_stays : (xs : List Constructor) (i : ℕ) (c : Constructor) → i < length xs → c ≡ get_or xs i c → c.exotic ≡ false
+    → ordinary (map constructor (take i xs)) ≡ map constructor (take i xs)
+    → ordinary (map constructor (take (i + 1) xs)) ≡ map constructor (take (i + 1) xs)
+ordinary_stays = one_stays (λ c. c.exotic)
+
+pub prefix_kept : (xs : List Constructor) (i : ℕ) → i ≤ length xs → take i (remove xs i) ≡ take i xs
+prefix_kept xs i le = take_at (take i xs) (drop (suc i) xs) i (length-take-le i xs le)
 
 pub length-removed : (xs : List Constructor) (i : ℕ) → i < length xs → length (remove xs i) + 1 ≡ length xs
 length-removed xs i lt =
@@ -135,10 +178,3 @@ length-removed xs i lt =
     let b = length-take-le i xs (omega (arith, lt)) in
     let c = length-drop (suc i) xs in
     omega (arith, a, b, c, lt)
-
-pub kept_few : (s : SchemaView) → length (without_dictionaries s) ≤ length s
-kept_few s =
-    let p : ConstructorView → Bool = λ (c : ConstructorView). not (is_dictionary c.result) in
-    let a = length-filter p s in
-    let b = count_by-le-length p s in
-    omega (arith, a, b)

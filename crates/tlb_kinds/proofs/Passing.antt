@@ -1,4 +1,4 @@
--- A schema without its declarations of dictionaries.
+-- A schema without the declarations that are passed over.
 use Rattle.std.proofs.Common.{◌≡◌, ◌∙◌, ap, sym, refl, Bool, true, false, List, [], ◌∷◌, ◌++◌}
 use Rattle.std.specs.Prelude.{not, bytes_eq, cond}
 use Rattle.std.proofs.lemmas.Bool.{false≢true}
@@ -6,10 +6,10 @@ use Rattle.std.proofs.lemmas.Slice.Eq.{bytes_eq-Decides}
 use Rattle.tlb_syntax.specs.Tree.{ConstructorView, SchemaView}
 use Rattle.kind_terms.specs.Dictionaries.{is_dictionary, of_type, without_dictionaries}
 use Rattle.kind_terms.specs.Words.{Word}
-use Rattle.kind_rules.specs.Headings.{Heading}
-use Rattle.kind_rules.specs.Nodes.{heading_nodes}
+use Rattle.kind_declarations.specs.Headings.{Heading}
+use Rattle.kind_declarations.specs.Nodes.{heading_nodes}
 use Rattle.tlb_kinds.specs.Laws.{KindedStays, PassedOver}
-use Rattle.tlb_kinds.specs.Refusals.{of_headings, refusals_within, refusals}
+use Rattle.tlb_kinds.specs.Refusals.{kept_of, of_headings, ordinary, refusals_within, refusals}
 use Rattle.tlb_kinds.specs.Spots.{heading, refusals_at}
 
 abbrev heading_of : SchemaView → ConstructorView → Heading
@@ -23,9 +23,9 @@ over_again c cs rest false is =
     ap (λ b. cond (not b) (c ∷ without_dictionaries (without_dictionaries cs)) (without_dictionaries (without_dictionaries cs))) is
     ∙ ap (λ z. c ∷ z) rest
 
-pub passed_over : PassedOver
-passed_over [] = refl
-passed_over (c ∷ cs) = over_again c cs (passed_over cs) (is_dictionary c.result) refl
+dictionaries_once : (s : SchemaView) → without_dictionaries (without_dictionaries s) ≡ without_dictionaries s
+dictionaries_once [] = refl
+dictionaries_once (c ∷ cs) = over_again c cs (dictionaries_once cs) (is_dictionary c.result) refl
 
 one_more_kept : (x : Word) → is_dictionary x ≡ false → (c : ConstructorView) (cs : SchemaView) → of_type (without_dictionaries cs) x ≡ of_type cs x
     → (b : Bool) → is_dictionary c.result ≡ b → (d : Bool) → bytes_eq c.result x ≡ d
@@ -41,9 +41,9 @@ of_type_kept : (x : Word) → is_dictionary x ≡ false → (s : SchemaView) →
 of_type_kept x other [] = refl
 of_type_kept x other (c ∷ cs) = one_more_kept x other c cs (of_type_kept x other cs) (is_dictionary c.result) refl (bytes_eq c.result x) refl
 
-front_none : {X : Type 0} (xs ys : List X) → xs ++ ys ≡ [] → xs ≡ []
-front_none [] ys e = refl
-front_none (x ∷ xs) ys e = cc
+first_none : {X : Type 0} (xs ys : List X) → xs ++ ys ≡ [] → xs ≡ []
+first_none [] ys e = refl
+first_none (x ∷ xs) ys e = cc
 
 rest_none : {X : Type 0} (xs ys : List X) → xs ++ ys ≡ [] → ys ≡ []
 rest_none [] ys e = e
@@ -84,13 +84,41 @@ heading_kept c cs before here later false is =
 headings_kept : (cs before : SchemaView) → of_headings before cs ≡ [] → of_headings (without_dictionaries before) (without_dictionaries cs) ≡ []
 headings_kept [] before none = refl
 headings_kept (c ∷ cs) before none =
-    heading_kept c cs before (front_none _ (of_headings (before ++ c ∷ []) cs) none)
+    heading_kept c cs before (first_none _ (of_headings (before ++ c ∷ []) cs) none)
     (headings_kept cs (before ++ c ∷ []) (rest_none (refusals_at (heading before c) (heading_nodes (heading before c))) _ none))
     (is_dictionary c.result) refl
+
+without_their_dictionaries : (s : SchemaView) → of_headings [] s ++ refusals_within (without_dictionaries s) ≡ []
+    → of_headings [] (without_dictionaries s) ++ refusals_within (without_dictionaries (without_dictionaries s)) ≡ []
+without_their_dictionaries s none =
+    let within : refusals_within (without_dictionaries s) ≡ [] = rest_none (of_headings [] s) _ none in
+    ap (λ z. z ++ refusals_within (without_dictionaries (without_dictionaries s))) (headings_kept s [] (first_none _ (refusals_within (without_dictionaries s)) none))
+    ∙ ap refusals_within (dictionaries_once s) ∙ within
+
+-- ---- declarations of exotic cells
+
+one_ordinary : (c : ConstructorView) (rest : SchemaView) → ordinary rest ≡ rest → c.exotic ≡ false
+    → (b : Bool) → ordinary (cond (not b) (c ∷ rest) rest) ≡ cond (not b) (c ∷ rest) rest
+one_ordinary c rest same is true = same
+one_ordinary c rest same is false =
+    ap (λ b. cond (not b) (c ∷ ordinary rest) (ordinary rest)) is ∙ ap (λ z. c ∷ z) same
+
+kept_ordinary : (c : ConstructorView) (cs : SchemaView) → ordinary (kept_of cs) ≡ kept_of cs → (b : Bool) → c.exotic ≡ b
+    → ordinary (without_dictionaries (cond (not b) (c ∷ ordinary cs) (ordinary cs)))
+    ≡ without_dictionaries (cond (not b) (c ∷ ordinary cs) (ordinary cs))
+kept_ordinary c cs rest true is = rest
+kept_ordinary c cs rest false is = one_ordinary c (kept_of cs) rest is (is_dictionary c.result)
+
+-- what is kept is of ordinary cells
+pub kept_are_ordinary : (s : SchemaView) → ordinary (kept_of s) ≡ kept_of s
+kept_are_ordinary [] = refl
+kept_are_ordinary (c ∷ cs) = kept_ordinary c cs (kept_are_ordinary cs) c.exotic refl
+
+pub passed_over : PassedOver
+passed_over s = ap without_dictionaries (kept_are_ordinary s) ∙ dictionaries_once (ordinary s)
 
 pub kinded_stays : KindedStays
 unfolding refusals
 kinded_stays s none =
-    let within : refusals_within (without_dictionaries s) ≡ [] = rest_none (of_headings [] s) _ none in
-    ap (λ z. z ++ refusals_within (without_dictionaries (without_dictionaries s))) (headings_kept s [] (front_none _ (refusals_within (without_dictionaries s)) none))
-    ∙ ap refusals_within (passed_over s) ∙ within
+    ap (λ z. of_headings [] z ++ refusals_within (without_dictionaries z)) (kept_are_ordinary s)
+    ∙ without_their_dictionaries (ordinary s) none

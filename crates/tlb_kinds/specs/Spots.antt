@@ -4,13 +4,14 @@ use Rattle.tlb_syntax.specs.Tree.{ItemList, ConstructorView, SchemaView, no_item
 use Rattle.kind_terms.specs.declared.part.Part.{Part}
 use Rattle.kind_terms.specs.Dictionaries.{of_type}
 use Rattle.kind_terms.specs.Words.{Word}
-use Rattle.kind_rules.specs.declared.error.Cause.{Cause}
-use Rattle.kind_rules.specs.declared.error.Cause.TheVariants.{Reserved, UnknownType, UnknownName, Arity, KindMismatch, OutputUnderRef, NotLinear, TwiceNamed, Undetermined, TooWide}
-use Rattle.kind_rules.specs.Headings.{Heading}
-use Rattle.kind_rules.specs.Nodes.{Place, path_at, first_place, next_place, Judged}
-use Rattle.kind_rules.specs.Faults.{FaultAt, faults}
-use Rattle.kind_rules.specs.declared.shown.Shown.{Shown}
-use Rattle.kind_rules.specs.Views.{part_by}
+use Rattle.kind_declarations.specs.declared.error.Cause.{Cause}
+use Rattle.kind_declarations.specs.declared.error.Cause.TheVariants.{Reserved, UnknownType, UnknownName, Arity, KindMismatch, OutputUnderRef, NotLinear, TwiceNamed, Undetermined, TooWide}
+use Rattle.kind_declarations.specs.Headings.{Heading}
+use Rattle.kind_terms.specs.Positions.{ItemPosition, path_at, first_position, next_position}
+use Rattle.kind_declarations.specs.Nodes.{Judged}
+use Rattle.kind_declarations.specs.Faults.{FaultAt, faults}
+use Rattle.kind_terms.specs.declared.shown.Shown.{Shown}
+use Rattle.kind_terms.specs.Views.{part_by}
 use Rattle.tlb_kinds.specs.declared.spot.Spot.{Spot}
 use Rattle.tlb_kinds.specs.declared.error.KindError.{KindError}
 use Rattle.tlb_kinds.specs.declared.error.KindError.TheVariants as errors
@@ -23,7 +24,7 @@ heading before c = record { earlier = of_type before c.result; this = c }
 abbrev pub number_of : Heading → ℕ
 number_of h = length h.earlier + 1
 
--- the name of a constructor; a blank one is shown by its number
+-- the name of a constructor; a unnamed one is shown by its number
 abbrev pub shown_name : Option Word → ℕ → Word
 shown_name (Some x) n = x
 shown_name None n = codes "_" ++ decimal n
@@ -55,11 +56,11 @@ refusal_at h f = refusal f.cause (spot h f.path)
 abbrev pub refusals_at : Heading → List Judged → List KindError
 refusals_at h js = map (refusal_at h) (faults js)
 
--- the path to the item behind so many others
-abbrev pub path_to : ItemList → Place → ℕ → List Part
+-- the path to the item after so many others
+abbrev pub path_to : ItemList → ItemPosition → ℕ → List Part
 path_to no_items p n = []
 path_to (an_item i is) p zero = path_at p i
-path_to (an_item i is) p (suc n) = path_to is (next_place p i) n
+path_to (an_item i is) p (suc n) = path_to is (next_position p i) n
 
 abbrev pub parts_by : Option Shown → List Part
 parts_by None = []
@@ -67,4 +68,4 @@ parts_by (Some shown) = part_by shown ∷ []
 
 -- the item at that place from 0 of a declaration
 abbrev pub item_spot : Heading → ℕ → Spot
-item_spot h item = spot h (path_to h.this.items (first_place []) item)
+item_spot h item = spot h (path_to h.this.items (first_position []) item)

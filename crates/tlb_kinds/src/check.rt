@@ -3,19 +3,18 @@ ghost use Rattle.std.specs.Prelude.{◌≡◌, ◌≢◌, ◌+◌, ◌≤◌, Er
 ghost use Rattle.tlb_syntax.specs.Limits.{AreConstructors, IsWithinLimits};
 ghost use Rattle.tlb_syntax.specs.View.{constructor as constructor_view, schema as schema_view};
 ghost use Rattle.kind_terms.specs.Dictionaries.{without_dictionaries as without_dictionaries_of};
-ghost use Rattle.kind_rules.specs.Faults.{Judges};
-ghost use Rattle.kind_rules.specs.Nodes.{Judged};
-ghost use Rattle.kind_rules.specs.Views.{part_by};
+ghost use Rattle.kind_declarations.specs.Faults.{Judges};
+ghost use Rattle.kind_declarations.specs.Nodes.{Judged};
+ghost use Rattle.kind_terms.specs.Views.{part_by};
 ghost use Rattle.tlb_kinds.specs.Answers.{Finds, IsFirst, IsJudged, IsPassed, IsRefused};
-ghost use Rattle.tlb_kinds.specs.Refusals.{IsKinded, first_refusal, of_contents, of_guard, of_headings, refusals_within};
+ghost use Rattle.tlb_kinds.specs.Refusals.{IsKinded, first_refusal, of_contents, of_guard, of_headings, ordinary as ordinary_of, refusals_within};
 ghost use Rattle.tlb_kinds.specs.Spots.{heading, refusals_at};
 ghost use Rattle.tlb_kinds.specs.declared.error.KindError.{KindError as Refused};
 
 use crate::error::{KindError, refusal_for};
 use crate::places::{item_spot, spot};
-use kind_declarations::{judge_constructor, judge_heading};
-use kind_rules::{Fault, Shown};
-use kind_terms::{Types, is_dictionary};
+use kind_declarations::{Fault, judge_constructor, judge_heading};
+use kind_terms::{Shown, Types, is_dictionary};
 use sqlite_items::Items;
 use std::alloc::Global;
 use std::marker::Model;
@@ -46,7 +45,7 @@ impl Model for Kinded {
 }
 
 impl Kinded {
-    /// The schema without the declarations of dictionaries.
+    /// The schema without the declarations of exotic cells and of dictionaries.
     pub fn schema(&self) -> &Schema
         ensures same { result.now ≡ self.now }
         ensures kinded { IsKinded (schema_view self.now) }
@@ -55,7 +54,7 @@ impl Kinded {
     }
 }
 
-// The refusal of what is judged in a declaration behind these.
+// The refusal of what is judged in a declaration after these.
 fn refusal(
     alloc: Global,
     before: &[Constructor],
@@ -93,7 +92,7 @@ fn judge_headings(alloc: Global, constructors: &[Constructor]) -> Result<(), Kin
 }
 
 fn judge_contents(alloc: Global, constructors: &[Constructor]) -> Result<(), KindError>
-    requires few { length constructors.now ≤ 4096 }
+    requires bounded { length constructors.now ≤ 4096 }
     requires within { AreConstructors (map constructor_view constructors.now) }
     ensures { Finds (of_contents (map constructor_view constructors.now) [] (map constructor_view constructors.now)) result }
 {
@@ -109,7 +108,7 @@ fn judge_contents(alloc: Global, constructors: &[Constructor]) -> Result<(), Kin
 }
 
 fn judge_guard(alloc: Global, constructors: &[Constructor]) -> Result<(), KindError>
-    requires few { length constructors.now ≤ 4096 }
+    requires bounded { length constructors.now ≤ 4096 }
     requires within { AreConstructors (map constructor_view constructors.now) }
     ensures { Finds (of_guard (map constructor_view constructors.now)) result }
 {
@@ -123,6 +122,23 @@ fn judge_guard(alloc: Global, constructors: &[Constructor]) -> Result<(), KindEr
     let before = &constructors[..index];
     let spot = item_spot(alloc, before, &constructors[index], unguarded.item)?;
     Err(KindError::Unguarded(spot))
+}
+
+// Without the declarations of exotic cells.
+fn without_exotic(schema: Schema) -> Schema
+    ensures { schema_view result ≡ ordinary_of (schema_view schema) }
+{
+    let mut constructors = schema.constructors;
+    let mut at = 0;
+    while at < constructors.len() {
+        let is_exotic = constructors.as_slice()[at].exotic;
+        if is_exotic {
+            constructors.remove(at);
+        } else {
+            at += 1;
+        }
+    }
+    Schema { constructors }
 }
 
 // Without the declarations of dictionaries, of which a schema whose headings are in order has at most five.
@@ -145,7 +161,7 @@ fn without_dictionaries(schema: Schema) -> Schema
 
 // The refusals of a schema without declarations of dictionaries.
 fn judge_kept(alloc: Global, constructors: &[Constructor]) -> Result<(), KindError>
-    requires few { length constructors.now ≤ 4096 }
+    requires bounded { length constructors.now ≤ 4096 }
     requires within { AreConstructors (map constructor_view constructors.now) }
     ensures { Finds (refusals_within (map constructor_view constructors.now)) result }
 {
@@ -153,27 +169,29 @@ fn judge_kept(alloc: Global, constructors: &[Constructor]) -> Result<(), KindErr
     judge_guard(alloc, constructors)
 }
 
-// The schema without its declarations of dictionaries, or its first refusal.
+// The schema without the declarations that are passed over, or its first refusal.
 fn judge(alloc: Global, schema: Schema) -> Result<Schema, KindError>
     requires { IsWithinLimits (schema_view schema) }
     ensures { IsJudged (schema_view schema) result }
 {
-    judge_headings(alloc, schema.constructors.as_slice())?;
-    let kept = without_dictionaries(schema);
+    let ordinary = without_exotic(schema);
+    judge_headings(alloc, ordinary.constructors.as_slice())?;
+    let kept = without_dictionaries(ordinary);
     judge_kept(alloc, kept.constructors.as_slice())?;
     Ok(kept)
 }
 
-/// The schema without its declarations of dictionaries, or its first refusal. The schema is one within the limits, as a
-/// text gives it; a refused schema is let go.
+/// The schema without its declarations of exotic cells and of dictionaries, or its first refusal. The schema is one within
+/// the limits, as a text gives it; a refused schema is let go. Declarations of exotic cells are passed over: no rule is
+/// judged of them, they declare no type, and they count for no constructor's number.
 #[tactic(auto, using(crate::proofs::Firsts::passed_from, crate::proofs::Firsts::refused_from))]
 pub fn kind_check(alloc: Global, schema: Schema) -> Result<Kinded, KindError>
     requires { IsWithinLimits (schema_view schema) }
     // What is answered holds of the schema.
     ensures holds { IsJudged (schema_view schema) result }
-    // A schema without a refusal passes, unless memory is wanted.
+    // A schema without a refusal passes, unless out of memory.
     ensures passed { IsKinded (schema_view schema) → IsPassed (schema_view schema) result }
-    // The first refusal is answered, unless memory is wanted.
+    // The first refusal is answered, unless out of memory.
     ensures refused { (e : Refused) → first_refusal (schema_view schema) ≡ Some e → IsRefused e result }
 {
     match judge(alloc, schema) {

@@ -3,7 +3,7 @@ ghost use Rattle.std.specs.Prelude.{◌≡◌};
 ghost use Rattle.tlb_kinds.specs.Spots.{refusal as refusal_of};
 
 use crate::spot::Spot;
-use kind_rules::Cause;
+use kind_declarations::Cause;
 use std::alloc::AllocError;
 use thiserror::Error;
 use tlb_memory::NoMemory;
@@ -17,9 +17,9 @@ pub enum KindError {
     UnknownName(Spot),
     #[error("the parameters are others than those of the type")]
     Arity(Spot),
-    #[error("a type, a number or an output stands where another of them is due")]
+    #[error("a type, a number or an output is_at_position where another of them is expected")]
     KindMismatch(Spot),
-    #[error("a type with outputs stands under ^")]
+    #[error("a type with outputs is_at_position under ^")]
     OutputUnderRef(Spot),
     #[error("a number is not linear")]
     NotLinear(Spot),

@@ -2,21 +2,20 @@
 ghost use Rattle.std.specs.Prelude.{◌≡◌, ◌+◌, ◌++◌, ◌<◌, ◌≤◌, IfOk, [], codes, decimal, length, map, option_map};
 ghost use Rattle.tlb_syntax.specs.View.{constructor as constructor_view, items as items_view};
 ghost use Rattle.kind_terms.specs.Dictionaries.{of_type};
-ghost use Rattle.kind_rules.specs.Nodes.{blank_name as name_of_blank, first_place};
-ghost use Rattle.kind_rules.specs.Views.{part_by};
+ghost use Rattle.kind_terms.specs.Positions.{unnamed_name as name_of_unnamed, first_position};
+ghost use Rattle.kind_terms.specs.Views.{part_by};
 ghost use Rattle.tlb_kinds.specs.Spots.{heading, item_spot as spot_of_item, parts_by, path_to, shown_name, spot as spot_of};
 
 use crate::spot::{FieldPath, Spot};
 use bit_slice::Name;
-use kind_rules::{Shown, is_blank, show_item};
-use kind_terms::Part;
+use kind_terms::{Part, Shown, is_unnamed, show_item};
 use sqlite_items::Items;
 use std::alloc::Global;
 use tlb_memory::NoMemory;
 use tlb_syntax::{Constructor, Item};
 
 // `_` and a number from 1 on.
-#[tactic(auto, using(crate::proofs::BlankNames::is_numbered_name))]
+#[tactic(auto, using(crate::proofs::UnnamedNames::is_numbered_name))]
 fn numbered(alloc: Global, number: u64) -> Result<Name, NoMemory>
     requires { 0 < number }
     ensures { IfOk result (λ n. n ≡ codes "_" ++ decimal number) }
@@ -25,9 +24,9 @@ fn numbered(alloc: Global, number: u64) -> Result<Name, NoMemory>
     Name::new(alloc, text.as_bytes())
 }
 
-// The name of a blank field that so many blank fields come before.
-fn blank_name(alloc: Global, before: u32) -> Result<Name, NoMemory>
-    ensures { IfOk result (λ n. n ≡ name_of_blank (before + 1)) }
+// The name of a unnamed field that so many unnamed fields come before.
+fn unnamed_name(alloc: Global, before: u32) -> Result<Name, NoMemory>
+    ensures { IfOk result (λ n. n ≡ name_of_unnamed (before + 1)) }
 {
     if before == 0 {
         Name::new(alloc, b"_")
@@ -41,7 +40,7 @@ fn part_of(alloc: Global, shown: &Shown<'_>) -> Result<Part, NoMemory>
 {
     match shown {
         Shown::Named(name) => Ok(Part::Named(name.copy(alloc)?)),
-        Shown::Blank(before) => Ok(Part::Named(blank_name(alloc, *before)?)),
+        Shown::Unnamed(before) => Ok(Part::Named(unnamed_name(alloc, *before)?)),
         Shown::Check(place) => Ok(Part::Check(*place)),
         Shown::Result => Ok(Part::Result),
     }
@@ -57,8 +56,8 @@ fn field_path(alloc: Global, path: &[Shown<'_>]) -> Result<FieldPath, NoMemory>
     Ok(FieldPath { parts })
 }
 
-// The place of a declaration behind these among those of its type, from 1.
-fn number_behind(before: &[Constructor], type_name: &Name) -> u32
+// The place of a declaration after these among those of its type, from 1.
+fn number_after(before: &[Constructor], type_name: &Name) -> u32
     requires { length before.now ≤ 4096 }
     ensures { result ≡ length (of_type (map constructor_view before.now) type_name.now) + 1 }
 {
@@ -81,7 +80,7 @@ fn constructor_name(alloc: Global, name: Option<&Name>, number: u32) -> Result<N
     }
 }
 
-/// The place of an item of a declaration behind these.
+/// The place of an item of a declaration after these.
 pub fn spot(
     alloc: Global,
     before: &[Constructor],
@@ -91,7 +90,7 @@ pub fn spot(
     requires { length before.now ≤ 4096 }
     ensures { IfOk result (λ found. found ≡ spot_of (heading (map constructor_view before.now) (constructor_view constructor.now)) (map part_by path.now)) }
 {
-    let number = number_behind(before, &constructor.result);
+    let number = number_after(before, &constructor.result);
     Ok(Spot {
         type_name: constructor.result.copy(alloc)?,
         constructor: constructor_name(alloc, constructor.name.as_ref(), number)?,
@@ -100,31 +99,31 @@ pub fn spot(
     })
 }
 
-// How the item behind so many others of a record is shown.
+// How the item after so many others of a record is shown.
 fn shown_at(items: &[Item], at: usize) -> Option<Shown<'_>>
     requires { length items.now ≤ 255 }
-    ensures { parts_by result ≡ path_to (items_view items.now) (first_place []) at }
+    ensures { parts_by result ≡ path_to (items_view items.now) (first_position []) at }
 {
-    let mut blanks: u32 = 0;
+    let mut unnamed: u32 = 0;
     for (index, item) in items.iter().enumerate() {
         if index == at {
-            return Some(show_item(item, index as u32 + 1, blanks));
+            return Some(show_item(item, index as u32 + 1, unnamed));
         }
-        if is_blank(item) {
-            blanks += 1;
+        if is_unnamed(item) {
+            unnamed += 1;
         }
     }
     None
 }
 
-/// The place of the item behind so many others of a declaration behind these.
+/// The place of the item after so many others of a declaration after these.
 pub fn item_spot(
     alloc: Global,
     before: &[Constructor],
     constructor: &Constructor,
     at: usize,
 ) -> Result<Spot, NoMemory>
-    requires few { length before.now ≤ 4096 }
+    requires bounded { length before.now ≤ 4096 }
     requires items { length constructor.now.items ≤ 255 }
     ensures { IfOk result (λ found. found ≡ spot_of_item (heading (map constructor_view before.now) (constructor_view constructor.now)) at) }
 {

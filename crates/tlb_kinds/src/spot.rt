@@ -13,7 +13,7 @@ pub struct FieldPath {
 #[derive(Debug, Drop)]
 pub struct Spot {
     pub type_name: Name,
-    /// The constructor's name, or `_i` for a blank one, where i is its number.
+    /// The constructor's name, or `_i` for a unnamed one, where i is its number.
     pub constructor: Name,
     /// The constructor's place among those of its type, from 1.
     pub number: u32,

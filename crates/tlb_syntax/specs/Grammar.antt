@@ -3,12 +3,12 @@
 --
 -- Each production speaks of bounds m on sizes, and of the levels d that may still be opened: each `(`, `[`, `^` and `~`
 -- opens one.
-use Rattle.std.specs.Prelude.{ℕ, suc, ◌≤◌, List, [], ◌∷◌, codes, Option, Some, None}
+use Rattle.std.specs.Prelude.{ℕ, Bool, true, false, suc, ◌≤◌, List, [], ◌∷◌, codes, Option, Some, None}
 use Rattle.nat_solver.specs.declared.compare.Op.{Op}
 use Rattle.nat_solver.specs.declared.compare.Op.TheVariants.{Eq, Lt, Le, Gt, Ge}
 use Rattle.tlb_syntax.specs.declared.tree.ParamKind.TheVariants.{Nat, Ty}
 use Rattle.tlb_syntax.specs.declared.sign.Sign.{Sign}
-use Rattle.tlb_syntax.specs.declared.sign.Sign.TheVariants.{Hash, HashHash, HashLess, HashLessEqual, Colon, Semicolon, Equal, OpenParen, CloseParen, OpenBrace, CloseBrace, OpenBracket, CloseBracket, Caret, Tilde, Question, Dot, Asterisk, Plus, Less, LessEqual, Greater, GreaterEqual}
+use Rattle.tlb_syntax.specs.declared.sign.Sign.TheVariants.{Hash, HashHash, HashLess, HashLessEqual, Colon, Semicolon, Equal, OpenParen, CloseParen, OpenBrace, CloseBrace, OpenBracket, CloseBracket, Caret, Tilde, Question, Dot, Asterisk, Plus, Less, LessEqual, Greater, GreaterEqual, Bang}
 use Rattle.tlb_syntax.specs.Lexeme.{Lexeme, word, blank, number, tag, sign}
 use Rattle.tlb_syntax.specs.Tree.{ExprView, ExprList, ItemView, ItemList, TypeView, TagView, ConstructorView, SchemaView, lit, named, nat32, bits, below, up_to, plus, star, out, ref, group, no_exprs, an_expr, plain, when, when_bit, implicit, check, explicit, no_items, an_item, computed, given}
 
@@ -107,11 +107,16 @@ pub data Params (m : Bounds) : Count → List Lexeme → ExprList → List Lexem
   no_param : {k : Count} {r : List Lexeme} → Params m k r no_exprs r
   a_param : {k left : Count} {s mid r : List Lexeme} {e : ExprView} {es : ExprList} → Spends k left → Term m m.levels s e mid → Params m left mid es r → Params m k s (an_expr e es) r
 
--- declaration = (name | "_") [tag] { item } "=" name { term } ";"
-pub data Declaration (m : Bounds) : List Lexeme → ConstructorView → List Lexeme → Type 0 where
+-- (name | "_") [tag] { item } "=" name { term } ";", of exotic cells or not
+pub data Declared (m : Bounds) (exotic : Bool) : List Lexeme → ConstructorView → List Lexeme → Type 0 where
   a_declaration : {h : Lexeme} {s after_tag after_items r : List Lexeme} {x : Option (List ℕ)} {t : TagView} {is : ItemList} {y : List ℕ} {es : ExprList} →
       Heads h x → Tagged s t after_tag → Items m m.levels m.items after_tag is (sign Equal ∷ word y ∷ after_items) → Params m m.params after_items es (sign Semicolon ∷ r) →
-      Declaration m (h ∷ s) (record { name = x; tag = t; items = is; result = y; params = es }) r
+      Declared m exotic (h ∷ s) (record { exotic = exotic; name = x; tag = t; items = is; result = y; params = es }) r
+
+-- declaration = ["!"] (name | "_") [tag] { item } "=" name { term } ";"
+pub data Declaration (m : Bounds) : List Lexeme → ConstructorView → List Lexeme → Type 0 where
+  of_ordinary : {s r : List Lexeme} {c : ConstructorView} → Declared m false s c r → Declaration m s c r
+  of_exotic : {s r : List Lexeme} {c : ConstructorView} → Declared m true s c r → Declaration m (sign Bang ∷ s) c r
 
 -- schema = { declaration }
 pub data Declarations (m : Bounds) : List Lexeme → SchemaView → Type 0 where

@@ -67,5 +67,18 @@ abbrev mutual
   spaced_items no_items = []
   spaced_items (an_item i is) = codes " " ++ item_text i ++ spaced_items is
 
+-- a further term of a sum, which closes a parenthesis
+abbrev pub addend_text : ExprView → List ℕ
+addend_text t = codes " + " ++ expr_text t ++ codes ")"
+
+abbrev pub addends_text : List ExprView → List ℕ
+addends_text [] = []
+addends_text (t ∷ ts) = addend_text t ++ addends_text ts
+
+-- `!` before a declaration of exotic cells
+abbrev pub exotic_text : Bool → List ℕ
+exotic_text true = codes "!"
+exotic_text false = []
+
 abbrev pub constructor_text : ConstructorView → List ℕ
-constructor_text c = name_text c.name ++ tag_text c.tag ++ spaced_items c.items ++ codes " = " ++ c.result ++ spaced c.params
+constructor_text c = exotic_text c.exotic ++ name_text c.name ++ tag_text c.tag ++ spaced_items c.items ++ codes " = " ++ c.result ++ spaced c.params

@@ -1,6 +1,6 @@
 -- The syntax tree of a schema as data: expressions, items, declarations.
 -- Source: the TON documentation on the TL-B language.
-use Rattle.std.specs.Prelude.{ℕ, List, [], ◌∷◌, Option}
+use Rattle.std.specs.Prelude.{ℕ, Bool, List, [], ◌∷◌, Option}
 use Rattle.nat_solver.specs.declared.compare.Op.{Op}
 use Rattle.tlb_syntax.specs.declared.tree.ParamKind.{ParamKind}
 
@@ -52,6 +52,8 @@ pub data TagView : Type 0 where
 
 -- a declaration; a constructor without a name is `_`
 pub record ConstructorView : Type 0 where
+  -- whether it is of exotic cells
+  pub exotic : Bool
   pub name : Option (List ℕ)
   pub tag : TagView
   pub items : ItemList
@@ -74,7 +76,6 @@ abbrev pub nested : ExprView → List ExprView → ExprView
 nested t [] = t
 nested t (u ∷ us) = nested (plus t u) us
 
--- the sum of a list of terms; of no terms it is 0
-abbrev pub sum_of : List ExprView → ExprView
-sum_of [] = lit 0
-sum_of (t ∷ ts) = nested t ts
+-- the sum of two terms and further ones
+abbrev pub sum_of : ExprView → ExprView → List ExprView → ExprView
+sum_of t u us = nested (plus t u) us

@@ -18,7 +18,7 @@ expr_step Nat32 = nat32
 expr_step (Bits es) = bits (exprs_of es)
 expr_step (Below es) = below (exprs_of es)
 expr_step (UpTo es) = up_to (exprs_of es)
-expr_step (Sum es) = sum_of es
+expr_step (Sum a b es) = sum_of a b es
 expr_step (Star a b) = star a b
 expr_step (Out a) = out a
 expr_step (Ref a) = ref a
@@ -54,7 +54,7 @@ tag Computed = computed
 tag (Given b) = given b
 
 abbrev pub constructor : Constructor → ConstructorView
-constructor c = record { name = c.name; tag = tag c.tag; items = items c.items; result = c.result; params = exprs c.params }
+constructor c = record { exotic = c.exotic; name = c.name; tag = tag c.tag; items = items c.items; result = c.result; params = exprs c.params }
 
 abbrev pub schema : Schema → SchemaView
 schema s = map constructor s.constructors

@@ -2,11 +2,12 @@
 --
 -- A front of a text can go on where some text begins with it. So the places of refusals are told by the productions
 -- alone: the first lexeme with which a front can't go on, and the first with which it can't go on within a limit.
-use Rattle.std.specs.Prelude.{ℕ, zero, suc, ◌≡◌, ◌<◌, ◌≤◌, ◌⊎◌, List, [], ◌∷◌, ◌++◌, length, take, count_by, bytes_eq, Option, Some, None}
+use Rattle.std.specs.Prelude.{ℕ, zero, suc, ◌≡◌, ◌<◌, ◌≤◌, ◌+◌, ◌⊎◌, List, [], ◌∷◌, ◌++◌, length, take, drop, count_by, bytes_eq, Option, Some, None}
 use Rattle.tlb_lexer.specs.declared.Token.{Token}
 use Rattle.tlb_lexer.specs.Cut.{Cut}
-use Rattle.tlb_syntax.specs.Lexeme.{Lexeme, number, lexemes}
-use Rattle.tlb_syntax.specs.Grammar.{Bounds, Declarations, TypeWord}
+use Rattle.tlb_syntax.specs.Lexeme.{Lexeme, number, sign, lexemes}
+use Rattle.tlb_syntax.specs.declared.sign.Sign.TheVariants.{Bang}
+use Rattle.tlb_syntax.specs.Grammar.{Bounds, Heads, Declarations, TypeWord}
 use Rattle.tlb_syntax.specs.Tree.{ExprView, ConstructorView, SchemaView}
 
 -- ---- limits
@@ -91,12 +92,25 @@ pub record Exceeds {X : Type 0} (G : Grammar X) (m : Bounds) (P : X → Type 0) 
   pub with_it : CanGoOn G unbounded IsAny (ended split.front (form_of split.at))
   pub too_much : CanGoOn G m P (ended split.front (form_of split.at)) → ⊥
 
--- the lexeme at the place is the first of the declaration that the later one belongs to
-pub record Declares (ls : List Lexeme) (place later : ℕ) : Type 0 where
-  pub before : place ≤ later
+-- the name or the `_` of a declaration that begins with these lexemes stands behind so many: behind the `!`, or first
+pub data NameStands : List Lexeme → ℕ → Type 0 where
+  at_once : {h : Lexeme} {x : Option (List ℕ)} {s : List Lexeme} → Heads h x → NameStands (h ∷ s) 0
+  after_mark : {h : Lexeme} {x : Option (List ℕ)} {s : List Lexeme} → Heads h x → NameStands (sign Bang ∷ h ∷ s) 1
+
+-- the declaration that the later lexeme belongs to has so many lexemes before it
+pub record Begins (ls : List Lexeme) (start later : ℕ) : Type 0 where
+  pub before : start ≤ later
   pub earlier : SchemaView
-  pub whole : Declarations unbounded (take place ls) earlier
-  pub last : (other : ℕ) (s : SchemaView) → place < other → other ≤ later → Declarations unbounded (take other ls) s → ⊥
+  pub whole : Declarations unbounded (take start ls) earlier
+  pub last : (other : ℕ) (s : SchemaView) → start < other → other ≤ later → Declarations unbounded (take other ls) s → ⊥
+
+-- the lexeme at the place is the name, or the `_`, of the declaration that the later one belongs to
+pub record Declares (ls : List Lexeme) (place later : ℕ) : Type 0 where
+  pub start : ℕ
+  pub begins : Begins ls start later
+  pub offset : ℕ
+  pub name : NameStands (drop start ls) offset
+  pub is_place : place ≡ start + offset
 
 abbrev pub MeetsLevels : {X : Type 0} → Grammar X → List Lexeme → ℕ → Type 0
 MeetsLevels G = Exceeds G (bounds (Some 64) None None) IsAny

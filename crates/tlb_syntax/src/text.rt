@@ -1,8 +1,7 @@
 //! Canonical texts.
 ghost use Rattle.std.specs.Prelude.{◌≡◌, ◌+◌, ◌++◌, map, decimal, codes, replicate, IfOk, OnOk};
-ghost use Rattle.tlb_syntax.specs.Text.{constructor_text, expr_text, item_text, kind_text, name_text, op_text, spaced, spaced_items, tag_text, type_text};
+ghost use Rattle.tlb_syntax.specs.Text.{addend_text, addends_text, constructor_text, exotic_text, expr_text, item_text, kind_text, name_text, op_text, spaced, spaced_items, tag_text, type_text};
 ghost use Rattle.tlb_syntax.specs.View.{constructor, expr, exprs, field_type, item, items, tag};
-ghost use Rattle.tlb_syntax.specs.Tree.{sum_of};
 
 use crate::tree::{Constructor, Expr, FieldType, Item, ParamKind, Tag};
 use bit_slice::Name;
@@ -15,6 +14,7 @@ pub fn canonical(alloc: Global, c: &Constructor) -> Result<Vec<u8>, NoMemory>
     ensures { IfOk result (λ text. text.items ≡ constructor_text (constructor c.now)) }
 {
     let mut text = Vec::new(alloc);
+    put_exotic(&mut text, c.exotic)?;
     put_name(&mut text, &c.name)?;
     put_tag(&mut text, &c.tag)?;
     put_items(alloc, &mut text, c.items.as_slice())?;
@@ -31,6 +31,15 @@ pub fn show(alloc: Global, e: &Expr) -> Result<Vec<u8>, NoMemory>
     let mut text = Vec::new(alloc);
     put_expr(alloc, &mut text, e)?;
     Ok(text)
+}
+
+fn put_exotic(text: &mut Vec<u8>, exotic: bool) -> Result<(), AllocError>
+    ensures { OnOk result (text.new.items ≡ text.old.items ++ exotic_text exotic) }
+{
+    if exotic {
+        text.push(b'!')?;
+    }
+    Ok(())
 }
 
 fn put_name(text: &mut Vec<u8>, name: &Option<Name>) -> Result<(), AllocError>
@@ -82,7 +91,14 @@ fn put_expr(alloc: Global, text: &mut Vec<u8>, e: &Expr) -> Result<(), AllocErro
         Expr::Bits(args) => put_applied(alloc, text, b"##", args.as_slice()),
         Expr::Below(args) => put_applied(alloc, text, b"#<", args.as_slice()),
         Expr::UpTo(args) => put_applied(alloc, text, b"#<=", args.as_slice()),
-        Expr::Sum(terms) => put_sum(alloc, text, terms.as_slice()),
+        Expr::Sum(first, second, more) => {
+            let more = more.as_slice();
+            open(text, more.len())?;
+            text.extend_from_slice(b"(")?;
+            put_expr(alloc, text, first.get())?;
+            put_addend(alloc, text, second.get())?;
+            put_addends(alloc, text, more)
+        }
         Expr::Star(left, right) => {
             text.extend_from_slice(b"(")?;
             put_expr(alloc, text, left.get())?;
@@ -122,20 +138,23 @@ fn put_applied(
     text.extend_from_slice(b")")
 }
 
-// A sum, without recursion over its terms: it opens all parentheses first.
+// A further term of a sum, which closes a parenthesis.
 #[cycle(print)]
-fn put_sum(alloc: Global, text: &mut Vec<u8>, terms: &[Expr]) -> Result<(), AllocError>
-    ensures { OnOk result (text.new.items ≡ text.old.items ++ expr_text (sum_of (map expr terms.now))) }
+fn put_addend(alloc: Global, text: &mut Vec<u8>, term: &Expr) -> Result<(), AllocError>
+    ensures { OnOk result (text.new.items ≡ text.old.items ++ addend_text (expr term.now)) }
 {
-    let [first, more @ ..] = terms else {
-        return text.extend_from_slice(b"0");
-    };
-    open(text, more.len())?;
-    put_expr(alloc, text, first)?;
-    'terms: for term in more {
-        text.extend_from_slice(b" + ")?;
-        put_expr(alloc, text, term)?;
-        text.extend_from_slice(b")")?;
+    text.extend_from_slice(b" + ")?;
+    put_expr(alloc, text, term)?;
+    text.extend_from_slice(b")")
+}
+
+// Further terms, without recursion from one to the next.
+#[cycle(print)]
+fn put_addends(alloc: Global, text: &mut Vec<u8>, terms: &[Expr]) -> Result<(), AllocError>
+    ensures { OnOk result (text.new.items ≡ text.old.items ++ addends_text (map expr terms.now)) }
+{
+    'terms: for term in terms {
+        put_addend(alloc, text, term)?;
     }
     Ok(())
 }

@@ -25,8 +25,8 @@ pub enum Expr {
     Below(Items<Expr>),
     /// `#<=` and its argument.
     UpTo(Items<Expr>),
-    /// Two or more terms, which stand for their sum nested to the left.
-    Sum(Items<Expr>),
+    /// The first term, the second and those after them: they stand for their sum nested to the left.
+    Sum(Boxed<Expr>, Boxed<Expr>, Items<Expr>),
     Star(Boxed<Expr>, Boxed<Expr>),
     /// `~` and its operand.
     Out(Boxed<Expr>),
@@ -70,6 +70,8 @@ pub enum Tag {
 /// One declaration of a schema.
 #[derive(Drop)]
 pub struct Constructor {
+    /// Whether a `!` stands before the name: the declaration is of exotic cells.
+    pub exotic: bool,
     /// The constructor's name, unless that is `_`.
     pub name: Option<Name>,
     pub tag: Tag,

@@ -1,14 +1,9 @@
 //! Values.
-ghost use Rattle.std.specs.Prelude.{◌≡◌, option_map};
-ghost use Rattle.typed_value.specs.Val.{at_path, field_at, step_at};
-ghost use Rattle.typed_value.specs.View.{field_of, fields_of, stride, value};
-ghost use Rattle.std.specs.Prelude.{map};
+use bit_slice::{BitString, Name};
+use cell_nodes::{Cell, Hidden};
+use sqlite_items::{Boxed, Items};
 
-use crate::path::{Path, Step};
-use bit_slice::Name;
-use sqlite_items::Items;
-
-/// A number by its sign and its size.
+/// A number by its sign and its size. The 0 that a type spells is not negative.
 #[derive(Clone, Copy, Debug, PartialEq, Eq)]
 pub struct Number {
     pub negative: bool,
@@ -20,7 +15,19 @@ pub struct Number {
 #[derive(Drop)]
 pub enum Value {
     Number(Number),
+    Bits(BitString),
     Record(Record),
+    /// A field whose condition doesn't hold.
+    Absent,
+    List(Items<Value>),
+    /// A reference to a cell that holds the value.
+    Ref(Boxed<Value>),
+    /// A hidden part.
+    Unknown(Hidden),
+    Map(Dict),
+    /// A cell as it is.
+    Raw(Cell),
+    Rest(RestPart),
 }
 
 /// The fields of a constructor, each under the name that it is shown by, and the constructor's own name. A record
@@ -32,41 +39,18 @@ pub struct Record {
     pub fields: Items<(Name, Value)>,
 }
 
-impl Value {
-    /// The value that the steps lead to, or `None` where one of them names nothing.
-    pub fn at(&self, path: &Path) -> Option<&Value>
-        ensures { option_map (λ v. value v.now) result ≡ at_path (value self.entry.now) (map stride path.now.steps) }
-    {
-        let mut here = self;
-        'steps: for step in path.steps.as_slice() {
-            here = step_of(here, step)?;
-        }
-        Some(here)
-    }
+/// The values of a dictionary by key, and its hidden parts by the prefix that their keys begin with, each in the
+/// order of bits.
+#[cycle(value)]
+#[derive(Drop)]
+pub struct Dict {
+    pub pairs: Items<(BitString, Value)>,
+    pub unknown: Items<(BitString, Hidden)>,
 }
 
-// What one step leads to.
-fn step_of<'a>(from: &'a Value, step: &Step) -> Option<&'a Value>
-    ensures { option_map (λ v. value v.now) result ≡ step_at (value from.entry.now) (stride step.now) }
-{
-    match from {
-        Value::Number(_) => None,
-        Value::Record(record) => match step {
-            Step::Field(name) => field(record.fields.as_slice(), name),
-            Step::Item(_) => None,
-            Step::Key(_) => None,
-        },
-    }
-}
-
-// The first field of that name.
-fn field<'a>(fields: &'a [(Name, Value)], name: &Name) -> Option<&'a Value>
-    ensures { option_map (λ v. value v.now) result ≡ field_at (fields_of (map field_of fields.entry.now)) name.now }
-{
-    'fields: for (found, inner) in fields {
-        if found.text() == name.text() {
-            return Some(inner);
-        }
-    }
-    None
+/// All that is left of a cell.
+#[derive(Drop)]
+pub struct RestPart {
+    pub bits: BitString,
+    pub refs: Items<Cell>,
 }

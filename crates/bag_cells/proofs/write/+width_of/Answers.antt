@@ -1,5 +1,4 @@
-use Rattle.std.proofs.Common.{◌≡◌, ◌∙◌, sym, ap, ◌+◌, ◌/◌, ℕ, arith}
-use Rattle.bag_cells.specs.Written.{width_of}
+use Rattle.std.proofs.Common.{◌∙◌, sym, ap, ◌+◌, ◌/◌, ℕ, arith}
 use Rattle.bag_cells.proofs.Widths.{width_of-small, width_of-large, width-few}
 use Rattle.bag_cells.proofs.write.+width_of.Goals as goal
 

@@ -1,15 +1,20 @@
-use Rattle.std.proofs.Common.{◌≡◌, ◌∙◌, ◌++◌, ◌-◌, ◌<◌, ◌≤◌, ℕ, List, length, take, reverse, ap, arith}
+use Rattle.std.proofs.Common.{◌≡◌, ◌∙◌, ◌≤◌, List, length, ap, arith}
 use Rattle.std.specs.List.{flat_map}
-use Rattle.bag_cells.specs.Written.{cell_bytes}
-use Rattle.bag_cells.proofs.Pushed.{cells-none, cells-more}
+use Rattle.std.proofs.lemmas.List.{take_all, length-map}
+use Rattle.cell_nodes.specs.declared.tree.Tree.{Tree}
+use Rattle.cell_pool.specs.Visited.{tree_at, trees_at}
+use Rattle.bag_cells.specs.Written.{cell_bytes, cell_data}
+use Rattle.bag_cells.proofs.Ordered.{written-more}
 use Rattle.bag_cells.proofs.write.cell_data.Goals as goal
-
-pub cells-init : goal.cells-init
-cells-init c =
-    ap (λ (l : List ℕ). l ++ flat_map (cell_bytes c.args.size (reverse c.args.listing.now)) (reverse (take c.len-i.result c.args.listing.now))) c.new-data.ensures.items
-    ∙ cells-none c.args.size c.args.listing.now c.len-i.result c.len-i.ensures
 
 pub cells-preserved : goal.cells-preserved
 cells-preserved c =
-    cells-more (cell_bytes c.args.size (reverse c.args.listing.now)) c.args.listing.now c.cells.i c.cells.data.items c.push_cell.new.bytes.items _ (omega arith) (omega arith)
-    (λ t h. rw h at c.in_ok-push_cell.ensures) c.cells.invariant
+    written-more (cell_bytes c.args.size (trees_at c.args.pool.now c.args.order.now)) c.args.pool.now c.args.order.now c.cells.i c.cells.data.items
+    c.push_cell.new.bytes.items (omega (arith, c.cells-test.true)) c.in_ok-push_cell.ensures c.cells.invariant
+
+pub returns : goal.returns
+unfolding cell_data
+returns c =
+    let order = trees_at c.args.pool.now c.args.order.now in
+    let all : length order ≤ c.cells.i = omega (arith, c.cells-test.false, length-map c.args.order.now (tree_at c.args.pool.now)) in
+    c.cells.invariant ∙ ap (λ (l : List Tree). flat_map (cell_bytes c.args.size (trees_at c.args.pool.now c.args.order.now)) l) (take_all c.cells.i order all)

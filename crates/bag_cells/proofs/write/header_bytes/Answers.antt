@@ -1,4 +1,4 @@
-use Rattle.std.proofs.Common.{◌≡◌, refl}
+use Rattle.std.proofs.Common.{refl}
 use Rattle.bag_cells.specs.Written.{header_bytes}
 use Rattle.bag_cells.proofs.write.header_bytes.Goals as goal
 

@@ -1,7 +1,7 @@
 use Rattle.std.proofs.Common.{◌≡◌, ◌∙◌, ◌++◌, ◌∷◌, [], ◌+◌, ◌/◌, ℕ, List, length, map, append_assoc, arith, sym, ap}
 use Rattle.std.specs.List.{range_with_len}
 use Rattle.std.proofs.lemmas.List.FromFn.{map-range_with_len_more}
-use Rattle.bit_slice.specs.Bits.{completed, completed_byte}
+use Rattle.bit_slice.specs.Bits.{completed_byte}
 use Rattle.bit_slice.specs.Completion.{completed-by_index}
 use Rattle.bag_cells.proofs.write.push_completed.Goals as goal
 

@@ -1,5 +1,5 @@
 use Rattle.std.proofs.Common.{◌<◌, ◌≢◌, length, arith, below_more, get_or-set_other, get_or-set_same, length-set}
-use Rattle.cell_nodes.proofs.Bytes.{stored_hash-bytes}
+use Rattle.cell_nodes.proofs.Bytes.{pair_hash-bytes}
 use Rattle.cell_nodes.proofs.layouts.stored_hash.Goals as goal
 
 pub bytes-preserved : goal.bytes-preserved
@@ -11,4 +11,4 @@ bytes-preserved c = record {
 }
 
 pub returns : goal.returns
-returns c = stored_hash-bytes c.args.bits _ c.bytes.invariant.whole (λ k h. c.bytes.invariant.read k (omega arith))
+returns c = pair_hash-bytes c.args.bits.now _ c.args.j _ (omega arith) c.bytes.invariant.whole (λ k h. c.bytes.invariant.read k (omega arith))

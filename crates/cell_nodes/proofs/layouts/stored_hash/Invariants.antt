@@ -5,5 +5,5 @@ use Rattle.cell_nodes.proofs.layouts.stored_hash.Given as goal
 abbrev pub invariant-bytes : goal.invariant-bytes
 invariant-bytes l = record {
   whole : length l.hash ≡ 32;
-  read : (k : ℕ) → k < l.i → get_or l.hash k 0 ≡ byte_of (2 + k) l.bits;
+  read : (k : ℕ) → k < l.i → get_or l.hash k 0 ≡ byte_of (l.first + k) l.bits;
 }

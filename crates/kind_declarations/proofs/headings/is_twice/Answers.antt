@@ -1,7 +1,7 @@
 use Rattle.std.proofs.Common.{◌∙◌, ap, sym}
 use Rattle.std.specs.List.{list_any}
 use Rattle.kind_terms.specs.Views.{constructors_by}
-use Rattle.kind_rules.specs.Headings.{same_name}
+use Rattle.kind_declarations.specs.Headings.{same_name}
 use Rattle.kind_declarations.proofs.Params.{none_is_named}
 use Rattle.kind_declarations.proofs.headings.is_twice.Goals as goal
 

@@ -1,13 +1,13 @@
 use Rattle.std.proofs.Common.{◌≡◌, ◌∙◌, Some, sym, ap, subst, map}
 use Rattle.tlb_syntax.specs.View.{constructor}
 use Rattle.kind_terms.specs.Dictionaries.{of_type}
-use Rattle.kind_rules.specs.declared.error.Cause.TheVariants.{Reserved, TwiceNamed}
-use Rattle.kind_rules.specs.Faults.{Judges, fault_at, verdict}
+use Rattle.kind_declarations.specs.declared.error.Cause.TheVariants.{Reserved, TwiceNamed}
+use Rattle.kind_declarations.specs.Faults.{Judges, fault_at, verdict}
 use Rattle.kind_declarations.specs.HeadingViews.{all_params, heading_by}
-use Rattle.kind_rules.specs.Headings.{Heading}
-use Rattle.kind_rules.specs.Nodes.{heading_nodes, result_path}
+use Rattle.kind_declarations.specs.Headings.{Heading}
+use Rattle.kind_declarations.specs.Nodes.{heading_nodes, result_path}
 use Rattle.kind_declarations.proofs.Params.{name_twice, names_pass, reserved_name, same_heading}
-use Rattle.kind_rules.proofs.Verdicts.{judged_from}
+use Rattle.kind_declarations.proofs.Verdicts.{judged_from}
 use Rattle.kind_declarations.proofs.headings.judge_heading.Goals as goal
 
 pub returns-in-Ok-true : goal.returns-in-Ok-true

@@ -1,7 +1,7 @@
 use Rattle.std.proofs.Common.{◌≡◌, take, map}
 use Rattle.tlb_syntax.specs.View.{exprs}
 use Rattle.kind_terms.specs.Params.{inputs}
-use Rattle.kind_rules.specs.Faults.{verdict}
+use Rattle.kind_declarations.specs.Faults.{verdict}
 use Rattle.kind_declarations.specs.HeadingViews.{all_params, heading_by}
 use Rattle.kind_declarations.proofs.Params.{params_from}
 use Rattle.kind_declarations.proofs.headings.judge_params.Given as goal

@@ -1,6 +1,6 @@
 use Rattle.std.proofs.Common.{◌≡◌, ◌++◌, drop, map}
 use Rattle.tlb_syntax.specs.View.{exprs, items}
-use Rattle.kind_rules.specs.Nodes.{names_in_all, names_of}
+use Rattle.kind_rules.specs.FieldNames.{names_in_all, names_of}
 use Rattle.kind_rules.proofs.names.+names.Given as goal
 
 abbrev pub invariant-add_names_in_all-loop-e : goal.invariant-add_names_in_all-loop-e

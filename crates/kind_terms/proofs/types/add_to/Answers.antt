@@ -1,7 +1,7 @@
 use Rattle.std.proofs.Common.{rules, sym}
 use Rattle.std.proofs.lemmas.Result.{on_ok_weaker}
 use Rattle.kind_terms.specs.declared.types.Declared.{Declared}
-use Rattle.kind_terms.proofs.Founds.{more_found}
+use Rattle.kind_terms.proofs.TypeIndexes.{more_found}
 use Rattle.std.proofs.lemmas.Map.Text.{hash_map_updates_str}
 use Rattle.kind_terms.proofs.types.add_to.Goals as goal
 

@@ -1,5 +1,5 @@
 use Rattle.std.proofs.lemmas.Map.Text.{hash_map_updates_str}
-use Rattle.kind_terms.proofs.Founds.{first_found}
+use Rattle.kind_terms.proofs.TypeIndexes.{first_found}
 use Rattle.kind_terms.proofs.types.first_declared.Goals as goal
 
 pub returns : goal.returns

@@ -2,7 +2,7 @@ use Rattle.std.proofs.Common.{◌≡◌, ℕ, ◌<◌, [], ◌∷◌, ◌++◌, 
 use Rattle.std.proofs.lemmas.List.{get_or_default, length-set}
 use Rattle.tlb_guard.specs.declared.edges.Edge.{Edge}
 use Rattle.tlb_guard.specs.Users.{users_at, HasUser}
-use Rattle.tlb_guard.proofs.Using.{few_below, push_added, push_kept, push_below}
+use Rattle.tlb_guard.proofs.RuleUsers.{few_below, push_added, push_kept, push_below}
 use Rattle.tlb_guard.proofs.edges.targets_of.Goals as goal
 
 pub loop-edge-init : goal.loop-edge-init

@@ -4,7 +4,7 @@ use Rattle.tlb_guard.specs.declared.rules.Rule.{Rule}
 use Rattle.tlb_guard.specs.Exposed.{a_variable, is_variable_called}
 use Rattle.tlb_guard.specs.Numbering.{views}
 use Rattle.tlb_guard.specs.Variables.{AddsRules, called_among, is_called_at}
-use Rattle.tlb_guard.proofs.Calling.{all_called, none_called, one_called, variable_there}
+use Rattle.tlb_guard.proofs.CalledParameters.{all_called, none_called, one_called, variable_there}
 use Rattle.tlb_guard.proofs.exposed.add_called.Goals as goal
 use Rattle.tlb_guard.proofs.exposed.add_called.Goals.{then-is_called+in_ok-add_rule, else-is_called}
 

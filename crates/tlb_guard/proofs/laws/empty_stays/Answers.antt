@@ -1,4 +1,4 @@
-use Rattle.tlb_guard.proofs.Stays.{empty_stays}
+use Rattle.tlb_guard.proofs.LaterRounds.{empty_stays}
 use Rattle.tlb_guard.proofs.laws.empty_stays.Goals as goal
 
 pub returns : goal.returns

@@ -1,4 +1,4 @@
-use Rattle.tlb_guard.proofs.Exposing.{exposed_stays}
+use Rattle.tlb_guard.proofs.ExposedRules.{exposed_stays}
 use Rattle.tlb_guard.proofs.laws.exposed_stays.Goals as goal
 
 pub returns : goal.returns

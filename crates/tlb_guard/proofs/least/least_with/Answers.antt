@@ -2,7 +2,7 @@ use Rattle.std.proofs.Common.{◌≡◌, ℕ, false, Bool, List, length, replica
 use Rattle.std.proofs.lemmas.List.{length-replicate}
 use Rattle.tlb_guard.specs.Facts.{holds, IsSound}
 use Rattle.tlb_guard.specs.Users.{HasUser}
-use Rattle.tlb_guard.proofs.Searching.{first_sound}
+use Rattle.tlb_guard.proofs.Searches.{first_sound}
 use Rattle.tlb_guard.proofs.least.least_with.Goals as goal
 
 pub finish-requires-clause-users : goal.finish-requires-clause-users

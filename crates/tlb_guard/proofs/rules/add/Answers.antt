@@ -1,6 +1,6 @@
 use Rattle.std.proofs.Common.{◌≡◌, false, rules}
 use Rattle.tlb_guard.specs.Facts.{holds}
-use Rattle.tlb_guard.proofs.Searching.{push_search}
+use Rattle.tlb_guard.proofs.Searches.{push_search}
 use Rattle.tlb_guard.proofs.rules.add.Goals as goal
 
 pub returns-in_ok-push-clause-search : goal.returns-in_ok-push-clause-search

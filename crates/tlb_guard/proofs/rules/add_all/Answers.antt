@@ -1,7 +1,7 @@
 use Rattle.std.proofs.Common.{◌≡◌, ◌<◌, true, Bool, List, length, get_or, refl, sym, ap, ◌∙◌, subst, arith, get_or-set_same}
 use Rattle.std.proofs.lemmas.List.{get_or_default}
 use Rattle.tlb_guard.specs.Facts.{holds, IsSound}
-use Rattle.tlb_guard.proofs.Searching.{extends_twice, seed_more, seed_sound}
+use Rattle.tlb_guard.proofs.Searches.{extends_twice, seed_more, seed_sound}
 use Rattle.tlb_guard.proofs.rules.add_all.Goals as goal
 
 pub loop-fact-preserved : goal.loop-fact-preserved

@@ -1,7 +1,7 @@
 use Rattle.std.proofs.Common.{◌≡◌, true, false, Bool, List, sym, subst, rules as steps}
 use Rattle.std.specs.List.{list_all}
 use Rattle.tlb_guard.specs.Facts.{holds, IsSound}
-use Rattle.tlb_guard.proofs.Searching.{rule_sound, unmet_served}
+use Rattle.tlb_guard.proofs.Searches.{rule_sound, unmet_served}
 use Rattle.tlb_guard.proofs.rules.apply.Goals as goal
 
 pub returns-in_ok-add-clause-sound : goal.returns-in_ok-add-clause-sound

@@ -1,5 +1,5 @@
 use Rattle.std.proofs.Common.{◌<◌, length, sym, arith}
-use Rattle.tlb_guard.proofs.Searching.{extends_twice, served_more}
+use Rattle.tlb_guard.proofs.Searches.{extends_twice, served_more}
 use Rattle.tlb_guard.proofs.rules.apply_all.Goals as goal
 
 pub loop-rule-preserved : goal.loop-rule-preserved

@@ -1,5 +1,5 @@
 use Rattle.std.proofs.Common.{◌<◌, ◌≤◌, length, get_or, sym, arith}
-use Rattle.tlb_guard.proofs.Searching.{extends_twice, user_more}
+use Rattle.tlb_guard.proofs.Searches.{extends_twice, user_more}
 use Rattle.tlb_guard.proofs.rules.apply_users.Goals as goal
 
 pub loop-rule-preserved : goal.loop-rule-preserved

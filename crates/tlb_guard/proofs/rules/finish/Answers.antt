@@ -1,7 +1,7 @@
 use Rattle.std.proofs.Common.{◌≡◌, ℕ, ◌+◌, ◌<◌, List, [], length, get_or, sym, ap, ◌∙◌, subst, arith}
 use Rattle.std.proofs.lemmas.List.{get_or_default}
 use Rattle.tlb_guard.specs.Facts.{AreUsers, IsServed}
-use Rattle.tlb_guard.proofs.Searching.{extends_twice, holds_below, served_next, served_obeys}
+use Rattle.tlb_guard.proofs.Searches.{extends_twice, holds_below, served_next, served_obeys}
 use Rattle.tlb_guard.proofs.rules.finish.Goals as goal
 
 pub loop-next-preserved : goal.loop-next-preserved

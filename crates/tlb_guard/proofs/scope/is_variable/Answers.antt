@@ -3,7 +3,7 @@ use Rattle.std.specs.Prelude.{◌&&◌, ◌==◌, not, map}
 use Rattle.std.proofs.lemmas.Bool.{false≢true}
 use Rattle.tlb_syntax.specs.declared.tree.Expr.{Expr}
 use Rattle.kind_terms.specs.Words.{is_among}
-use Rattle.tlb_guard.proofs.Numbered.{has_exprs_some}
+use Rattle.tlb_guard.proofs.Numberings.{has_exprs_some}
 use Rattle.tlb_guard.proofs.scope.is_variable.Goals as goal
 
 pub returns-else-is_empty : goal.returns-else-is_empty

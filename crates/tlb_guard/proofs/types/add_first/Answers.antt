@@ -2,7 +2,7 @@ use Rattle.std.proofs.Common.{sym, ◌∙◌}
 use Rattle.std.proofs.lemmas.Map.Text.{hash_map_updates_str}
 use Rattle.std.specs.Prelude.{Some, bytes_eq}
 use Rattle.std.specs.HashMap.{get_by}
-use Rattle.tlb_guard.proofs.Numbered.{known_word, new_word}
+use Rattle.tlb_guard.proofs.Numberings.{known_word, new_word}
 use Rattle.tlb_guard.proofs.types.add_first.Goals as goal
 
 pub returns-then-contains_key : goal.returns-then-contains_key

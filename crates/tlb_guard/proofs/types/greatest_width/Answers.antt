@@ -1,5 +1,5 @@
 use Rattle.std.proofs.Common.{arith}
-use Rattle.tlb_guard.proofs.Numbered.{width_step}
+use Rattle.tlb_guard.proofs.Numberings.{width_step}
 use Rattle.tlb_guard.proofs.types.greatest_width.Goals as goal
 use Rattle.tlb_guard.proofs.types.greatest_width.Goals.{then-len-width, else-len-width}
 

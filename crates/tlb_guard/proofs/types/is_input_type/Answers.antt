@@ -3,7 +3,7 @@ use Rattle.std.specs.Prelude.{option_map}
 use Rattle.tlb_syntax.specs.View.{expr, items}
 use Rattle.kind_terms.specs.Params.{is_type_in, kind_of}
 use Rattle.tlb_guard.specs.DeclaredTypes.{is_type_kind}
-use Rattle.tlb_guard.proofs.Numbered.{kind_at}
+use Rattle.tlb_guard.proofs.Numberings.{kind_at}
 use Rattle.tlb_guard.proofs.types.is_input_type.Goals as goal
 
 pub returns-in-None : goal.returns-in-None

@@ -1,7 +1,7 @@
 use Rattle.std.proofs.Common.{◌≡◌, ℕ, ◌<◌, [], ◌∷◌, ◌++◌, length, get_or, set, ap, ◌∙◌, arith, below_more}
 use Rattle.std.proofs.lemmas.List.{get_or_default}
 use Rattle.tlb_guard.specs.Users.{users_at, HasUser}
-use Rattle.tlb_guard.proofs.Using.{push_added, push_kept, push_few}
+use Rattle.tlb_guard.proofs.RuleUsers.{push_added, push_kept, push_few}
 use Rattle.tlb_guard.proofs.users.add_user.Goals as goal
 
 pub loop-fact-preserved : goal.loop-fact-preserved
@@ -22,5 +22,5 @@ loop-fact-preserved c =
       added = below_more P i
           (λ j before. push_kept users fact c.args.number below q is (get_or c.args.body.now j 0) c.args.number (c.loop-fact.invariant.added j before))
           (push_added users fact c.args.number below q is);
-      few = λ h. push_few users fact c.args.number below q is (c.loop-fact.invariant.few h);
+      bounded = λ h. push_few users fact c.args.number below q is (c.loop-fact.invariant.bounded h);
     }

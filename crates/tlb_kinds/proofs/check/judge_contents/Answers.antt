@@ -1,11 +1,11 @@
 use Rattle.std.proofs.Common.{◌∙◌, arith, map, take, sym, subst, List, Result, Ok, Err}
 use Rattle.tlb_syntax.specs.declared.tree.Constructor.{Constructor}
 use Rattle.tlb_syntax.specs.View.{constructor}
-use Rattle.kind_rules.specs.declared.error.Fault.{Fault}
-use Rattle.kind_rules.specs.declared.shown.Shown.{Shown}
-use Rattle.kind_rules.specs.Faults.{Judges}
-use Rattle.kind_rules.specs.Nodes.{constructor_nodes}
-use Rattle.kind_rules.specs.Views.{part_by}
+use Rattle.kind_declarations.specs.declared.error.Fault.{Fault}
+use Rattle.kind_terms.specs.declared.shown.Shown.{Shown}
+use Rattle.kind_declarations.specs.Faults.{Judges}
+use Rattle.kind_declarations.specs.Nodes.{constructor_nodes}
+use Rattle.kind_terms.specs.Views.{part_by}
 use Rattle.tlb_kinds.specs.Spots.{heading, refusals_at}
 use Rattle.tlb_kinds.proofs.Firsts.{no_refusals}
 use Rattle.tlb_kinds.proofs.Loops.{constructor_within, contents_here, later, first_here}

@@ -5,7 +5,7 @@ use Rattle.tlb_syntax.specs.View.{constructor}
 use Rattle.tlb_guard.specs.Edges.{place_by}
 use Rattle.tlb_kinds.specs.declared.error.KindError.TheVariants.{Unguarded}
 use Rattle.tlb_kinds.specs.Refusals.{of_place, of_guard, unguarded_at}
-use Rattle.kind_rules.specs.Faults.{first}
+use Rattle.kind_declarations.specs.Faults.{first}
 use Rattle.tlb_kinds.proofs.Loops.{constructor_within, item_count-items, unguarded_there, unguarded_nowhere}
 use Rattle.tlb_kinds.proofs.check.judge_guard.Goals as goal
 

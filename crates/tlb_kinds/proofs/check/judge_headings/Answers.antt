@@ -2,9 +2,9 @@ use Rattle.std.proofs.Common.{◌∙◌, ap, arith, map, take, sym, subst, ◌++
 use Rattle.std.proofs.lemmas.List.{take_more}
 use Rattle.tlb_syntax.specs.declared.tree.Constructor.{Constructor}
 use Rattle.tlb_syntax.specs.View.{constructor}
-use Rattle.kind_rules.specs.declared.error.Fault.{Fault}
-use Rattle.kind_rules.specs.Faults.{Judges}
-use Rattle.kind_rules.specs.Nodes.{heading_nodes, result_path}
+use Rattle.kind_declarations.specs.declared.error.Fault.{Fault}
+use Rattle.kind_declarations.specs.Faults.{Judges}
+use Rattle.kind_declarations.specs.Nodes.{heading_nodes, result_path}
 use Rattle.tlb_kinds.specs.Spots.{heading, refusals_at}
 use Rattle.tlb_kinds.proofs.Firsts.{no_refusals}
 use Rattle.tlb_kinds.proofs.Loops.{headings_here, later, first_here}

@@ -1,8 +1,8 @@
 use Rattle.std.proofs.Common.{◌≡◌, ◌∙◌, ap, map, subst, sym, Some, Err}
 use Rattle.tlb_syntax.specs.View.{constructor}
-use Rattle.kind_rules.specs.declared.error.Fault.{Fault}
-use Rattle.kind_rules.specs.Faults.{Judges, fault_at, verdict}
-use Rattle.kind_rules.specs.Views.{part_by}
+use Rattle.kind_declarations.specs.declared.error.Fault.{Fault}
+use Rattle.kind_declarations.specs.Faults.{Judges, fault_at, verdict}
+use Rattle.kind_terms.specs.Views.{part_by}
 use Rattle.tlb_kinds.specs.Spots.{refusal}
 use Rattle.tlb_kinds.proofs.Firsts.{first_at}
 use Rattle.tlb_kinds.specs.Spots.{heading}

@@ -6,7 +6,7 @@ use Rattle.tlb_kinds.proofs.check.without_dictionaries.Given as goal
 abbrev pub invariant-loop-at : goal.invariant-loop-at
 invariant-loop-at l = record {
   within : l.at ≤ length l.constructors;
-  front : without_dictionaries (map constructor (take l.at l.constructors)) ≡ map constructor (take l.at l.constructors);
+  prefix : without_dictionaries (map constructor (take l.at l.constructors)) ≡ map constructor (take l.at l.constructors);
   same : without_dictionaries (map constructor l.constructors) ≡ without_dictionaries (schema l.fn.schema);
 }
 

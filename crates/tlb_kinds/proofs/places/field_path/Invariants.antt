@@ -1,5 +1,5 @@
 use Rattle.std.proofs.Common.{◌≡◌, map, take}
-use Rattle.kind_rules.specs.Views.{part_by}
+use Rattle.kind_terms.specs.Views.{part_by}
 use Rattle.tlb_kinds.proofs.places.field_path.Given as goal
 
 abbrev pub invariant-loop-shown : goal.invariant-loop-shown

@@ -1,6 +1,5 @@
-use Rattle.std.proofs.Common.{sym}
-use Rattle.cell_nodes.specs.declared.tree.Kind.TheVariants.{Ordinary, Library, Proof}
-use Rattle.cell_nodes.proofs.Told.{hidden-node, hidden-kept}
+use Rattle.cell_nodes.specs.declared.tree.Kind.TheVariants.{Ordinary, Pruned, Library, Proof, Update}
+use Rattle.cell_nodes.proofs.Known.{hidden-node, kind-of}
 use Rattle.cell_nodes.proofs.cell.Cell.hidden.Goals as goal
 
 pub returns-in-Ordinary : goal.returns-in-Ordinary
@@ -12,7 +11,8 @@ returns-in-Library c = hidden-node Library _ _ _ c.deref.ensures c.self.view_is 
 pub returns-in-Proof : goal.returns-in-Proof
 returns-in-Proof c = hidden-node Proof _ _ _ c.deref.ensures c.self.view_is c.in-Proof.is
 
-pub returns-in-Pruned : goal.returns-in-Pruned
-returns-in-Pruned c =
-    rw (c.deref-in-Pruned.ensures, c.deref-in-Pruned-2.ensures)
-    (sym (hidden-kept _ _ _ c.deref.ensures c.self.invariant c.self.view_is c.in-Pruned.is))
+pub returns-in-Update : goal.returns-in-Update
+returns-in-Update c = hidden-node Update _ _ _ c.deref.ensures c.self.view_is c.in-Update.is
+
+pub hidden_part-requires : goal.hidden_part-requires
+hidden_part-requires c = kind-of _ _ _ Pruned c.deref.ensures c.self.view_is c.in-Pruned.is

@@ -1,7 +1,6 @@
-use Rattle.std.proofs.Common.{◌≡◌, ◌∙◌, ℕ, sym, refl, arith, max, get_or}
+use Rattle.std.proofs.Common.{refl, arith}
 use Rattle.std.proofs.lemmas.Result.{err_from_is_err_and}
-use Rattle.cell_nodes.specs.Tree.{tree_of, deepest}
-use Rattle.cell_nodes.proofs.Told.{deepest-kept}
+use Rattle.cell_nodes.proofs.Known.{deepest-kept}
 use Rattle.cell_nodes.proofs.cell.Cell.of_kind.Goals as goal
 
 pub of_parts-requires-clause-shallow : goal.of_parts-requires-clause-shallow

@@ -5,7 +5,7 @@ use Rattle.tlb_syntax.specs.View.{exprs}
 use Rattle.kind_terms.specs.Types.{is_family}
 use Rattle.kind_terms.specs.Words.{is_among, has_width, has_some_width}
 use Rattle.tlb_guard.specs.Numbering.{types_in, views}
-use Rattle.tlb_guard.proofs.Needing.{type_with_width, swapped}
+use Rattle.tlb_guard.proofs.NeededTypes.{type_with_width, swapped}
 use Rattle.tlb_guard.proofs.empty.Needs.of_name.Goals as goal
 
 pub returns-then-has_width-clause-needs : goal.returns-then-has_width-clause-needs

@@ -3,18 +3,18 @@ use Rattle.std.specs.Prelude.{Option, None, Some, option_map, slice_get}
 use Rattle.std.proofs.lemmas.Option.{slice_get-map}
 use Rattle.tlb_syntax.specs.declared.tree.Constructor.{Constructor}
 use Rattle.tlb_syntax.specs.View.{constructor}
-use Rattle.kind_terms.specs.declared.kind.Kind.{Kind}
+use Rattle.kind_terms.specs.declared.kind.TermKind.{TermKind}
 use Rattle.kind_terms.specs.Params.{kinds}
 use Rattle.tlb_guard.specs.DeclaredTypes.{is_type_kind, kinds_of_type}
 use Rattle.tlb_guard.specs.Numbering.{views}
-use Rattle.tlb_guard.proofs.Numbered.{kinds_at_place}
+use Rattle.tlb_guard.proofs.Numberings.{kinds_at_place}
 use Rattle.tlb_guard.proofs.types.Types.is_type_parameter.Goals as goal
 
 same : (o : Option Constructor) → option_map kinds (option_map constructor o) ≡ option_map (λ d. kinds (constructor d)) o
 same None = refl
 same (Some d) = refl
 
-some_same : (ks js : List Kind) → Some ks ≡ Some js → ks ≡ js
+some_same : (ks js : List TermKind) → Some ks ≡ Some js → ks ≡ js
 some_same ks js e = cc
 
 pub returns-in-Some : goal.returns-in-Some

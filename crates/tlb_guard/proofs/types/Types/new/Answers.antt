@@ -2,7 +2,7 @@ use Rattle.std.proofs.Common.{ℕ, List, sym, ap, ◌∙◌}
 use Rattle.std.specs.Prelude.{None, Some, bytes_eq, if◌then◌else◌}
 use Rattle.std.specs.HashMap.{get_by}
 use Rattle.std.specs.Option.{option_or}
-use Rattle.tlb_guard.proofs.Numbered.{place_more}
+use Rattle.tlb_guard.proofs.Numberings.{place_more}
 use Rattle.tlb_guard.proofs.types.Types.new.Goals as goal
 
 pub loop-number-preserved : goal.loop-number-preserved

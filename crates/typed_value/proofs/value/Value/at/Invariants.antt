@@ -1,6 +1,6 @@
 use Rattle.std.proofs.Common.{◌≡◌, drop, map}
-use Rattle.typed_value.specs.Val.{at_path}
-use Rattle.typed_value.specs.View.{value, stride}
+use Rattle.typed_value.specs.Paths.{at_path}
+use Rattle.typed_value.specs.View.{stride, value}
 use Rattle.typed_value.proofs.value.Value.at.Given as goal
 
 abbrev pub invariant-steps : goal.invariant-steps

@@ -1,5 +1,0 @@
-use Rattle.bag_cells.proofs.Once.{each-subtree, only-subtree, once-post}
-use Rattle.bag_cells.proofs.laws.each_subtree_once.Goals as goal
-
-pub returns : goal.returns
-returns c = record { each = each-subtree; only = only-subtree; once = once-post }

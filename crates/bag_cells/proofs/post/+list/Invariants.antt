@@ -1,9 +1,0 @@
-use Rattle.std.proofs.Common.{ℕ, ◌+◌, ◌*◌, map}
-use Rattle.cell_nodes.specs.Tree.{unfolded, total}
-use Rattle.bag_cells.proofs.post.+list.Given as goal
-
-abbrev pub decreases-add : goal.decreases-add
-decreases-add l = 2 * unfolded l.cell.now
-
-abbrev pub decreases-add_all : goal.decreases-add_all
-decreases-add_all l = 2 * total (map unfolded l.refs) + 1

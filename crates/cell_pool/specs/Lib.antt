@@ -1,0 +1,10 @@
+pub mod Post
+pub mod Listing
+pub mod SameLaws
+pub mod PlaceLaws
+pub mod PostLaws
+pub mod OnceLaws
+pub mod ReverseLaws
+pub mod GrowthLaws
+pub mod Nodes
+pub mod Visited

@@ -1,0 +1,71 @@
+-- What the laws say: facts about the definitions alone.
+use Rattle.std.specs.Prelude.{◌≡◌, ◌⊎◌, ℕ, Bool, List, [], ◌∷◌}
+use Rattle.cell_nodes.specs.Good.{AllGood}
+use Rattle.cell_nodes.specs.declared.tree.Mode.{Mode}
+use Rattle.hashmap_labels.specs.declared.forms.Forms.TheVariants.{Required}
+use Rattle.hashmap_tree.specs.Dict.{DictTree, forms_of}
+use Rattle.hashmap_tree.specs.Entries.{Slice, Entries, Then, leaf}
+use Rattle.hashmap_tree.specs.First.{Edge, Fork, LeafEdge}
+use Rattle.hashmap_tree.specs.Halts.{Halts}
+use Rattle.hashmap_tree.specs.Order.{InOrder, leaves}
+use Rattle.hashmap_tree.specs.Top.{IsTop, HaltsTop}
+use Rattle.hashmap_tree.specs.Walk.{Fault}
+
+-- in modes Whole and Partial entries have one content, among those whose references are good cells
+abbrev pub OneTree : Type 0
+OneTree =
+    (mode : Mode) → forms_of mode ≡ Required → (n : ℕ) (es : Entries) (s t : Slice) → AllGood s.refs → AllGood t.refs
+    → DictTree mode n es s → DictTree mode n es t → s ≡ t
+
+-- in each mode a content has one list of entries
+abbrev pub OneList : Type 0
+OneList =
+    (mode : Mode) (n : ℕ) (es more : Entries) (s : Slice) → DictTree mode n es s → DictTree mode n more s → es ≡ more
+
+-- pairs in order have a tree
+abbrev pub HasTree : Type 0
+HasTree =
+    (mode : Mode) (n : ℕ) (x : List ℕ × Slice) (xs : List (List ℕ × Slice))
+    → InOrder n (x ∷ xs) → (s : Slice) × DictTree mode n (leaves (x ∷ xs)) s
+
+-- a content is the tree of some entries, or a fault is met
+abbrev pub TreeOrFault : Type 0
+TreeOrFault =
+    (mode : Mode) (n : ℕ) (s : Slice) → ((es : Entries) × DictTree mode n es s) ⊎ ((f : Fault) × Halts mode n s f)
+
+-- and not both, and one fault at most
+abbrev pub OneFault : Type 0
+OneFault =
+    (mode : Mode) (n : ℕ) (s : Slice) (f g : Fault) → Halts mode n s f → Halts mode n s g → f ≡ g
+
+abbrev pub NoFaultInTree : Type 0
+NoFaultInTree =
+    (mode : Mode) (n : ℕ) (es : Entries) (s : Slice) (f : Fault) → DictTree mode n es s → Halts mode n s f → ⊥
+
+-- what a walk answers is one edge, or one fault, and never both
+abbrev pub OneEdge : Type 0
+OneEdge =
+    (closed : Bool) (mode : Mode) (n : ℕ) (s : Slice) (e d : Edge)
+    → IsTop closed mode n s e → IsTop closed mode n s d → e ≡ d
+
+abbrev pub OneHalt : Type 0
+OneHalt =
+    (closed : Bool) (mode : Mode) (n : ℕ) (s : Slice) (f g : Fault)
+    → HaltsTop closed mode n s f → HaltsTop closed mode n s g → f ≡ g
+
+abbrev pub NoHaltAtEdge : Type 0
+NoHaltAtEdge =
+    (closed : Bool) (mode : Mode) (n : ℕ) (s : Slice) (e : Edge) (f : Fault)
+    → IsTop closed mode n s e → HaltsTop closed mode n s f → ⊥
+
+-- a fork in place is the tree of its entries, and what follows it
+abbrev pub ForkIsTree : Type 0
+ForkIsTree =
+    (mode : Mode) (n : ℕ) (es : Entries) (s after : Slice)
+    → Fork mode n es s after → (u : Slice) × DictTree mode n es u × Then s u after
+
+-- a leaf in place is the tree of its key and each content that what follows its label begins with
+abbrev pub LeafIsTree : Type 0
+LeafIsTree =
+    (mode : Mode) (n : ℕ) (k : List ℕ) (s middle c after : Slice) → LeafEdge mode n k s middle → Then middle c after
+    → (u : Slice) × DictTree mode n ((k, leaf c) ∷ []) u × Then s u after

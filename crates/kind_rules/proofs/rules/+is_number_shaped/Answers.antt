@@ -1,8 +1,0 @@
-use Rattle.std.proofs.Common.{refl, true}
-use Rattle.kind_terms.proofs.NestedSums.{two_terms}
-use Rattle.kind_rules.specs.Numbers.{is_number_shaped}
-use Rattle.kind_rules.proofs.rules.+is_number_shaped.Goals as goal
-
-pub returns-in-len2-up : goal.returns-in-len2-up
-returns-in-len2-up t c =
-    two_terms is_number_shaped true (λ a b. refl) _ _ _ c.in-Sum.is c.as_slice.ensures c.in-len2-up.len_at_least

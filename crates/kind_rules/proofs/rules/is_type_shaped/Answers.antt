@@ -1,0 +1,7 @@
+use Rattle.std.proofs.Common.{refl, false}
+use Rattle.kind_terms.specs.SumLaws.{of_sum}
+use Rattle.kind_rules.specs.Numbers.{is_type_shaped}
+use Rattle.kind_rules.proofs.rules.is_type_shaped.Goals as goal
+
+pub returns-in-Sum : goal.returns-in-Sum
+returns-in-Sum c = of_sum is_type_shaped false (λ a b. refl) _ _ _ _ c.in-Sum.is

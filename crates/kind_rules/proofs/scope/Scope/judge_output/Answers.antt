@@ -1,9 +1,0 @@
-use Rattle.tlb_syntax.specs.View.{expr}
-use Rattle.kind_rules.specs.Views.{at_by}
-use Rattle.kind_rules.proofs.NumberNodes.{output_nodes_of, same_due}
-use Rattle.kind_rules.proofs.scope.Scope.judge_output.Goals as goal
-
-pub returns : goal.returns
-returns c =
-    let a = at_by c.args.self.now in
-    rw (output_nodes_of (expr c.args.e.now) a _) (same_due _ _ a _ _ _ c.output.ensures c.judge_use.ensures)

@@ -1,0 +1,15 @@
+//! Tests of the crates of the language: tokens, syntax, kinds, the guard and flat records.
+#![tactic(auto)]
+
+#[cfg(test)]
+mod judgements;
+#[cfg(test)]
+mod records;
+#[cfg(test)]
+mod terms;
+#[cfg(test)]
+mod texts;
+#[cfg(test)]
+mod token_rows;
+#[cfg(test)]
+mod verdicts;

@@ -1,5 +1,0 @@
-use Rattle.tlb_guard.proofs.Leading.{Gathered}
-use Rattle.tlb_guard.proofs.front.Leads.of_constructor.Given as goal
-
-abbrev pub invariant-loop-place : goal.invariant-loop-place
-invariant-loop-place l = Gathered l.fn.self l.self l.list l.place

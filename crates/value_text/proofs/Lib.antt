@@ -1,0 +1,3 @@
+mod CellSteps
+mod Orders
+mod Lists

@@ -1,0 +1,8 @@
+//! The text of a value.
+#![tactic(auto)]
+
+mod cells;
+mod marks;
+mod printer;
+
+pub use printer::print;
