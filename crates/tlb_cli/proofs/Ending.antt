@@ -67,7 +67,6 @@ module _ (form : Option Form) (held : Option Files) (before now : Counts) where
   answered-opens v (longer file long is) = record { count = _; opens = long.last.opens }
   answered-opens v (judged contents a loads answers is) = record { count = _; opens = loads.opens }
 
-
 -- ---- the clauses
 
 -- the status is that one

@@ -57,7 +57,7 @@ turn slots words place s x word b in_slots in_words is same takes_it others =
     let rest : Bool = are_taken (drop (place + 1) slots) (drop (place + 1) (map string_bytes words)) in
     let inside : place < length (map string_bytes words) = omega (arith, in_words, length-map words string_bytes) in
     let here : takes (get_or slots place s) (get_or (map string_bytes words) place (string_bytes x)) ≡ b =
-        ap (takes (get_or slots place s)) (word-at words place x is ∙ sym same) ∙ sym takes_it in
+    ap (takes (get_or slots place s)) (word-at words place x is ∙ sym same) ∙ sym takes_it in
     others ∙ taken-at slots (map string_bytes words) place s (string_bytes x) in_slots inside ∙ ap (λ y. y && rest) here
 
 pub turn-refused : (slots : List Slot) (words : List (String Global)) (place : ℕ) (s : Slot) (x : String Global) (word : Name) (b : Bool) → place < length slots → place < length words →

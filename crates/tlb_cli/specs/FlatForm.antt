@@ -17,7 +17,8 @@ pub record FormOf (text : List ℕ) (declarations : List Declaration) : Type 0 w
 
 -- the text is outside the form
 abbrev pub RefusesForm : List ℕ → Refusal → Type 0
-RefusesForm text refusal = ((declarations : List Declaration) → FormOf text declarations → ⊥) × (refusal ≡ schema Unsupported)
+RefusesForm text refusal =
+    ((declarations : List Declaration) → FormOf text declarations → ⊥) × (refusal ≡ schema Unsupported)
 
 -- or it writes declarations of flat records
 abbrev pub FlatForm : List ℕ → Result (List Declaration) Refusal → Type 0

@@ -48,7 +48,8 @@ are_taken (slot ∷ slots) (word ∷ words) = takes slot word && are_taken slots
 
 abbrev pub form_with : Option Verb → List Name → Option Form
 form_with None words = None
-form_with (Some verb) words = if are_taken (slots_of verb) words then Some (record { verb = verb; words = words }) else None
+form_with (Some verb) words =
+    if are_taken (slots_of verb) words then Some (record { verb = verb; words = words }) else None
 
 -- the command form that the words of a command line are, if they are one
 abbrev pub form_of : List Name → Option Form

@@ -37,12 +37,15 @@ abbrev pub faults : ℕ → ℕ → Faults
 faults before now = record { before = before; now = now }
 
 -- The answer was put, or a prefix of it where a put failed; or memory ended, and nothing was put.
-pub data Ran (form : Option Form) (held : Option Files) (before now : Counts) (old new : Output) (sink : Faults) (status : Status) : Type 0 where
+pub data Ran (form : Option Form) (held : Option Files) (before now : Counts) (old new : Output) (sink : Faults)
+    (status : Status) : Type 0 where
   put : (verdict : Verdict) → Answered form held before now verdict → Puts old new verdict.text → sink.now ≡ sink.before
       → status ≡ verdict.status → Ran form held before now old new sink status
-  unput : (verdict : Verdict) → Answered form held before now verdict → PutsPrefix old new verdict.text → Rose sink.before sink.now
+  unput : (verdict : Verdict) → Answered form held before now verdict → PutsPrefix old new verdict.text
+      → Rose sink.before sink.now
       → status ≡ WriteFault → Ran form held before now old new sink status
-  out_of_memory : (count : ℕ) → IsSome form → Opens (files_of form) count before now → new ≡ old → sink.now ≡ sink.before
+  out_of_memory : (count : ℕ) → IsSome form → Opens (files_of form) count before now → new ≡ old
+      → sink.now ≡ sink.before
       → status ≡ NoMemory → Ran form held before now old new sink status
 
 -- the outcome has this status, and its text was put

@@ -15,7 +15,8 @@ abbrev pub Gives : {X : Type 0} → X → Result X Refusal → Type 0
 Gives x answer = answer ≡ Ok x
 
 -- a stage refuses, or the next one follows what it gives
-pub data Next {X Y : Type 0} (first : Result X Refusal → Type 0) (next : X → Result Y Refusal → Type 0) (answer : Result Y Refusal) : Type 0 where
+pub data Next {X Y : Type 0} (first : Result X Refusal → Type 0)
+    (next : X → Result Y Refusal → Type 0) (answer : Result Y Refusal) : Type 0 where
   stops : (refusal : Refusal) → first (Err refusal) → answer ≡ Err refusal → Next first next answer
   goes_on : (x : X) → first (Ok x) → next x answer → Next first next answer
 

@@ -13,4 +13,5 @@ RefusesWord word declarations refusal = (declared declarations word ≡ None) ×
 
 -- or one, by its declaration
 abbrev pub TypeWord : Name → List Declaration → Result Declaration Refusal → Type 0
-TypeWord word declarations = stage (RefusesWord word declarations) (λ declaration. declared declarations word ≡ Some declaration)
+TypeWord word declarations =
+    stage (RefusesWord word declarations) (λ declaration. declared declarations word ≡ Some declaration)

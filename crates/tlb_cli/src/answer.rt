@@ -47,11 +47,17 @@ fn bytes_at(contents: &[Vec<u8>], number: usize) -> &[u8]
 // What the command answers for the words in its slots and the bytes of its files.
 fn judge(alloc: Global, command: Command<'_>, contents: &[Vec<u8>]) -> Result<Vec<u8>, Stop>
     requires { AreShort (files_of (Some (form_by command))) (contents_of contents.now) }
-    ensures { Answers (CommandAnswers command.entry.verb (map string_bytes command.entry.words.now) (contents_of contents.now)) text_by result }
+    ensures { Answers (CommandAnswers command.entry.verb (map string_bytes command.entry.words.now)
+        (contents_of contents.now)) text_by result }
 {
     let words = command.words;
     match command.verb {
-        Verb::Read => read(alloc, bytes_at(contents, 0), word_at(words, 1), bytes_at(contents, 1)),
+        Verb::Read => read(
+            alloc,
+            bytes_at(contents, 0),
+            word_at(words, 1),
+            bytes_at(contents, 1),
+        ),
         Verb::Hash => hash(alloc, bytes_at(contents, 0)),
     }
 }

@@ -43,12 +43,7 @@ pub fn cell_value(alloc: Global, declaration: &Declaration, cell: &Cell) -> Resu
     ensures { Answers (CellStage declaration.now cell.now) value result }
 {
     if is_exotic(cell) {
-        return Err(refused(
-            alloc,
-            declaration,
-            Spot::Root,
-            CellCause::Exotic,
-        ));
+        return Err(refused(alloc, declaration, Spot::Root, CellCause::Exotic));
     }
     match read_record(alloc, declaration, cell.bits(), cell.refs()) {
         Ok(value) => Ok(value),

@@ -15,7 +15,8 @@ use tlb_memory::NoMemory;
 // The declarations that the text writes, where it is of the form.
 fn form(alloc: Global, text: &[u8]) -> Result<Option<Items<Declaration>>, NoMemory>
     requires { length text.now ≤ 1048576 }
-    ensures { IfOk result (λ found. MatchOption found ((ds : List Declared) → FormOf text.now ds → ⊥) (λ ds. FormOf text.now ds)) }
+    ensures { IfOk result (λ found. MatchOption found
+        ((ds : List Declared) → FormOf text.now ds → ⊥) (λ ds. FormOf text.now ds)) }
 {
     let tokens = match tokens(alloc, text) {
         Ok(tokens) => tokens,

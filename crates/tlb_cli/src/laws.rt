@@ -7,5 +7,6 @@ ghost use Rattle.tlb_cli.specs.Refusal.{Verdict};
 
 /// A command has one outcome at most over files that hold each file that it names.
 pub fn at_most_one_outcome()
-    ensures { (words : List Name) (held : Files) (v w : Verdict) → HoldsAll held (files_of (form_of words)) → IsOutcome words held v → IsOutcome words held w → v ≡ w }
+    ensures { (words : List Name) (held : Files) (v w : Verdict) → HoldsAll held (files_of (form_of words))
+        → IsOutcome words held v → IsOutcome words held w → v ≡ w }
 {}

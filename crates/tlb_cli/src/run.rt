@@ -17,12 +17,7 @@ use tlb_edge::SureShelf;
 use tlb_files::{Shelf, Sink, put_all};
 
 // Does what the words say, by all that is known of it.
-fn perform<H: Shelf, K: Sink>(
-    alloc: Global,
-    words: &[String],
-    shelf: &mut H,
-    out: &mut K,
-) -> Status
+fn perform<H: Shelf, K: Sink>(alloc: Global, words: &[String], shelf: &mut H, out: &mut K) -> Status
     ensures held { H.held shelf.new ≡ H.held shelf.old }
     ensures ran { Ran (form_of (map string_bytes words.now)) (H.held shelf.old)
         (counts (H.opens shelf.old) (H.given shelf.old) (H.reads shelf.old) (H.faults shelf.old))
@@ -49,47 +44,57 @@ fn perform<H: Shelf, K: Sink>(
 /// text, or the line of a refusal, goes to `out`.
 pub fn run<H: Shelf, K: Sink>(alloc: Global, words: &[String], shelf: &mut H, out: &mut K) -> Status
     // Where it is reported what is held, the status and the text are those of the outcome.
-    ensures outcome { IsJudged result → IfSome (H.held shelf.old) (λ held. PutsOutcome (map string_bytes words.now) held result
+    ensures outcome { IsJudged result → IfSome (H.held shelf.old) (λ held. PutsOutcome
+        (map string_bytes words.now) held result
         (output (K.written out.old) (K.puts out.old)) (output (K.written out.new) (K.puts out.new))) }
 
     // It is a usage fault exactly where the words are no command form, unless its line could not be put.
     ensures usage { result ≡ Status.Usage → IsNone (form_of (map string_bytes words.now)) }
-    ensures no_form { IsNone (form_of (map string_bytes words.now)) → (result ≡ Status.Usage) ⊎ (result ≡ Status.WriteFault) }
+    ensures no_form { IsNone (form_of (map string_bytes words.now)) → (result ≡ Status.Usage)
+        ⊎ (result ≡ Status.WriteFault) }
 
     // Where a call of the shelf failed, exactly the line that names the file that was opened last was put.
-    ensures read_fault { result ≡ Status.ReadFault → (file : FileName) × Fails (files_of (form_of (map string_bytes words.now)))
+    ensures read_fault { result ≡ Status.ReadFault → (file : FileName)
+        × Fails (files_of (form_of (map string_bytes words.now)))
         (counts (H.opens shelf.old) (H.given shelf.old) (H.reads shelf.old) (H.faults shelf.old))
         (counts (H.opens shelf.new) (H.given shelf.new) (H.reads shelf.new) (H.faults shelf.new)) file
-        × Puts (output (K.written out.old) (K.puts out.old)) (output (K.written out.new) (K.puts out.new)) (refusal_line (unread file.name)) }
+        × Puts (output (K.written out.old) (K.puts out.old)) (output (K.written out.new) (K.puts out.new))
+        (refusal_line (unread file.name)) }
 
     // A file is too long only where its reads gave more than its limit, and the line names it.
-    ensures too_long { result ≡ Status.TooLong → (file : FileName) × IsTooLong (H.held shelf.old) (files_of (form_of (map string_bytes words.now)))
+    ensures too_long { result ≡ Status.TooLong → (file : FileName)
+        × IsTooLong (H.held shelf.old) (files_of (form_of (map string_bytes words.now)))
         (counts (H.opens shelf.old) (H.given shelf.old) (H.reads shelf.old) (H.faults shelf.old))
         (counts (H.opens shelf.new) (H.given shelf.new) (H.reads shelf.new) (H.faults shelf.new)) file
-        × Puts (output (K.written out.old) (K.puts out.old)) (output (K.written out.new) (K.puts out.new)) (refusal_line (too_long file.name)) }
+        × Puts (output (K.written out.old) (K.puts out.old)) (output (K.written out.new) (K.puts out.new))
+        (refusal_line (too_long file.name)) }
 
     // Where a put failed, a prefix of the answer's text was put.
     ensures write_fault { result ≡ Status.WriteFault → Rose (K.faults out.old) (K.faults out.new) }
-    ensures prefix { result ≡ Status.WriteFault → (verdict : Verdict) × Answered (form_of (map string_bytes words.now)) (H.held shelf.old)
+    ensures prefix { result ≡ Status.WriteFault → (verdict : Verdict)
+        × Answered (form_of (map string_bytes words.now)) (H.held shelf.old)
         (counts (H.opens shelf.old) (H.given shelf.old) (H.reads shelf.old) (H.faults shelf.old))
         (counts (H.opens shelf.new) (H.given shelf.new) (H.reads shelf.new) (H.faults shelf.new)) verdict
-        × PutsPrefix (output (K.written out.old) (K.puts out.old)) (output (K.written out.new) (K.puts out.new)) verdict.text }
+        × PutsPrefix (output (K.written out.old) (K.puts out.old)) (output (K.written out.new) (K.puts out.new))
+        verdict.text }
 
     // Where memory ended, nothing was put.
     ensures no_memory { result ≡ Status.NoMemory → IsSome (form_of (map string_bytes words.now))
         × (K.written out.new ≡ K.written out.old) × (K.puts out.new ≡ K.puts out.old) }
 
     // In all other cases one text was put, and a refusal leaves one line of its own.
-    ensures puts { IsPut result → (text : List ℕ) × Puts (output (K.written out.old) (K.puts out.old)) (output (K.written out.new) (K.puts out.new)) text }
+    ensures puts { IsPut result → (text : List ℕ)
+        × Puts (output (K.written out.old) (K.puts out.old)) (output (K.written out.new) (K.puts out.new)) text }
     ensures refused { IsRefusal result → (text : List ℕ) × IsRefusalLine text
         × Puts (output (K.written out.old) (K.puts out.old)) (output (K.written out.new) (K.puts out.new)) text }
 
-    // The files of the command are opened from the first on, each once: all of them, unless one failed or was too long, or
-    // memory ended. So none is opened where the words are no command form.
+    // The files of the command are opened from the first on, each once: all of them, unless one failed or was too long,
+    // or memory ended. So none is opened where the words are no command form.
     ensures opens { OpensSome (files_of (form_of (map string_bytes words.now)))
         (counts (H.opens shelf.old) (H.given shelf.old) (H.reads shelf.old) (H.faults shelf.old))
         (counts (H.opens shelf.new) (H.given shelf.new) (H.reads shelf.new) (H.faults shelf.new)) }
-    ensures loaded { IsLoaded result → Opens (files_of (form_of (map string_bytes words.now))) (length (files_of (form_of (map string_bytes words.now))))
+    ensures loaded { IsLoaded result → Opens (files_of (form_of (map string_bytes words.now)))
+        (length (files_of (form_of (map string_bytes words.now))))
         (counts (H.opens shelf.old) (H.given shelf.old) (H.reads shelf.old) (H.faults shelf.old))
         (counts (H.opens shelf.new) (H.given shelf.new) (H.reads shelf.new) (H.faults shelf.new)) }
 
@@ -110,14 +115,15 @@ pub fn run_honestly<H: Shelf, K: Sink>(
     shelf: &mut H,
     out: &mut K,
 ) -> Status
-    ensures complete { IsCalm (H.faults shelf.old) (H.faults shelf.new) → IsCalm (K.faults out.old) (K.faults out.new) → result ≢ Status.NoMemory →
+    ensures complete { IsCalm (H.faults shelf.old) (H.faults shelf.new) → IsCalm (K.faults out.old) (K.faults out.new)
+        → result ≢ Status.NoMemory →
         IfSome (H.held shelf.old) (λ held. PutsOutcome (map string_bytes words.now) held result
         (output (K.written out.old) (K.puts out.old)) (output (K.written out.new) (K.puts out.new))) }
 {
     run(alloc, words, shelf, out)
 }
 
-/// `run` over a shelf that never fails and any sink, of which no call fails, answers and writes the outcome, where memory
+/// `run` over a shelf that never fails and a sink of which no call fails answers and writes the outcome, where memory
 /// is given.
 pub fn run_surely<K: Sink>(
     alloc: Global,

@@ -1,4 +1,5 @@
-//! What no stored case shows: calls of the shelf and the sink that fail, limits, and the shelf and the sink that never fail.
+//! What no stored case shows: calls of the shelf and the sink that fail, limits, and the shelf and the sink that
+//! never fail.
 use super::*;
 use crate::run::{run_honestly, run_surely};
 use std::alloc::Global;

@@ -1,5 +1,6 @@
 use Rattle.std.proofs.Common.{sym, arith, map, length, string_bytes}
 use Rattle.std.proofs.lemmas.List.{length-map}
+use Rattle.tlb_cli.specs.declared.form.Slot.TheVariants.{Schema}
 use Rattle.tlb_cli.proofs.Slots.{not-taken, turn-refused, turn-taken}
 use Rattle.tlb_cli.proofs.form.are_taken.Goals as goal
 
@@ -10,12 +11,12 @@ returns-then-slots-words c =
 
 pub returns-then-not-takes : goal.returns-then-not-takes
 returns-then-not-takes c =
-    turn-refused c.args.slots.now c.args.words.now c.slots.place _ c.index-words-place.result c.as_str.result.now c.takes.result (omega arith) (omega (arith, c.slots.invariant.as_many))
+    turn-refused c.args.slots.now c.args.words.now c.slots.place Schema c.index-words-place.result c.as_str.result.now c.takes.result (omega arith) (omega (arith, c.slots.invariant.as_many))
     c.index-words-place.is c.as_str.ensures.value c.takes.ensures c.if-not-takes.true c.slots.invariant.others
 
 pub slots-preserved : goal.slots-preserved
 slots-preserved c = record {
   as_many = c.slots.invariant.as_many;
-  others = turn-taken c.args.slots.now c.args.words.now c.slots.place _ c.index-words-place.result c.as_str.result.now c.takes.result (omega arith) (omega (arith, c.slots.invariant.as_many))
+  others = turn-taken c.args.slots.now c.args.words.now c.slots.place Schema c.index-words-place.result c.as_str.result.now c.takes.result (omega arith) (omega (arith, c.slots.invariant.as_many))
       c.index-words-place.is c.as_str.ensures.value c.takes.ensures c.if-not-takes.false c.slots.invariant.others;
 }
