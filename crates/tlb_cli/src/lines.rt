@@ -14,13 +14,13 @@ use tlb_grammar::GrammarError;
 use tlb_lexer::LexError;
 use tlb_memory::NoMemory;
 
-// Words, a space, and other words.
-fn spaced(alloc: Global, front: &[u8], back: &[u8]) -> Result<Vec<u8>, NoMemory>
-    ensures { IfOk result (λ text. text.items ≡ spaced front.now back.now) }
+/// Words, a space, and other words.
+pub fn spaced(alloc: Global, first: &[u8], second: &[u8]) -> Result<Vec<u8>, NoMemory>
+    ensures { IfOk result (λ text. text.items ≡ spaced first.now second.now) }
 {
-    let mut text = Vec::from_slice(alloc, front)?;
+    let mut text = Vec::from_slice(alloc, first)?;
     text.extend_from_slice(b" ")?;
-    text.extend_from_slice(back)?;
+    text.extend_from_slice(second)?;
     Ok(text)
 }
 
@@ -55,8 +55,8 @@ fn sum_digits(alloc: Global, sum: u32) -> Result<Vec<u8>, NoMemory>
 fn sums(alloc: Global, kept: u32, computed: u32) -> Result<Vec<u8>, NoMemory>
     ensures { IfOk result (λ text. text.items ≡ bag_cause (BagError.BadSum kept computed)) }
 {
-    let front = spaced(alloc, b"BadSum", &sum_digits(alloc, kept)?)?;
-    spaced(alloc, &front, &sum_digits(alloc, computed)?)
+    let first = spaced(alloc, b"BadSum", &sum_digits(alloc, kept)?)?;
+    spaced(alloc, &first, &sum_digits(alloc, computed)?)
 }
 
 /// The cause of a bag's refusal, and its numbers.
@@ -166,8 +166,8 @@ fn level_line(alloc: Global, cell: &Cell, level: u32) -> Result<Vec<u8>, NoMemor
     ensures { IfOk result (λ text. text.items ≡ level_line cell.now level) }
 {
     let hash = hex::encode(alloc, cell.hash(level))?;
-    let front = spaced(alloc, &digits(alloc, u64::from(level))?, hash.as_bytes())?;
-    let mut line = spaced(alloc, &front, &digits(alloc, u64::from(cell.depth(level)))?)?;
+    let first = spaced(alloc, &digits(alloc, u64::from(level))?, hash.as_bytes())?;
+    let mut line = spaced(alloc, &first, &digits(alloc, u64::from(cell.depth(level)))?)?;
     line.extend_from_slice(b"\n")?;
     Ok(line)
 }
