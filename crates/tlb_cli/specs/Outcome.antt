@@ -3,6 +3,7 @@ use Rattle.std.specs.Prelude.{◌≡◌, ℕ, ◌<◌, ◌≤◌, true, false, L
 use Rattle.tlb_edge.specs.Files.{Files, Name, file_at}
 use Rattle.bag_cells.specs.Bag.{BagHolds, BagRefused as IsRefused}
 use Rattle.bag_cells.specs.declared.error.BagError.{BagError}
+use Rattle.cell_nodes.specs.Levels.{level_of}
 use Rattle.cell_nodes.specs.Tree.{is_exotic, mask}
 use Rattle.cell_nodes.specs.declared.tree.Tree.{Tree, out-Tree}
 use Rattle.flat_records.specs.Form.{declared}
@@ -58,9 +59,9 @@ pub data OfCell (d : Declaration) (t : Tree) (v : Verdict) : Type 0 where
       → Reading d (out-Tree t).bits (length (out-Tree t).children) value
       → v ≡ says Done (text_of value) → OfCell d t v
 
--- the lines of a cell's levels
+-- the lines of a cell's levels, from 0 to its own
 abbrev pub OfLevels : Tree → Verdict → Type 0
-OfLevels t v = v ≡ record { status = Done; text = level_lines t (mask t) }
+OfLevels t v = v ≡ record { status = Done; text = level_lines t (level_of (mask t)) }
 
 -- A bag is refused, or the cell that it holds is judged.
 pub data OfBag (next : Tree → Verdict → Type 0) (bag : List ℕ) (v : Verdict) : Type 0 where
