@@ -1,6 +1,7 @@
 //! The words of the lines that are put.
 ghost use Rattle.std.specs.Prelude.{◌≡◌, ◌≢◌, ◌≤◌, decimal, IfOk};
 ghost use Rattle.bag_cells.specs.declared.error.BagError.TheVariants.{NoMemory as OutOfMemory};
+ghost use Rattle.cell_nodes.specs.Levels.{level_of};
 ghost use Rattle.cell_nodes.specs.Tree.{mask};
 ghost use Rattle.tlb_grammar.specs.declared.error.GrammarError.TheVariants as grammar;
 ghost use Rattle.tlb_lexer.specs.declared.LexError.TheVariants as tokens;
@@ -172,12 +173,12 @@ fn level_line(alloc: Global, cell: &Cell, level: u32) -> Result<Vec<u8>, NoMemor
     Ok(line)
 }
 
-/// The lines of a cell's levels.
+/// The lines of a cell's levels, from 0 to its own.
 pub fn level_lines(alloc: Global, cell: &Cell) -> Result<Vec<u8>, NoMemory>
-    ensures { IfOk result (λ text. text.items ≡ level_lines cell.now (mask cell.now)) }
+    ensures { IfOk result (λ text. text.items ≡ level_lines cell.now (level_of (mask cell.now))) }
 {
     let mut lines = level_line(alloc, cell, 0)?;
-    'levels: for level in 0..u32::from(cell.mask()) {
+    'levels: for level in 0..cell.level() {
         lines.extend_from_slice(&level_line(alloc, cell, level + 1)?)?;
     }
     Ok(lines)
