@@ -1,6 +1,7 @@
 -- What a command answers for files that were loaded is a text, or one of the refusals of its stages.
 use Rattle.std.proofs.Common.{◌≡◌, ◌∙◌, subst, sym, refl, arith, ℕ, List, Result, Ok, Err}
 use Rattle.tlb_edge.specs.Files.{Name}
+use Rattle.cell_nodes.specs.Levels.{level_of}
 use Rattle.cell_nodes.specs.Tree.{mask}
 use Rattle.cell_nodes.specs.declared.tree.Tree.{Tree}
 use Rattle.value_text.specs.Text.{text_of}
@@ -79,4 +80,4 @@ command-found Read words contents a answers = answer-found (CommandAnswers Read 
     (next-found _ _ (text-found (at contents 0)) (λ tree. next-found _ _ (kinds-found tree) (λ kinded. next-found _ _ (form-found (at contents 0)) (λ ds.
     next-found _ _ (type-found (at words 1) ds) (λ d. next-found _ _ (bag-found (at contents 1)) (λ root. next-found _ _ (cell-found d root) (λ value. gives-found (line_of (text_of value)))))))))
     a answers
-command-found Hash words contents a answers = answer-found (CommandAnswers Hash words contents) (next-found _ _ (bag-found (at contents 0)) (λ root. gives-found (level_lines root (mask root)))) a answers
+command-found Hash words contents a answers = answer-found (CommandAnswers Hash words contents) (next-found _ _ (bag-found (at contents 0)) (λ root. gives-found (level_lines root (level_of (mask root))))) a answers

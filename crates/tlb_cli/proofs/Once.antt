@@ -6,6 +6,7 @@ use Rattle.tlb_edge.specs.Files.{Files, Name, file_at}
 use Rattle.tlb_files.specs.Counts.{FileName}
 use Rattle.tlb_files.specs.Loading.{Loading, not_held, too_long, loaded, with_bytes, with_file, loading}
 use Rattle.value_text.specs.Text.{text_of}
+use Rattle.cell_nodes.specs.Levels.{level_of}
 use Rattle.cell_nodes.specs.Tree.{mask}
 use Rattle.tlb_cli.specs.Forms.{Form, HoldsAll, at, files_of, form_of}
 use Rattle.tlb_cli.specs.Hash.{Hashes}
@@ -30,7 +31,7 @@ reads-once word schema bag =
     gives-once (line_of (text_of value))))))))
 
 hashes-once : (bag : List ℕ) → IsOnce (Hashes bag)
-hashes-once bag = next-once _ _ (bag-once bag) (λ root. gives-once (level_lines root (mask root)))
+hashes-once bag = next-once _ _ (bag-once bag) (λ root. gives-once (level_lines root (level_of (mask root))))
 
 command-once : (verb : Verb) (words contents : List (List ℕ)) → IsOnce (CommandAnswers verb words contents)
 command-once Read words contents a b is same = reads-once (at words 1) (at contents 0) (at contents 1) a b is same

@@ -24,6 +24,7 @@ fn is_exotic(cell: &Cell) -> bool
         Kind::Pruned => true,
         Kind::Library => true,
         Kind::Proof => true,
+        Kind::Update => true,
     }
 }
 
