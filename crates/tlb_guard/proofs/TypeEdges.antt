@@ -20,7 +20,7 @@ use Rattle.tlb_guard.specs.DeclaredTypes.{Parameter, declared_types, result_of, 
 use Rattle.tlb_guard.specs.Exposed.{ExposedTerm, a_type, a_variable, is_type, Known, Exposed, exposed_by, exposed_parameters, known}
 use Rattle.tlb_guard.specs.Empty.{may_take_nothing}
 use Rattle.tlb_guard.specs.Views.{knowing}
-use Rattle.tlb_guard.specs.Cycles.{is_edge, back_rules, is_reached, is_on_cycle, leads_back, first_unguarded_item, ItemIndex, place, or_else, first_from}
+use Rattle.tlb_guard.specs.Cycles.{is_edge, back_rules, is_reached, is_on_cycle, leads_back, first_unguarded_item, ItemIndex, item_index, or_else, first_from}
 use Rattle.tlb_guard.specs.Edges.{IsNumbered, TypeEdge, back_rule, edge_to, edges_by, edges_from, is_round_trip, index_by, reaching, type_edge}
 use Rattle.tlb_guard.proofs.Rounds.{IsMember, same_truth}
 use Rattle.tlb_guard.proofs.Lists.{among_distinct}
