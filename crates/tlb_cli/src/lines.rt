@@ -163,7 +163,7 @@ pub fn spot_words(alloc: Global, declaration: &Declaration, spot: Spot) -> Resul
 
 // The line of one level: its number, the hash and the depth.
 fn level_line(alloc: Global, cell: &Cell, level: u32) -> Result<Vec<u8>, NoMemory>
-    requires { level ≤ 1 }
+    requires { level ≤ 3 }
     ensures { IfOk result (λ text. text.items ≡ level_line cell.now level) }
 {
     let hash = hex::encode(alloc, cell.hash(level))?;

@@ -66,7 +66,7 @@ fn refusal(
     requires { length before.now ≤ 4096 }
     ensures { (js : List Judged) → Judges js (map part_by path.now) (Err fault)
         → IsFirst (refusals_at (heading (map constructor_view before.now) (constructor_view constructor.now)) js)
-            result }
+        result }
 {
     match fault {
         Fault::NoMemory => KindError::NoMemory,
