@@ -43,7 +43,7 @@ root_small raw t e h =
     let k : sprawl_of (Some t) ≡ None = subst (λ (o : Option Tree). sprawl_of o ≡ None) e h in
     small_by (unfolded t) (nat_lt 262144 (unfolded t)) refl k
 
-held_small : (file : List ℕ) (t : Tree) → BagHolds file t → unfolded t ≤ 262144
+pub held_small : (file : List ℕ) (t : Tree) → BagHolds file t → unfolded t ≤ 262144
 held_small file t h =
     let found = root_found h.raw h.accepted in
     let same = unfolds_once h.raw (root h.raw) found.0 t (root_unfolds h.raw found.0 h.accepted found.1) h.unfolded in

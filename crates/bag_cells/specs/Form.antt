@@ -66,7 +66,8 @@ pub record IsFirstBad (text : List ℕ) (place : ℕ) : Type 0 where
   pub bad : is_hex_digit (slice_index text place) ≡ false
   pub before : (earlier : ℕ) → earlier < place → is_hex_digit (slice_index text earlier) ≡ true
 
--- the place that is reported of a text that is no hexadecimal text: its length where that is odd, else its first bad place
+-- the place that is reported of a text that is no hexadecimal text: its length where that is odd, else its first bad
+-- place
 pub data IsBadHex (text : List ℕ) (place : ℕ) : Type 0 where
   odd : length text % 2 ≡ 1 → place ≡ length text → IsBadHex text place
   even : length text % 2 ≡ 0 → IsFirstBad text place → IsBadHex text place

@@ -33,7 +33,8 @@ cell_bits raw place = bits_from (data_bytes raw place) 0 (bit_count raw place)
 
 -- the kind; an exotic cell whose bits and references have no layout has none
 unfoldable pub cell_kind : List ℕ → ℕ → Option Kind
-cell_kind raw place = if is_exotic raw place then exotic_kind (cell_bits raw place) (ref_count raw place) else Some Ordinary
+cell_kind raw place =
+    if is_exotic raw place then exotic_kind (cell_bits raw place) (ref_count raw place) else Some Ordinary
 
 -- ---- the trees, from the last cell to the first
 
@@ -50,7 +51,8 @@ picked raw place later (suc n) = picked raw place later n ++ one (slice_get late
 
 abbrev pub node_of : List ℕ → ℕ → List Tree → Option Kind → Option Tree
 node_of raw place later None = None
-node_of raw place later (Some kind) = Some (tree_of kind (cell_bits raw place) (picked raw place later (ref_count raw place)))
+node_of raw place later (Some kind) =
+    Some (tree_of kind (cell_bits raw place) (picked raw place later (ref_count raw place)))
 
 -- the tree of the cell at the place, where it has a kind
 unfoldable pub node : List ℕ → ℕ → List Tree → Option Tree

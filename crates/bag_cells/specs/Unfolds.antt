@@ -19,5 +19,6 @@ mutual
   -- the trees are the unfoldings of the cells that the first n references of the cell at the place name
   pub data UnfoldEach (raw : List ℕ) : ℕ → ℕ → List Tree → Type 0 where
     none : (place : ℕ) → UnfoldEach raw place zero []
-    more : (place n : ℕ) (before : List Tree) (last : Tree) → UnfoldEach raw place n before → Unfolds raw (ref_at raw place n) last
+    more : (place n : ℕ) (before : List Tree) (last : Tree) → UnfoldEach raw place n before
+        → Unfolds raw (ref_at raw place n) last
         → UnfoldEach raw place (suc n) (before ++ last ∷ [])

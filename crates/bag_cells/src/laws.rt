@@ -1,11 +1,12 @@
 //! Laws of bags: functions of no parameters, whose contracts speak of the definitions alone.
-ghost use Rattle.std.specs.Prelude.{◌≡◌, ◌<◌, ◌≤◌, ◌^◌, ◌⊎◌, ℕ, List, Err, Some, slice_get, length, reverse};
+ghost use Rattle.std.specs.Prelude.{◌≡◌, ◌<◌, ◌≤◌, ◌^◌, ◌⊎◌, ℕ, List, Err, Some, None, ◌-◌, slice_get, length, reverse};
 ghost use Rattle.cell_nodes.specs.declared.tree.Tree.{Tree};
 ghost use Rattle.cell_nodes.specs.Good.{IsGood};
 ghost use Rattle.cell_nodes.specs.Tree.{unfolded};
 ghost use Rattle.bag_cells.specs.Form.{raw_of_hex, IsBadHex};
 ghost use Rattle.bag_cells.specs.declared.error.BagError.TheVariants as refusals;
-ghost use Rattle.bag_cells.specs.Bag.{BagHolds, BagRefused};
+ghost use Rattle.bag_cells.specs.Bag.{BagHolds, BagRefused, refusal};
+ghost use Rattle.bag_cells.specs.Trees.{trees};
 ghost use Rattle.cell_pool.specs.Post.{post};
 ghost use Rattle.bag_cells.specs.Header.{cells};
 ghost use Rattle.bag_cells.specs.Unfolds.{Unfolds};
@@ -42,12 +43,22 @@ pub fn written_bag_holds()
     ensures { (t : Tree) → IsGood t → unfolded t ≤ 262144 → BagHolds (bag_of t) t }
 {}
 
-/// The bag that is written lists each distinct cell exactly once: it has as many cells as the tree has distinct subtrees,
-/// and its cells unfold to them, each after all that refer to it.
+/// The bag that is written lists each distinct cell exactly once: it has as many cells as the tree has distinct
+/// subtrees, and its cells unfold to them, the last one first.
 pub fn each_cell_once()
     ensures count { (t : Tree) → IsGood t → unfolded t ≤ 262144 → cells (bag_of t) ≡ length (post t) }
-    ensures cells {
-        (t u : Tree) (i : ℕ) → IsGood t → unfolded t ≤ 262144 → slice_get (reverse (post t)) i ≡ Some u
-        → Unfolds (bag_of t) i u
-    }
+    ensures cells { (t u : Tree) (i : ℕ) → IsGood t → unfolded t ≤ 262144 → slice_get (reverse (post t)) i ≡ Some u
+        → Unfolds (bag_of t) i u }
+{}
+
+/// What a file holds unfolds to at most 262,144 cells.
+pub fn held_is_small()
+    ensures { (file : List ℕ) (t : Tree) → BagHolds file t → unfolded t ≤ 262144 }
+{}
+
+/// The trees of which the rows on kinds, masks, depths and size speak are the unfoldings of their cells, where the bytes
+/// are accepted: the tree at place `p` of the list is that of the cell before the last `p` ones.
+pub fn trees_are_unfoldings()
+    ensures { (raw : List ℕ) (p : ℕ) (t : Tree) → refusal raw ≡ None → slice_get (trees raw (cells raw)) p ≡ Some t
+        → Unfolds raw (cells raw - 1 - p) t }
 {}

@@ -64,11 +64,9 @@ fn push_refs(
     children: &[NodeId],
 ) -> Result<(), NoMemory>
     requires { All (λ n. n < length places.now) children.now }
-    ensures {
-        OnOk result
-            (bytes.new.items
-                ≡ bytes.old.items ++ flat_map (number_bytes size) (map (slice_index places.now) children.now))
-    }
+    ensures { OnOk result
+        (bytes.new.items
+        ≡ bytes.old.items ++ flat_map (number_bytes size) (map (slice_index places.now) children.now)) }
 {
     'refs: for child in children {
         push_number(bytes, size, places[child.number() as usize])?;
@@ -124,12 +122,10 @@ fn push_cell(
 ) -> Result<(), NoMemory>
     requires listed { IsListed pool.now order.now places.now }
     requires there { i < length order.now }
-    ensures {
-        OnOk result
-            (bytes.new.items
-                ≡ bytes.old.items
-                ++ cell_bytes size (trees_at pool.now order.now) (tree_at pool.now (slice_index order.now i)))
-    }
+    ensures { OnOk result
+        (bytes.new.items
+        ≡ bytes.old.items
+        ++ cell_bytes size (trees_at pool.now order.now) (tree_at pool.now (slice_index order.now i))) }
 {
     pool.ordered();
     let node = pool.get(order[i]);

@@ -12,7 +12,6 @@ ghost use Rattle.cell_hash.specs.Representation.{content_bytes, depth_bytes, des
 use bit_slice::BitSlice;
 use sha2::{Digest, Sha256};
 
-
 /// What a representation tells of a child, at one level.
 #[derive(Clone, Copy, Debug, Default, Drop, PartialEq, Eq)]
 pub struct ChildMark {

@@ -85,7 +85,13 @@ ArePairs (p ∷ ps) = IsPair p × ArePairs ps
 pub length-hashes : (ps : List ChildMark) → ArePairs ps → length (flat_map hash_bits ps) ≡ 256 * length ps
 length-hashes [] h = refl
 length-hashes (p ∷ ps) h =
-    omega (arith, length-append (hash_bits p) (flat_map hash_bits ps), length-bits_of p.hash, h.0.whole, length-hashes ps h.1)
+    omega (
+      arith,
+      length-append (hash_bits p) (flat_map hash_bits ps),
+      length-bits_of p.hash,
+      h.0.whole,
+      length-hashes ps h.1,
+    )
 
 pub length-depths : (ps : List ChildMark) → length (flat_map depth_bits ps) ≡ 16 * length ps
 length-depths [] = refl
@@ -122,7 +128,8 @@ pub ArePairs-append : (xs ys : List ChildMark) → ArePairs xs → ArePairs ys �
 ArePairs-append [] ys h k = k
 ArePairs-append (x ∷ xs) ys h k = (h.0, ArePairs-append xs ys h.1 k)
 
-pub ArePairs-low : (ps : List ChildMark) (j : ℕ) (d : ChildMark) → ArePairs ps → j < length ps → (get_or ps j d).depth ≤ 1024
+pub ArePairs-low : (ps : List ChildMark) (j : ℕ) (d : ChildMark) → ArePairs ps → j < length ps
+    → (get_or ps j d).depth ≤ 1024
 ArePairs-low [] j d h l = absurd (omega arith)
 ArePairs-low (p ∷ ps) zero d h l = h.0.low
 ArePairs-low (p ∷ ps) (suc j) d h l = ArePairs-low ps j d h.1 (omega arith)
@@ -186,5 +193,6 @@ number_of-byte bits h l =
 pub AreBytes-groups : (n : ℕ) (bits : List ℕ) → AreBits bits → AreBytes (groups 8 n bits)
 unfolding groups
 AreBytes-groups zero bits h i = omega arith
-AreBytes-groups (suc n) bits h zero = number_of-byte (take 8 bits) (AreBits-take 8 bits h) (omega (arith, length-take 8 bits))
+AreBytes-groups (suc n) bits h zero =
+    number_of-byte (take 8 bits) (AreBits-take 8 bits h) (omega (arith, length-take 8 bits))
 AreBytes-groups (suc n) bits h (suc i) = AreBytes-groups n (drop 8 bits) (AreBits-drop 8 bits h) i

@@ -56,7 +56,8 @@ length-pruned m ps h =
 pruned_layout-of : (b : List ℕ) → byte_of 0 b ≡ 1 → 1 ≤ stored_mask b → stored_mask b ≤ 7
     → length b ≡ 16 + 272 * pair_count (stored_mask b) → IsTrue (has_layout Pruned b 0)
 pruned_layout-of b t s l n =
-    and_from _ _ (and_from _ _ (and_from _ _ (and_from _ _ refl (eq-eqb _ _ t)) (le-leb _ _ s)) (le-leb _ _ l)) (eq-eqb _ _ n)
+    and_from _ _ (and_from _ _ (and_from _ _ (and_from _ _ refl (eq-eqb _ _ t)) (le-leb _ _ s)) (le-leb _ _ l))
+    (eq-eqb _ _ n)
 
 pub pruned-layout : (m : ℕ) (ps : List ChildMark) → CanStore m ps → IsTrue (has_layout Pruned (pruned_bits m ps) 0)
 pruned-layout m ps h =
@@ -114,7 +115,8 @@ hash-stored m ps i d h l a =
     let e : hash_place i b m ≡ (get_or ps (set_bits i m) d).hash = rw t (stored_hash-is m ps (set_bits i m) d h l a) in
     hash-tree_of Pruned b [] i ∙ ap (hash_place i b) (stored_mask-is m ps h) ∙ e
 
-pub depth-own : (m : ℕ) (ps : List ChildMark) (i : ℕ) → CanStore m ps → length ps ≤ set_bits i m → depth (pruned_with m ps) i ≡ 0
+pub depth-own : (m : ℕ) (ps : List ChildMark) (i : ℕ) → CanStore m ps → length ps ≤ set_bits i m
+    → depth (pruned_with m ps) i ≡ 0
 depth-own m ps i h l =
     let b = pruned_bits m ps in
     let t : nat_lt (set_bits i m) (pair_count m) ≡ false = le-ltb _ _ (omega (arith, h.count)) in
@@ -125,12 +127,17 @@ pruned-low : (m : ℕ) (ps : List ChildMark) (i : ℕ) → CanStore m ps → dep
 pruned-low m ps i h =
     let d : ChildMark = record { depth = 0; hash = [] } in
     ⊎_elim
-    (λ (l : set_bits i m < length ps). omega (arith, depth-stored m ps i d h l, ArePairs-low ps (set_bits i m) d h.pairs l))
+    (λ (l : set_bits i m < length ps). omega (
+      arith,
+      depth-stored m ps i d h l,
+      ArePairs-low ps (set_bits i m) d h.pairs l,
+    ))
     (λ (l : length ps ≤ set_bits i m). omega (arith, depth-own m ps i h l))
     (cases_lt (set_bits i m) (length ps))
 
 pub pruned-shallow : (m : ℕ) (ps : List ChildMark) → CanStore m ps → IsShallow (pruned_with m ps)
-pruned-shallow m ps h = omega (arith, pruned-low m ps 0 h, pruned-low m ps 1 h, pruned-low m ps 2 h, pruned-low m ps 3 h)
+pruned-shallow m ps h =
+    omega (arith, pruned-low m ps 0 h, pruned-low m ps 1 h, pruned-low m ps 2 h, pruned-low m ps 3 h)
 
 -- one pair, of mask 1
 pub one-pair : (hash : List ℕ) (depth : ℕ) → length hash ≡ 32 → depth ≤ 1024
@@ -154,7 +161,13 @@ library-layout hash l =
 pub library-shallow : (hash : List ℕ) → IsShallow (library_of hash)
 library-shallow hash =
     let b = library_bits hash in
-    omega (arith, depth-tree_of Library b [] 0, depth-tree_of Library b [] 1, depth-tree_of Library b [] 2, depth-tree_of Library b [] 3)
+    omega (
+      arith,
+      depth-tree_of Library b [] 0,
+      depth-tree_of Library b [] 1,
+      depth-tree_of Library b [] 2,
+      depth-tree_of Library b [] 3,
+    )
 
 pub proof-layout : (hash : List ℕ) (depth : ℕ) → length hash ≡ 32 → IsTrue (has_layout Proof (proof_bits hash depth) 1)
 proof-layout hash depth l =
@@ -167,7 +180,8 @@ proof-layout hash depth l =
       length-bits_of hash,
       length-spelled 16 depth,
     ) in
-    and_from _ _ (and_from _ _ (eq-eqb _ _ n) refl) (eq-eqb _ _ (byte_of-first 3 (bits_of hash ++ spelled 16 depth) (omega arith)))
+    and_from _ _ (and_from _ _ (eq-eqb _ _ n) refl)
+    (eq-eqb _ _ (byte_of-first 3 (bits_of hash ++ spelled 16 depth) (omega arith)))
 
 pub update-layout : (old new : List ℕ) (old_depth new_depth : ℕ) → length old ≡ 32 → length new ≡ 32
     → IsTrue (has_layout Update (update_bits old new old_depth new_depth) 2)
@@ -263,6 +277,11 @@ pub stub-stores : (t : Tree) (i : ℕ) → IsGood t → i ≤ 2
 stub-stores t i g h = record {
   some = stub-some (mask t) i;
   low = stub-low (mask t) i h;
-  count = omega (arith, length-map (levels_in i (mask t)) (λ j. mark_at j (marks t)), length-levels_in i (mask t), stub-bits (mask t) i h);
+  count = omega (
+    arith,
+    length-map (levels_in i (mask t)) (λ j. mark_at j (marks t)),
+    length-levels_in i (mask t),
+    stub-bits (mask t) i h,
+  );
   pairs = marks-pairs t i (mask t) g (omega arith);
 }

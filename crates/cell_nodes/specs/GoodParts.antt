@@ -40,6 +40,8 @@ pub good-tree_of : (k : Kind) (b : List ℕ) (cs : List Tree) → AreBits b → 
     → IsTrue (has_layout k b (length cs)) → IsShallow (tree_of k b cs) → AllGood cs → IsGood (tree_of k b cs)
 good-tree_of k b cs bits short few layout shallow all =
     let o = out-tree_of k b cs in
-    good (tree_of k b cs) (record { bits = rw o bits; short = rw o short; few = rw o few; layout = rw o layout; shallow = shallow }) (rw o all)
+    good (tree_of k b cs)
+    (record { bits = rw o bits; short = rw o short; few = rw o few; layout = rw o layout; shallow = shallow })
+    (rw o all)
 
 pub ruleset good_parts = (all_good-empty, all_good-cons)

@@ -40,7 +40,8 @@ over-below : (ts : List Tree) (i : ℕ) → AreBelow ts → i ≤ 3 → depth_ov
 over-below [] i h l = omega arith
 over-below (t ∷ ts) i h l = omega (arith, greatest-below (t ∷ ts) i h l)
 
-computed-below : (m : ℕ) (ts : List Tree) (i : ℕ) → AreBelow ts → i ≤ 3 → computed_depth Ordinary m (map marks ts) i ≤ 1024
+computed-below : (m : ℕ) (ts : List Tree) (i : ℕ) → AreBelow ts → i ≤ 3
+    → computed_depth Ordinary m (map marks ts) i ≤ 1024
 computed-below m ts zero h l = over-below ts 0 h (omega arith)
 computed-below m ts (suc i) h l = ⊎_elim
     (λ (e : bit_at m i ≡ 0). rw e (computed-below m ts i h (omega arith)))

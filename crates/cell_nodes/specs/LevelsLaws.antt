@@ -95,8 +95,15 @@ at-levels_in f m d steady (suc n) i h = ⊎_elim
     (λ (e : bit_at m n ≡ 1). ⊎_elim
     (λ (l : i ≡ suc n).
     rw (l, levels_in-set n m e, map-append f (levels_in n m) (suc n ∷ []))
-    (let len : length (map f (levels_in n m)) ≡ set_bits (suc n) m = omega (arith, length-map {A = ℕ} (levels_in n m) f, length-levels_in n m, set_bits-suc n m) in
-    get_or-append_right (map f (levels_in n m)) (f (suc n) ∷ []) (set_bits (suc n) m) (set_bits (suc n) m) d len (omega arith)
+    (let len : length (map f (levels_in n m)) ≡ set_bits (suc n) m = omega (
+      arith,
+      length-map {A =
+          ℕ} (levels_in n m) f,
+      length-levels_in n m,
+      set_bits-suc n m,
+    ) in
+    get_or-append_right (map f (levels_in n m)) (f (suc n) ∷ []) (set_bits (suc n) m) (set_bits (suc n) m) d len
+    (omega arith)
     ∙ (let z : set_bits (suc n) m - set_bits (suc n) m ≡ 0 = omega arith in rw z refl)))
     (λ (l : i ≤ n).
     rw (levels_in-set n m e, map-append f (levels_in n m) (suc n ∷ []))

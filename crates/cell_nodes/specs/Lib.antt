@@ -16,3 +16,4 @@ pub mod Held
 pub mod HeldLaws
 pub mod Prunes
 pub mod PrunesLaws
+pub mod PrunesGoodLaws

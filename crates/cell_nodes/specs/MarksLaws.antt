@@ -32,14 +32,16 @@ is_computed Library h = tt
 is_computed Proof h = tt
 is_computed Update h = tt
 
-pub depth-computed : (k : Kind) (b : List ℕ) (ms : List Marks) → IsComputed k → depth_of k b ms ≡ computed_depth k (mask_of k b ms) ms
+pub depth-computed : (k : Kind) (b : List ℕ) (ms : List Marks) → IsComputed k
+    → depth_of k b ms ≡ computed_depth k (mask_of k b ms) ms
 depth-computed Ordinary b ms h = refl
 depth-computed Pruned b ms h = absurd h
 depth-computed Library b ms h = refl
 depth-computed Proof b ms h = refl
 depth-computed Update b ms h = refl
 
-pub hash-computed : (k : Kind) (b : List ℕ) (ms : List Marks) → IsComputed k → hash_of k b ms ≡ computed_hash k b (mask_of k b ms) ms
+pub hash-computed : (k : Kind) (b : List ℕ) (ms : List Marks) → IsComputed k
+    → hash_of k b ms ≡ computed_hash k b (mask_of k b ms) ms
 hash-computed Ordinary b ms h = refl
 hash-computed Pruned b ms h = absurd h
 hash-computed Library b ms h = refl
@@ -76,7 +78,8 @@ computed_depth-set : (k : Kind) (m : ℕ) (ms : List Marks) (i : ℕ) → bit_at
 computed_depth-set k m ms i e = rw e refl
 
 computed_hash-set : (k : Kind) (b : List ℕ) (m : ℕ) (ms : List Marks) (i : ℕ) → bit_at m i ≡ 1
-    → computed_hash k b m ms (suc i) ≡ hash_with k (m % 2 ^ suc i) (length b) (Previous (computed_hash k b m ms i)) (suc i) ms
+    → computed_hash k b m ms (suc i)
+    ≡ hash_with k (m % 2 ^ suc i) (length b) (Previous (computed_hash k b m ms i)) (suc i) ms
 computed_hash-set k b m ms i e = rw e refl
 
 pub depth-set : (k : Kind) (b : List ℕ) (ms : List Marks) (i : ℕ) → IsComputed k → bit_at (mask_of k b ms) i ≡ 1
@@ -85,14 +88,17 @@ depth-set k b ms i h e =
     ap (λ (f : ℕ → ℕ). f (suc i)) (depth-computed k b ms h) ∙ computed_depth-set k (mask_of k b ms) ms i e
 
 pub hash-set : (k : Kind) (b : List ℕ) (ms : List Marks) (i : ℕ) → IsComputed k → bit_at (mask_of k b ms) i ≡ 1
-    → hash_of k b ms (suc i) ≡ hash_with k (mask_of k b ms % 2 ^ suc i) (length b) (Previous (hash_of k b ms i)) (suc i) ms
+    → hash_of k b ms (suc i)
+    ≡ hash_with k (mask_of k b ms % 2 ^ suc i) (length b) (Previous (hash_of k b ms i)) (suc i) ms
 hash-set k b ms i h e =
     rw (hash-computed k b ms h) (computed_hash-set k b (mask_of k b ms) ms i e)
 
-pub depth-lowest : (k : Kind) (b : List ℕ) (ms : List Marks) → IsComputed k → depth_of k b ms 0 ≡ depth_over (level_below k 0) ms
+pub depth-lowest : (k : Kind) (b : List ℕ) (ms : List Marks) → IsComputed k
+    → depth_of k b ms 0 ≡ depth_over (level_below k 0) ms
 depth-lowest k b ms h = ap (λ (f : ℕ → ℕ). f 0) (depth-computed k b ms h)
 
-pub hash-lowest : (k : Kind) (b : List ℕ) (ms : List Marks) → IsComputed k → hash_of k b ms 0 ≡ hash_with k 0 (length b) (Data b) 0 ms
+pub hash-lowest : (k : Kind) (b : List ℕ) (ms : List Marks) → IsComputed k
+    → hash_of k b ms 0 ≡ hash_with k 0 (length b) (Data b) 0 ms
 hash-lowest k b ms h = ap (λ (f : ℕ → List ℕ). f 0) (hash-computed k b ms h)
 
 -- ---- at a level that the mask doesn't have
@@ -105,7 +111,8 @@ computed_hash-unset : (k : Kind) (b : List ℕ) (m : ℕ) (ms : List Marks) (i :
     → computed_hash k b m ms (suc i) ≡ computed_hash k b m ms i
 computed_hash-unset k b m ms i e = rw e refl
 
-same_place : (b : List ℕ) (i : ℕ) → bit_at (stored_mask b) i ≡ 0 → set_bits (suc i) (stored_mask b) ≡ set_bits i (stored_mask b)
+same_place : (b : List ℕ) (i : ℕ) → bit_at (stored_mask b) i ≡ 0
+    → set_bits (suc i) (stored_mask b) ≡ set_bits i (stored_mask b)
 same_place b i e = omega (arith, set_bits-suc i (stored_mask b))
 
 pruned_depth-unset : (b : List ℕ) (i : ℕ) → bit_at (stored_mask b) i ≡ 0 → pruned_depth b (suc i) ≡ pruned_depth b i
@@ -128,7 +135,8 @@ hash-steady Library b ms i e = computed_hash-unset Library b _ ms i e
 hash-steady Proof b ms i e = computed_hash-unset Proof b _ ms i e
 hash-steady Update b ms i e = computed_hash-unset Update b _ ms i e
 
-pub mark_of-steady : (k : Kind) (b : List ℕ) (ms : List Marks) → IsSteady (mask_of k b ms) (λ i. mark_at i (marks_of k b ms))
+pub mark_of-steady : (k : Kind) (b : List ℕ) (ms : List Marks)
+    → IsSteady (mask_of k b ms) (λ i. mark_at i (marks_of k b ms))
 mark_of-steady k b ms i e = rw (depth-steady k b ms i e, hash-steady k b ms i e) refl
 
 -- a tree has at a level that its mask doesn't have the depth and the hash of the level below

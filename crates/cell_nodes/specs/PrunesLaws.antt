@@ -90,12 +90,14 @@ over-same : (l : ℕ) (ms ns : List Marks) → SameAt l ms ns → depth_over l m
 over-same l [] [] e = refl
 over-same l [] (n ∷ ns) e = absurd (cc)
 over-same l (m ∷ ms) [] e = absurd (cc)
-over-same l (m ∷ []) (n ∷ []) e = let d : m.depth l ≡ n.depth l = ap (λ (x : List ChildMark). first_depth x) e in rw d refl
+over-same l (m ∷ []) (n ∷ []) e = let d : m.depth l ≡ n.depth l =
+    ap (λ (x : List ChildMark). first_depth x) e in rw d refl
 over-same l (m ∷ []) (n ∷ n' ∷ ns) e = absurd (cc)
 over-same l (m ∷ m' ∷ ms) (n ∷ []) e = absurd (cc)
 over-same l (m ∷ m' ∷ ms) (n ∷ n' ∷ ns) e =
     let d : m.depth l ≡ n.depth l = ap (λ (x : List ChildMark). first_depth x) e in
-    let r : depth_over l (m' ∷ ms) ≡ depth_over l (n' ∷ ns) = over-same l (m' ∷ ms) (n' ∷ ns) (ap (λ (x : List ChildMark). others x) e) in
+    let r : depth_over l (m' ∷ ms) ≡ depth_over l (n' ∷ ns) =
+    over-same l (m' ∷ ms) (n' ∷ ns) (ap (λ (x : List ChildMark). others x) e) in
     omega arith
 
 length-same : (l : ℕ) (ms ns : List Marks) → SameAt l ms ns → length ms ≡ length ns
@@ -111,18 +113,22 @@ computed_depth-same k m q i ms ns (suc l) e h eq = ⊎_elim
     rw (low-bit m q i l e (omega arith), o) (over-same (level_below k (suc l)) ms ns (eq (suc l) h)))
     (bit_cases q l)
 
-with-same : (k : Kind) (mask count : ℕ) (content : Content) (j : ℕ) (ms ns : List Marks) → SameAt (level_below k j) ms ns
+with-same : (k : Kind) (mask count : ℕ) (content : Content) (j : ℕ) (ms ns : List Marks)
+    → SameAt (level_below k j) ms ns
     → hash_with k mask count content j ms ≡ hash_with k mask count content j ns
 with-same k mask count content j ms ns e =
-    ap (λ (n : ℕ). sha256 (representation (descriptor n (is_exotic k) mask count) content (map (mark_at (level_below k j)) ms)))
+    ap (λ (n : ℕ).
+    sha256 (representation (descriptor n (is_exotic k) mask count) content (map (mark_at (level_below k j)) ms)))
     (length-same (level_below k j) ms ns e)
-    ∙ ap (λ (xs : List ChildMark). sha256 (representation (descriptor (length ns) (is_exotic k) mask count) content xs)) e
+    ∙ ap (λ (xs : List ChildMark).
+    sha256 (representation (descriptor (length ns) (is_exotic k) mask count) content xs)) e
 
 pub computed_hash-same : (k : Kind) (b : List ℕ) (m q i : ℕ) (ms ns : List Marks) (l : ℕ) → m % 2 ^ i ≡ q → l ≤ i
     → ((j : ℕ) → j ≤ i → SameAt (level_below k j) ms ns) → computed_hash k b m ms l ≡ computed_hash k b q ns l
 computed_hash-same k b m q i ms ns zero e h eq = with-same k 0 (length b) (Data b) 0 ms ns (eq 0 (omega arith))
 computed_hash-same k b m q i ms ns (suc l) e h eq =
-    let before : computed_hash k b m ms l ≡ computed_hash k b q ns l = computed_hash-same k b m q i ms ns l e (omega arith) eq in
+    let before : computed_hash k b m ms l ≡ computed_hash k b q ns l =
+    computed_hash-same k b m q i ms ns l e (omega arith) eq in
     ⊎_elim
     (λ (z : bit_at q l ≡ 0). rw (low-bit m q i l e (omega arith), z) before)
     (λ (o : bit_at q l ≡ 1).
@@ -159,7 +165,7 @@ mark_with d h = record { depth = d; hash = h }
 mark-parts : (m n : ChildMark) → m.depth ≡ n.depth → m.hash ≡ n.hash → m ≡ n
 mark-parts m n d h = ap (λ (x : ℕ). mark_with x m.hash) d ∙ ap (λ (x : List ℕ). mark_with n.depth x) h
 
-good-below : (k : Kind) (b : List ℕ) (ts : List Tree) → IsGood (tree_of k b ts) → AllGood ts
+pub good-below : (k : Kind) (b : List ℕ) (ts : List Tree) → IsGood (tree_of k b ts) → AllGood ts
 good-below k b ts g =
     let P : Tree-F Tree → Type 0 = λ n. AllGood n.children in
     subst P (out-tree_of k b ts) (good-children (tree_of k b ts) g)
@@ -175,7 +181,7 @@ stub-mask m (suc (suc (suc i))) h l = absurd (omega arith)
 pub mask-stub : (t : Tree) (i : ℕ) → IsGood t → i ≤ 2 → mask (stub t i) ≡ mask t % 2 ^ i + 2 ^ i
 mask-stub t i g h = mask-tree_of Pruned _ [] ∙ stored_mask-is _ _ (stub-stores t i g h)
 
-stub-mark : (t : Tree) (i l : ℕ) → IsGood t → i ≤ 2 → l ≤ i → mark_at l (marks (stub t i)) ≡ mark_at l (marks t)
+pub stub-mark : (t : Tree) (i l : ℕ) → IsGood t → i ≤ 2 → l ≤ i → mark_at l (marks (stub t i)) ≡ mark_at l (marks t)
 stub-mark t i l g h k =
     let F : ℕ → ChildMark = λ j. mark_at j (marks t) in
     let ps : List ChildMark = map F (levels_in i (mask t)) in
@@ -183,11 +189,18 @@ stub-mark t i l g h k =
     let can = stub-stores t i g h in
     let place : set_bits l (mask t % 2 ^ i + 2 ^ i) ≡ set_bits l (mask t) = stub-same (mask t) i l h k in
     let inside : set_bits l (mask t % 2 ^ i + 2 ^ i) < length ps =
-    omega (arith, place, length-map (levels_in i (mask t)) F, length-levels_in i (mask t), set_bits-within l i (mask t) k) in
+    omega (
+      arith,
+      place,
+      length-map (levels_in i (mask t)) F,
+      length-levels_in i (mask t),
+      set_bits-within l i (mask t) k,
+    ) in
     let found : get_or ps (set_bits l (mask t % 2 ^ i + 2 ^ i)) d ≡ F l =
     ap (λ (j : ℕ). get_or ps j d) place ∙ at-levels_in F (mask t) d (mark-steady t) i l k in
     let P : ChildMark → Type 0 = λ m. AreBytes m.hash in
-    let bytes : AreBytes (get_or ps (set_bits l (mask t % 2 ^ i + 2 ^ i)) d).hash = subst P (sym found) (AreBytes-hash t l g) in
+    let bytes : AreBytes (get_or ps (set_bits l (mask t % 2 ^ i + 2 ^ i)) d).hash =
+    subst P (sym found) (AreBytes-hash t l g) in
     mark-parts (mark_at l (marks (stub t i))) (F l)
     (depth-stored _ ps l d can inside ∙ ap (λ (m : ChildMark). m.depth) found)
     (hash-stored _ ps l d can inside bytes ∙ ap (λ (m : ChildMark). m.hash) found)
@@ -202,13 +215,16 @@ pub record AllKeepTo (ts ps : List Tree) (i : ℕ) : Type 0 where
   pub masks_kept : union_of (map marks ps) % 2 ^ i ≡ union_of (map marks ts)
   pub marks_kept : (l : ℕ) → l ≤ i → SameAt l (map marks ps) (map marks ts)
 
-marks_of-same : (k : Kind) (b : List ℕ) (ms ns : List Marks) (i l : ℕ) → IsComputed k → mask_of k b ms % 2 ^ i ≡ mask_of k b ns → l ≤ i
+marks_of-same : (k : Kind) (b : List ℕ) (ms ns : List Marks) (i l : ℕ) → IsComputed k
+    → mask_of k b ms % 2 ^ i ≡ mask_of k b ns → l ≤ i
     → ((j : ℕ) → j ≤ i → SameAt (level_below k j) ms ns) → mark_at l (marks_of k b ms) ≡ mark_at l (marks_of k b ns)
 marks_of-same k b ms ns i l c e h eq =
     mark-parts (mark_at l (marks_of k b ms)) (mark_at l (marks_of k b ns))
-    (ap (λ (f : ℕ → ℕ). f l) (depth-computed k b ms c) ∙ computed_depth-same k (mask_of k b ms) (mask_of k b ns) i ms ns l e h eq
+    (ap (λ (f : ℕ → ℕ). f l) (depth-computed k b ms c)
+    ∙ computed_depth-same k (mask_of k b ms) (mask_of k b ns) i ms ns l e h eq
     ∙ sym (ap (λ (f : ℕ → ℕ). f l) (depth-computed k b ns c)))
-    (ap (λ (f : ℕ → List ℕ). f l) (hash-computed k b ms c) ∙ computed_hash-same k b (mask_of k b ms) (mask_of k b ns) i ms ns l e h eq
+    (ap (λ (f : ℕ → List ℕ). f l) (hash-computed k b ms c)
+    ∙ computed_hash-same k b (mask_of k b ms) (mask_of k b ns) i ms ns l e h eq
     ∙ sym (ap (λ (f : ℕ → List ℕ). f l) (hash-computed k b ns c)))
 
 node-keeps : (k : Kind) (b : List ℕ) (ts ps : List Tree) (i : ℕ) → IsComputed k
@@ -217,7 +233,10 @@ node-keeps : (k : Kind) (b : List ℕ) (ts ps : List Tree) (i : ℕ) → IsCompu
     → KeepsTo (tree_of k b ts) (tree_of k b ps) i
 node-keeps k b ts ps i c e eq = record {
   mask_kept = rw (mask-tree_of k b ps, mask-tree_of k b ts) e;
-  marks_kept = λ l h. rw (marks-tree_of k b ps, marks-tree_of k b ts) (marks_of-same k b (map marks ps) (map marks ts) i l c e h eq);
+  marks_kept = λ l h. rw (
+    marks-tree_of k b ps,
+    marks-tree_of k b ts,
+  ) (marks_of-same k b (map marks ps) (map marks ts) i l c e h eq);
 }
 
 half-low : (x q i : ℕ) → x % 2 ^ suc i ≡ q → x / 2 % 2 ^ i ≡ q / 2
@@ -246,15 +265,23 @@ mutual
       let m = mask-tree_of Proof bits (c ∷ []) in
       let z = or_zero_r (mask c) in
       let s : 2 ^ suc i ≡ 2 ^ i * 2 = pow-suc 2 i in
-      let k = prunes-keeps c q (suc i) one (all_good-head c [] (good-below Proof bits (c ∷ []) g)) (omega (arith, m, z)) in
+      let k = prunes-keeps c q (suc i) one (all_good-head c [] (good-below Proof bits (c ∷ []) g)) (omega (
+        arith,
+        m,
+        z,
+      )) in
       node-keeps Proof bits (c ∷ []) (q ∷ []) i tt
       (rw (or_zero_r (mask q), z) (half-low (mask q) (mask c) i k.mask_kept))
       (λ j b. rw (k.marks_kept (j + 1) (omega arith)) refl)
 
-  pub all-keep : (ts ps : List Tree) (i : ℕ) → AllPrune ts ps i → AllGood ts → union_of (map marks ts) < 2 ^ i → AllKeepTo ts ps i
+  pub all-keep : (ts ps : List Tree) (i : ℕ) → AllPrune ts ps i → AllGood ts → union_of (map marks ts) < 2 ^ i
+      → AllKeepTo ts ps i
   all-keep ts ps i (none i') g h = record { masks_kept = omega (arith, one_le-pow i); marks_kept = λ l k. refl }
   all-keep ts ps i (more t p us qs i' one all) g h =
-      let a = prunes-keeps t p i one (all_good-head t us g) (omega (arith, le_or_l (mask t) (union_of (map marks us)))) in
+      let a = prunes-keeps t p i one (all_good-head t us g) (omega (
+        arith,
+        le_or_l (mask t) (union_of (map marks us)),
+      )) in
       let b = all-keep us qs i all (all_good-tail t us g) (omega (arith, le_or_r (mask t) (union_of (map marks us)))) in
       record {
         masks_kept = low-or (mask p) (union_of (map marks qs)) i ∙ rw (a.mask_kept, b.masks_kept) refl;

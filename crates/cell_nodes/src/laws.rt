@@ -13,3 +13,8 @@ pub fn pruning_keeps()
         → (l : ℕ) → l ≤ i → depth p l ≡ depth t l }
     ensures mask { (t p : Tree) (i : ℕ) → IsGood t → IsGood p → mask t < 2 ^ i → Prunes t p i → mask p % 2 ^ i ≡ mask t }
 {}
+
+/// Pruning below i proofs keeps a tree good.
+pub fn pruning_keeps_good()
+    ensures { (t p : Tree) (i : ℕ) → IsGood t → mask t < 2 ^ i → i ≤ 3 → Prunes t p i → IsGood p }
+{}

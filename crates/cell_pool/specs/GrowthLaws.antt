@@ -1,5 +1,6 @@
 -- Lists of distinct trees that grow: how long they become, and what stands where they grew in part.
-use Rattle.std.proofs.Common.{◌≡◌, ◌∙◌, ℕ, ◌+◌, ◌*◌, ◌<◌, ◌≤◌, Bool, true, false, cond, List, [], ◌∷◌, ◌++◌, length, map, append_assoc, length-append, refl, ap, sym, ⊎_elim, arith}
+use Rattle.std.proofs.Common.{◌≡◌, ◌∙◌, ℕ, ◌+◌, ◌*◌, ◌<◌, ◌≤◌, Bool, true, false, cond, List, [], ◌∷◌, ◌++◌, length}
+use Rattle.std.proofs.Common.{map, append_assoc, length-append, refl, ap, sym, ⊎_elim, arith}
 use Rattle.std.specs.Prelude.{not}
 use Rattle.std.proofs.lemmas.Bool.{cases_Bool}
 use Rattle.std.proofs.lemmas.List.{append-nil, append_cancel_left}
@@ -24,16 +25,19 @@ length-without seen (t ∷ ts) =
     let h = length-cond (not (stands seen t)) t (without seen ts) (length ts) (length-without seen ts) in
     omega (arith, h)
 
-length-joined : (seen : List Tree) (more : List (List Tree)) → length (joined seen more) ≤ length seen + total (map length more)
+length-joined : (seen : List Tree) (more : List (List Tree))
+    → length (joined seen more) ≤ length seen + total (map length more)
 length-joined seen [] = omega arith
 length-joined seen (ts ∷ more) =
     omega (arith, length-joined (seen ++ without seen ts) more, length-append seen (without seen ts), length-without seen ts)
 
-lengths-posts : (ts : List Tree) → EachOf (λ t. length (post t) ≤ unfolded t) ts → total (map length (map post ts)) ≤ total (map unfolded ts)
+lengths-posts : (ts : List Tree) → EachOf (λ t. length (post t) ≤ unfolded t) ts
+    → total (map length (map post ts)) ≤ total (map unfolded ts)
 lengths-posts [] each = omega arith
 lengths-posts (t ∷ ts) each = omega (arith, lengths-posts ts each.1, each.0)
 
-length-post_step : (t : Tree) → EachOf (λ u. length (post u) ≤ unfolded u) (out-Tree t).children → length (post t) ≤ unfolded t
+length-post_step : (t : Tree) → EachOf (λ u. length (post u) ≤ unfolded u) (out-Tree t).children
+    → length (post t) ≤ unfolded t
 length-post_step t each =
     let cs = (out-Tree t).children in
     rw (post-out t) (omega (arith, length-append (joined [] (map post cs)) (t ∷ []), length-joined [] (map post cs), lengths-posts cs each, unfolded-out t))
@@ -97,7 +101,8 @@ none-long : (ts : List Tree) → length ts ≤ 0 → ts ≡ []
 none-long [] h = refl
 none-long (t ∷ ts) h = absurd (omega arith)
 
-stands-part : (seen part rest : List Tree) (t : Tree) → stands ((seen ++ part) ++ rest) t ≡ false → stands part t ≡ false
+stands-part : (seen part rest : List Tree) (t : Tree) → stands ((seen ++ part) ++ rest) t ≡ false
+    → stands part t ≡ false
 stands-part seen part rest t h = ⊎_elim
     (λ (k : stands part t ≡ true).
     let e : stands ((seen ++ part) ++ rest) t ≡ true =
@@ -106,7 +111,8 @@ stands-part seen part rest t h = ⊎_elim
     (λ (k : stands part t ≡ false). k)
     (cases_Bool (stands part t))
 
-part-not_whole : (seen new : List Tree) (t : Tree) → ChildrenBefore seen → (l : LiesBetween seen new (added_all seen (out-Tree t).children))
+part-not_whole : (seen new : List Tree) (t : Tree) → ChildrenBefore seen
+    → (l : LiesBetween seen new (added_all seen (out-Tree t).children))
     → stands l.part t ≡ false
 part-not_whole seen new t b l = ⊎_elim
     (λ (h : stands seen t ≡ true).
@@ -123,7 +129,8 @@ part-not_whole seen new t b l = ⊎_elim
     (cases_Bool (stands seen t))
 
 -- where only subtrees of its children were added
-pub partly : (seen new : List Tree) (t : Tree) → ChildrenBefore seen → LiesBetween seen new (added_all seen (out-Tree t).children)
+pub partly : (seen new : List Tree) (t : Tree) → ChildrenBefore seen
+    → LiesBetween seen new (added_all seen (out-Tree t).children)
     → IsPartly seen new t
 partly seen new t b l =
     let all = added_all seen (out-Tree t).children in

@@ -1,5 +1,6 @@
 -- Trees in a list, and their places.
-use Rattle.std.proofs.Common.{◌≡◌, ◌∙◌, ℕ, zero, suc, ◌+◌, ◌<◌, ◌≤◌, Bool, true, false, cond, ◌&&◌, ◌||◌, List, [], ◌∷◌, ◌++◌, length, take, refl, ap, sym, ⊎_elim, inl, inr, append_assoc, arith}
+use Rattle.std.proofs.Common.{◌≡◌, ◌∙◌, ℕ, zero, suc, ◌+◌, ◌<◌, ◌≤◌, Bool, true, false, cond, ◌&&◌, ◌||◌, List, [], ◌∷◌}
+use Rattle.std.proofs.Common.{◌++◌, length, take, refl, ap, sym, ⊎_elim, inl, inr, append_assoc, arith}
 use Rattle.std.specs.Prelude.{Some, not, slice_get, ◌⊎◌}
 use Rattle.std.proofs.lemmas.Bool.{cases_Bool, or_cases}
 use Rattle.std.proofs.lemmas.List.{append-nil}
@@ -40,11 +41,13 @@ kept false true x true h = let e : true ≡ false = h refl in cc
 kept false true x false h = refl
 kept false false x y h = refl
 
-stands-cond : (b : Bool) (u : Tree) (us : List Tree) (t : Tree) → stands (cond b (u ∷ us) us) t ≡ ((b && same u t) || stands us t)
+stands-cond : (b : Bool) (u : Tree) (us : List Tree) (t : Tree)
+    → stands (cond b (u ∷ us) us) t ≡ ((b && same u t) || stands us t)
 stands-cond true u us t = refl
 stands-cond false u us t = refl
 
-pub stands-without : (seen ts : List Tree) (t : Tree) → stands (without seen ts) t ≡ (stands ts t && not (stands seen t))
+pub stands-without : (seen ts : List Tree) (t : Tree)
+    → stands (without seen ts) t ≡ (stands ts t && not (stands seen t))
 stands-without seen [] t = refl
 stands-without seen (u ∷ us) t =
     stands-cond (not (stands seen u)) u (without seen us) t
@@ -92,7 +95,8 @@ place-append_left (x ∷ xs) ys t h = ⊎_elim
     (λ (e : same x t ≡ false). let k : stands xs t ≡ true = rw e at h in rw (e, place-append_left xs ys t k) refl)
     (cases_Bool (same x t))
 
-pub place-append_right : (xs ys : List Tree) (t : Tree) → stands xs t ≡ false → place (xs ++ ys) t ≡ length xs + place ys t
+pub place-append_right : (xs ys : List Tree) (t : Tree) → stands xs t ≡ false
+    → place (xs ++ ys) t ≡ length xs + place ys t
 place-append_right [] ys t h = omega arith
 place-append_right (x ∷ xs) ys t h = ⊎_elim
     (λ (e : same x t ≡ true). let k : true ≡ false = rw e at h in cc)
@@ -107,10 +111,12 @@ place-last xs t h = place-append_right xs (t ∷ []) t h ∙ rw (same-itself t) 
 pub without-append : (seen xs ys : List Tree) → without seen (xs ++ ys) ≡ without seen xs ++ without seen ys
 without-append seen xs ys = filter-append (λ t. not (stands seen t)) xs ys
 
-stands-joint : (seen xs : List Tree) (t : Tree) → stands (seen ++ without seen xs) t ≡ (stands seen t || (stands xs t && not (stands seen t)))
+stands-joint : (seen xs : List Tree) (t : Tree)
+    → stands (seen ++ without seen xs) t ≡ (stands seen t || (stands xs t && not (stands seen t)))
 stands-joint seen xs t = stands-append seen (without seen xs) t ∙ ap (λ (b : Bool). stands seen t || b) (stands-without seen xs t)
 
-twice_without : (b x : Bool) (y : Tree) (f : List Tree → List Tree) (rest : List Tree) → ((ys : List Tree) → f (y ∷ ys) ≡ cond (not b) (y ∷ f ys) (f ys))
+twice_without : (b x : Bool) (y : Tree) (f : List Tree → List Tree) (rest : List Tree)
+    → ((ys : List Tree) → f (y ∷ ys) ≡ cond (not b) (y ∷ f ys) (f ys))
     → cond (not (b || (x && not b))) (y ∷ f rest) (f rest) ≡ f (cond (not x) (y ∷ rest) rest)
 twice_without true true y f rest h = refl
 twice_without true false y f rest h = sym (h rest)
@@ -127,23 +133,28 @@ without-joint seen xs (y ∷ ys) =
 joint : List Tree → List Tree → List Tree
 joint seen xs = seen ++ without seen xs
 
-joint_more : (seen xs ys : List Tree) → (seen ++ without seen xs) ++ without (seen ++ without seen xs) ys ≡ seen ++ without seen (xs ++ without xs ys)
+joint_more : (seen xs ys : List Tree)
+    → (seen ++ without seen xs) ++ without (seen ++ without seen xs) ys ≡ seen ++ without seen (xs ++ without xs ys)
 joint_more seen xs ys = rw (without-joint seen xs ys, without-append seen xs (without xs ys)) (append_assoc seen (without seen xs) (without seen (without xs ys)))
 
-pub joined-joint : (seen xs : List Tree) (more : List (List Tree)) → joined (seen ++ without seen xs) more ≡ seen ++ without seen (joined xs more)
+pub joined-joint : (seen xs : List Tree) (more : List (List Tree))
+    → joined (seen ++ without seen xs) more ≡ seen ++ without seen (joined xs more)
 joined-joint seen xs [] = refl
 joined-joint seen xs (ys ∷ more) =
     ap (λ (l : List Tree). joined l more) (joint_more seen xs ys) ∙ joined-joint seen (xs ++ without xs ys) more
 
 -- what is joined stands after what stands already
-pub joined-after : (seen : List Tree) (more : List (List Tree)) → joined seen more ≡ seen ++ without seen (joined [] more)
+pub joined-after : (seen : List Tree) (more : List (List Tree))
+    → joined seen more ≡ seen ++ without seen (joined [] more)
 joined-after seen more = ap (λ (l : List Tree). joined l more) (sym (append-nil seen)) ∙ joined-joint seen [] more
 
-pub stands-joined : (seen : List Tree) (more : List (List Tree)) (t : Tree) → stands seen t ≡ true → stands (joined seen more) t ≡ true
+pub stands-joined : (seen : List Tree) (more : List (List Tree)) (t : Tree) → stands seen t ≡ true
+    → stands (joined seen more) t ≡ true
 stands-joined seen more t h =
     ap (λ (l : List Tree). stands l t) (joined-after seen more) ∙ stands-append seen (without seen (joined [] more)) t ∙ or_left _ _ h
 
-pub place-joined : (seen : List Tree) (more : List (List Tree)) (t : Tree) → stands seen t ≡ true → place (joined seen more) t ≡ place seen t
+pub place-joined : (seen : List Tree) (more : List (List Tree)) (t : Tree) → stands seen t ≡ true
+    → place (joined seen more) t ≡ place seen t
 place-joined seen more t h =
     ap (λ (l : List Tree). place l t) (joined-after seen more) ∙ place-append_left seen (without seen (joined [] more)) t h
 
@@ -155,7 +166,8 @@ stands-joint_new seen xs t h = stands-joint seen xs t ∙ rw h (added_stands (st
     added_stands true = refl
     added_stands false = refl
 
-pub stands-joint_cases : (seen xs : List Tree) (t : Tree) → stands (seen ++ without seen xs) t ≡ true → (stands seen t ≡ true) ⊎ (stands xs t ≡ true)
+pub stands-joint_cases : (seen xs : List Tree) (t : Tree) → stands (seen ++ without seen xs) t ≡ true
+    → (stands seen t ≡ true) ⊎ (stands xs t ≡ true)
 stands-joint_cases seen xs t h = cases (stands seen t) (stands xs t) (sym (stands-joint seen xs t) ∙ h)
   where
     cases : (b x : Bool) → (b || (x && not b)) ≡ true → (b ≡ true) ⊎ (x ≡ true)
@@ -181,7 +193,8 @@ at-stands (u ∷ us) t h = ⊎_elim
     (λ (e : stands us t ≡ true). let r = at-stands us t e in (suc r.0, r.1))
     (or_cases (same u t) (stands us t) h)
 
-pub once : (ts : List Tree) (i j : ℕ) (t : Tree) → IsDistinct ts → slice_get ts i ≡ Some t → slice_get ts j ≡ Some t → i ≡ j
+pub once : (ts : List Tree) (i j : ℕ) (t : Tree) → IsDistinct ts → slice_get ts i ≡ Some t → slice_get ts j ≡ Some t
+    → i ≡ j
 once [] i j t d h k = absurd (cc)
 once (u ∷ us) zero zero t d h k = refl
 once (u ∷ us) zero (suc j) t d h k =
@@ -202,7 +215,8 @@ at-place (u ∷ us) t h = ⊎_elim
     (cases_Bool (same u t))
 
 -- the tree at a place of a list that has one more at its end
-pub at-push : (ts : List Tree) (t u : Tree) (i : ℕ) → slice_get (ts ++ t ∷ []) i ≡ Some u → ((slice_get ts i ≡ Some u) × (take i (ts ++ t ∷ []) ≡ take i ts)) ⊎ ((t ≡ u) × (take i (ts ++ t ∷ []) ≡ ts))
+pub at-push : (ts : List Tree) (t u : Tree) (i : ℕ) → slice_get (ts ++ t ∷ []) i ≡ Some u
+    → ((slice_get ts i ≡ Some u) × (take i (ts ++ t ∷ []) ≡ take i ts)) ⊎ ((t ≡ u) × (take i (ts ++ t ∷ []) ≡ ts))
 at-push [] t u zero h = let e : t ≡ u = cc in inr (e, refl)
 at-push [] t u (suc i) h = absurd (cc)
 at-push (x ∷ xs) t u zero h = inl (h, refl)

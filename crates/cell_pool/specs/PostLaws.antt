@@ -1,5 +1,6 @@
 -- The list of distinct subtrees.
-use Rattle.std.proofs.Common.{◌≡◌, ◌∙◌, ◌≤◌, Bool, true, false, cond, List, [], ◌∷◌, ◌++◌, map, take, drop, take-append-drop, refl, ap, sym, subst, ⊎_elim, inl, inr, append_assoc, arith}
+use Rattle.std.proofs.Common.{◌≡◌, ◌∙◌, ◌≤◌, Bool, true, false, cond, List, [], ◌∷◌, ◌++◌, map, take, drop}
+use Rattle.std.proofs.Common.{take-append-drop, refl, ap, sym, subst, ⊎_elim, inl, inr, append_assoc, arith}
 use Rattle.std.specs.Prelude.{not, Some, slice_get, ◌⊎◌, ◌||◌}
 use Rattle.std.proofs.lemmas.Bool.{cases_Bool, or_cases}
 use Rattle.std.proofs.lemmas.List.{append-nil}
@@ -9,15 +10,20 @@ use Rattle.cell_nodes.specs.Equations.{unfolded-out, tree_of-out}
 use Rattle.cell_pool.specs.Post.{same, stands, place, without, joined, Listed, listed, listed_step, post}
 use Rattle.cell_pool.specs.Listing.{added, added_all, AllStand, IsClosed, IsDistinct, ChildrenBefore, IsOrdered}
 use Rattle.cell_pool.specs.SameLaws.{EachOf, tree_induction, same-equal, same-itself}
-use Rattle.cell_pool.specs.PlaceLaws.{at-stands, at-push, or_none, stands-append, stands-last, stands-only, without-append, joined-after, stands-joined, place-joined, stands-joint_new, stands-joint_cases, all_stand-more}
+use Rattle.cell_pool.specs.PlaceLaws.{at-stands, at-push, or_none, stands-append, stands-last, stands-only}
+use Rattle.cell_pool.specs.PlaceLaws.{without-append, joined-after, stands-joined, place-joined, stands-joint_new}
+use Rattle.cell_pool.specs.PlaceLaws.{stands-joint_cases, all_stand-more}
 
 -- ---- what the definition says
 
-listed-out : (t : Tree) → listed t ≡ listed_step (record { kind = (out-Tree t).kind; bits = (out-Tree t).bits; children = map listed (out-Tree t).children })
+listed-out : (t : Tree)
+    → listed t ≡ listed_step
+    (record { kind = (out-Tree t).kind; bits = (out-Tree t).bits; children = map listed (out-Tree t).children })
 unfolding listed
 listed-out t = fold_out-Tree Listed listed_step t
 
-trees_listed : (ts : List Tree) → EachOf (λ t. (listed t).tree ≡ t) ts → map (λ (c : Listed). c.tree) (map listed ts) ≡ ts
+trees_listed : (ts : List Tree) → EachOf (λ t. (listed t).tree ≡ t) ts
+    → map (λ (c : Listed). c.tree) (map listed ts) ≡ ts
 trees_listed [] each = refl
 trees_listed (t ∷ ts) each = rw (each.0, trees_listed ts each.1) refl
 
@@ -51,10 +57,12 @@ stands-post t = ap (λ (l : List Tree). stands l t) (post-out t) ∙ stands-last
 
 -- ---- adding a tree
 
-without-only : (seen : List Tree) (t : Tree) (b : Bool) → stands seen t ≡ b → without seen (t ∷ []) ≡ cond (not b) (t ∷ []) []
+without-only : (seen : List Tree) (t : Tree) (b : Bool) → stands seen t ≡ b
+    → without seen (t ∷ []) ≡ cond (not b) (t ∷ []) []
 without-only seen t b h = rw h refl
 
-pub added-out : (seen : List Tree) (t : Tree) → added seen t ≡ added_all seen (out-Tree t).children ++ without seen (t ∷ [])
+pub added-out : (seen : List Tree) (t : Tree)
+    → added seen t ≡ added_all seen (out-Tree t).children ++ without seen (t ∷ [])
 added-out seen t =
     let below = joined [] (map post (out-Tree t).children) in
     ap (λ (l : List Tree). seen ++ without seen l) (post-out t)
@@ -63,15 +71,19 @@ added-out seen t =
     ∙ ap (λ (l : List Tree). l ++ without seen (t ∷ [])) (sym (joined-after seen (map post (out-Tree t).children)))
 
 -- a tree that is not there comes behind its children
-pub added-new : (seen : List Tree) (t : Tree) → stands seen t ≡ false → added seen t ≡ added_all seen (out-Tree t).children ++ t ∷ []
+pub added-new : (seen : List Tree) (t : Tree) → stands seen t ≡ false
+    → added seen t ≡ added_all seen (out-Tree t).children ++ t ∷ []
 added-new seen t h = added-out seen t ∙ ap (λ (l : List Tree). added_all seen (out-Tree t).children ++ l) (without-only seen t false h)
 
-all_known : (seen ts : List Tree) → EachOf (λ t. IsClosed seen → stands seen t ≡ true → added seen t ≡ seen) ts → IsClosed seen → AllStand seen ts → added_all seen ts ≡ seen
+all_known : (seen ts : List Tree) → EachOf (λ t. IsClosed seen → stands seen t ≡ true → added seen t ≡ seen) ts
+    → IsClosed seen → AllStand seen ts → added_all seen ts ≡ seen
 all_known seen [] each c h = refl
 all_known seen (t ∷ ts) each c h =
     ap (λ (l : List Tree). joined l (map post ts)) (each.0 c h.0) ∙ all_known seen ts each.1 c h.1
 
-known_step : (seen : List Tree) (t : Tree) → EachOf (λ u. IsClosed seen → stands seen u ≡ true → added seen u ≡ seen) (out-Tree t).children → IsClosed seen → stands seen t ≡ true → added seen t ≡ seen
+known_step : (seen : List Tree) (t : Tree)
+    → EachOf (λ u. IsClosed seen → stands seen u ≡ true → added seen u ≡ seen) (out-Tree t).children → IsClosed seen
+    → stands seen t ≡ true → added seen t ≡ seen
 known_step seen t each c h =
     added-out seen t
     ∙ ap (λ (l : List Tree). added_all seen (out-Tree t).children ++ l) (without-only seen t true h)
@@ -87,7 +99,8 @@ added-known seen = tree_induction (λ t. IsClosed seen → stands seen t ≡ tru
 abbrev HasSmaller : Tree → Type 0
 HasSmaller t = (u : Tree) → stands (post t) u ≡ true → unfolded u ≤ unfolded t
 
-small-all : (seen ts : List Tree) (u : Tree) → EachOf HasSmaller ts → stands (added_all seen ts) u ≡ true → (stands seen u ≡ true) ⊎ (unfolded u ≤ total (map unfolded ts))
+small-all : (seen ts : List Tree) (u : Tree) → EachOf HasSmaller ts → stands (added_all seen ts) u ≡ true
+    → (stands seen u ≡ true) ⊎ (unfolded u ≤ total (map unfolded ts))
 small-all seen [] u each h = inl h
 small-all seen (t ∷ ts) u each h = ⊎_elim
     (λ (k : stands (added seen t) u ≡ true). ⊎_elim
@@ -117,7 +130,8 @@ each-small [] = tt
 each-small (t ∷ ts) = (small t, each-small ts)
 
 -- a tree does not come with its children
-pub still_new : (seen : List Tree) (t : Tree) → stands seen t ≡ false → stands (added_all seen (out-Tree t).children) t ≡ false
+pub still_new : (seen : List Tree) (t : Tree) → stands seen t ≡ false
+    → stands (added_all seen (out-Tree t).children) t ≡ false
 still_new seen t h = ⊎_elim
     (λ (k : stands (added_all seen (out-Tree t).children) t ≡ true). ⊎_elim
     (λ (l : stands seen t ≡ true). cc)
@@ -149,7 +163,8 @@ closed seen b t h =
     subst (λ (l : List Tree). AllStand l (out-Tree t).children) e
     (all_stand-more (take at.0 seen) (drop at.0 seen) (out-Tree t).children (b at.0 t at.1))
 
-before-push : (seen : List Tree) (t : Tree) → ChildrenBefore seen → AllStand seen (out-Tree t).children → ChildrenBefore (seen ++ t ∷ [])
+before-push : (seen : List Tree) (t : Tree) → ChildrenBefore seen → AllStand seen (out-Tree t).children
+    → ChildrenBefore (seen ++ t ∷ [])
 before-push seen t b h i u k = ⊎_elim
     (λ (l : (slice_get seen i ≡ Some u) × (take i (seen ++ t ∷ []) ≡ take i seen)).
     subst (λ (x : List Tree). AllStand x (out-Tree u).children) (sym l.1) (b i u l.0))
@@ -173,24 +188,29 @@ or_second : (x y : Bool) → (x || y) ≡ false → y ≡ false
 or_second true y h = cc
 or_second false y h = h
 
-pub distinct-push : (seen : List Tree) (t : Tree) → IsDistinct seen → stands seen t ≡ false → IsDistinct (seen ++ t ∷ [])
+pub distinct-push : (seen : List Tree) (t : Tree) → IsDistinct seen → stands seen t ≡ false
+    → IsDistinct (seen ++ t ∷ [])
 distinct-push [] t d h = (refl, tt)
 distinct-push (x ∷ xs) t d h =
     let k : same x t ≡ false = or_first (same x t) (stands xs t) h in
     let l : stands xs t ≡ false = or_second (same x t) (stands xs t) h in
     (stands-append xs (t ∷ []) x ∙ or_none (stands xs x) (same t x || false) d.0 (or_none (same t x) false (other x t k) refl), distinct-push xs t d.1 l)
 
-pub ordered-push : (seen : List Tree) (t : Tree) → IsOrdered seen → stands seen t ≡ false → AllStand seen (out-Tree t).children → IsOrdered (seen ++ t ∷ [])
+pub ordered-push : (seen : List Tree) (t : Tree) → IsOrdered seen → stands seen t ≡ false
+    → AllStand seen (out-Tree t).children → IsOrdered (seen ++ t ∷ [])
 ordered-push seen t o n h = record {
   before = before-push seen t o.before h;
   distinct = distinct-push seen t o.distinct n;
 }
 
-all_ordered : (seen ts : List Tree) → EachOf (λ t. (seen : List Tree) → IsOrdered seen → IsOrdered (added seen t)) ts → IsOrdered seen → IsOrdered (added_all seen ts)
+all_ordered : (seen ts : List Tree) → EachOf (λ t. (seen : List Tree) → IsOrdered seen → IsOrdered (added seen t)) ts
+    → IsOrdered seen → IsOrdered (added_all seen ts)
 all_ordered seen [] each o = o
 all_ordered seen (t ∷ ts) each o = all_ordered (added seen t) ts each.1 (each.0 seen o)
 
-ordered_step : (t : Tree) → EachOf (λ u. (seen : List Tree) → IsOrdered seen → IsOrdered (added seen u)) (out-Tree t).children → (seen : List Tree) → IsOrdered seen → IsOrdered (added seen t)
+ordered_step : (t : Tree)
+    → EachOf (λ u. (seen : List Tree) → IsOrdered seen → IsOrdered (added seen u)) (out-Tree t).children
+    → (seen : List Tree) → IsOrdered seen → IsOrdered (added seen t)
 ordered_step t each seen o = ⊎_elim
     (λ (h : stands seen t ≡ true). subst (λ (l : List Tree). IsOrdered l) (sym (added-known seen t (closed seen o.before) h)) o)
     (λ (h : stands seen t ≡ false).
@@ -209,7 +229,8 @@ pub ordered-added_all : (seen ts : List Tree) → IsOrdered seen → IsOrdered (
 ordered-added_all seen ts o = all_ordered seen ts (each-ordered ts) o
 
 -- where a tree stands after its children were added, it adds nothing more
-pub added-again : (seen : List Tree) (t : Tree) → IsOrdered seen → stands (added_all seen (out-Tree t).children) t ≡ true
+pub added-again : (seen : List Tree) (t : Tree) → IsOrdered seen
+    → stands (added_all seen (out-Tree t).children) t ≡ true
     → added_all seen (out-Tree t).children ≡ added seen t
 added-again seen t o h = ⊎_elim
     (λ (k : stands seen t ≡ true).
@@ -220,7 +241,8 @@ added-again seen t o h = ⊎_elim
     (cases_Bool (stands seen t))
 
 -- where it does not, it did not stand before
-pub new-before : (seen : List Tree) (t : Tree) → stands (added_all seen (out-Tree t).children) t ≡ false → stands seen t ≡ false
+pub new-before : (seen : List Tree) (t : Tree) → stands (added_all seen (out-Tree t).children) t ≡ false
+    → stands seen t ≡ false
 new-before seen t h = ⊎_elim
     (λ (k : stands seen t ≡ true).
     let e : stands (added_all seen (out-Tree t).children) t ≡ true = stands-joined seen (map post (out-Tree t).children) t k in

@@ -1,5 +1,6 @@
 -- Places in the reverse of a list of distinct trees.
-use Rattle.std.proofs.Common.{◌≡◌, ◌∙◌, ◌+◌, ◌-◌, ◌<◌, Bool, true, false, List, [], ◌∷◌, ◌++◌, length, map, reverse, refl, ap, sym, ⊎_elim, arith}
+use Rattle.std.proofs.Common.{◌≡◌, ◌∙◌, ◌+◌, ◌-◌, ◌<◌, Bool, true, false, List, [], ◌∷◌, ◌++◌, length, map, reverse}
+use Rattle.std.proofs.Common.{refl, ap, sym, ⊎_elim, arith}
 use Rattle.std.specs.Prelude.{◌||◌}
 use Rattle.std.specs.List.{All}
 use Rattle.std.proofs.lemmas.Bool.{cases_Bool}
@@ -26,7 +27,8 @@ stands-reverse (u ∷ us) t =
     swapped false false = refl
 
 -- counted from the other end
-pub place-reverse : (ts : List Tree) (t : Tree) → IsDistinct ts → stands ts t ≡ true → place (reverse ts) t ≡ length ts - 1 - place ts t
+pub place-reverse : (ts : List Tree) (t : Tree) → IsDistinct ts → stands ts t ≡ true
+    → place (reverse ts) t ≡ length ts - 1 - place ts t
 place-reverse [] t d h = cc
 place-reverse (u ∷ us) t d h = ⊎_elim
     (λ (e : same u t ≡ true).
@@ -44,7 +46,8 @@ place-reverse (u ∷ us) t d h = ⊎_elim
     ap (λ (x : List Tree). place x t) (reverse-append (u ∷ []) us) ∙ omega (arith, place-within us t m))
     (cases_Bool (same u t))
 
-pub places-reverse : (seen ts : List Tree) → IsDistinct seen → AllStand seen ts → map (λ n. length seen - 1 - n) (map (place seen) ts) ≡ map (place (reverse seen)) ts
+pub places-reverse : (seen ts : List Tree) → IsDistinct seen → AllStand seen ts
+    → map (λ n. length seen - 1 - n) (map (place seen) ts) ≡ map (place (reverse seen)) ts
 places-reverse seen [] d h = refl
 places-reverse seen (t ∷ ts) d h = rw (place-reverse seen t d h.0, places-reverse seen ts d h.1) refl
 

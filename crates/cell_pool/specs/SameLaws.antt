@@ -14,11 +14,13 @@ abbrev pub EachOf : (Tree → Type 0) → List Tree → Type 0
 EachOf P [] = Unit {0}
 EachOf P (t ∷ ts) = P t × EachOf P ts
 
-each_to : (P : Tree → Type 0) (n : ℕ) → ((t : Tree) → unfolded t ≤ n → P t) → (ts : List Tree) → total (map unfolded ts) ≤ n → EachOf P ts
+each_to : (P : Tree → Type 0) (n : ℕ) → ((t : Tree) → unfolded t ≤ n → P t) → (ts : List Tree)
+    → total (map unfolded ts) ≤ n → EachOf P ts
 each_to P n h [] k = tt
 each_to P n h (t ∷ ts) k = (h t (omega arith), each_to P n h ts (omega arith))
 
-induction_to : (P : Tree → Type 0) → ((t : Tree) → EachOf P (out-Tree t).children → P t) → (n : ℕ) (t : Tree) → unfolded t ≤ n → P t
+induction_to : (P : Tree → Type 0) → ((t : Tree) → EachOf P (out-Tree t).children → P t) → (n : ℕ) (t : Tree)
+    → unfolded t ≤ n → P t
 induction_to P step zero t h = absurd (omega (arith, one_le-unfolded t))
 induction_to P step (suc n) t h = step t (each_to P n (induction_to P step n) (out-Tree t).children (omega (arith, unfolded-out t)))
 
@@ -28,7 +30,9 @@ tree_induction P step t = induction_to P step (unfolded t) t (omega arith)
 
 -- ---- equal trees
 
-pub same-out : (t u : Tree) → same t u ≡ (same_kind (out-Tree t).kind (out-Tree u).kind && same_bits (out-Tree t).bits (out-Tree u).bits && passes (map same (out-Tree t).children) (out-Tree u).children)
+pub same-out : (t u : Tree)
+    → same t u ≡
+    (same_kind (out-Tree t).kind (out-Tree u).kind && same_bits (out-Tree t).bits (out-Tree u).bits && passes (map same (out-Tree t).children) (out-Tree u).children)
 unfolding same
 same-out t u = ap (λ (f : Tree → Bool). f u) (fold_out-Tree (Tree → Bool) same_step t)
 
@@ -61,7 +65,8 @@ same_bits-itself : (xs : List ℕ) → same_bits xs xs ≡ true
 same_bits-itself [] = refl
 same_bits-itself (x ∷ xs) = and_from _ _ (eq-eqb x x refl) (same_bits-itself xs)
 
-passes-equal : (ts us : List Tree) → EachOf (λ t. (u : Tree) → same t u ≡ true → t ≡ u) ts → passes (map same ts) us ≡ true → ts ≡ us
+passes-equal : (ts us : List Tree) → EachOf (λ t. (u : Tree) → same t u ≡ true → t ≡ u) ts
+    → passes (map same ts) us ≡ true → ts ≡ us
 passes-equal [] [] each h = refl
 passes-equal [] (u ∷ us) each h = cc
 passes-equal (t ∷ ts) [] each h = cc
@@ -76,10 +81,12 @@ passes-itself [] each = refl
 passes-itself (t ∷ ts) each = and_from _ _ each.0 (passes-itself ts each.1)
 
 -- trees with equal parts are equal
-pub same_parts : (t u : Tree) → (out-Tree t).kind ≡ (out-Tree u).kind → (out-Tree t).bits ≡ (out-Tree u).bits → (out-Tree t).children ≡ (out-Tree u).children → t ≡ u
+pub same_parts : (t u : Tree) → (out-Tree t).kind ≡ (out-Tree u).kind → (out-Tree t).bits ≡ (out-Tree u).bits
+    → (out-Tree t).children ≡ (out-Tree u).children → t ≡ u
 same_parts t u k b c = sym (tree_of-out t) ∙ rw (k, b, c) (tree_of-out u)
 
-same_step-equal : (t : Tree) → EachOf (λ c. (u : Tree) → same c u ≡ true → c ≡ u) (out-Tree t).children → (u : Tree) → same t u ≡ true → t ≡ u
+same_step-equal : (t : Tree) → EachOf (λ c. (u : Tree) → same c u ≡ true → c ≡ u) (out-Tree t).children → (u : Tree)
+    → same t u ≡ true → t ≡ u
 same_step-equal t each u h =
     let p = and_parts _ _ (sym (same-out t u) ∙ h) in
     let q = and_parts _ _ p.0 in

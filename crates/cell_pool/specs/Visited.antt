@@ -19,5 +19,6 @@ trees_at trees numbers = map (tree_at trees) numbers
 pub record IsVisited (trees : List Tree) (done : List Bool) (numbers : List ℕ) : Type 0 where
   pub count : length done ≡ length trees
   pub there : All (λ n. n < length trees) numbers
-  pub marks : (i : ℕ) → i < length trees → slice_index_or done i false ≡ stands (trees_at trees numbers) (tree_at trees i)
+  pub marks : (i : ℕ) → i < length trees
+      → slice_index_or done i false ≡ stands (trees_at trees numbers) (tree_at trees i)
   pub ordered : IsOrdered (trees_at trees numbers)

@@ -23,7 +23,9 @@ fn visit(
     requires there { id < length pool.now }
     requires visited { IsVisited pool.now done.old numbers.old.items }
     ensures visited { OnOk result (IsVisited pool.now done.new numbers.new.items) }
-    ensures added { OnOk result (trees_at pool.now numbers.new.items ≡ added (trees_at pool.now numbers.old.items) (tree_at pool.now id)) }
+    ensures added { OnOk result
+        (trees_at pool.now numbers.new.items
+        ≡ added (trees_at pool.now numbers.old.items) (tree_at pool.now id)) }
 {
     pool.ordered();
     let place = id.number() as usize;
@@ -48,7 +50,9 @@ fn visit_all(
     requires there { All (λ n. n < length pool.now) ids.now }
     requires visited { IsVisited pool.now done.old numbers.old.items }
     ensures visited { OnOk result (IsVisited pool.now done.new numbers.new.items) }
-    ensures added { OnOk result (trees_at pool.now numbers.new.items ≡ added_all (trees_at pool.now numbers.old.items) (trees_at pool.now ids.now)) }
+    ensures added { OnOk result
+        (trees_at pool.now numbers.new.items
+        ≡ added_all (trees_at pool.now numbers.old.items) (trees_at pool.now ids.now)) }
 {
     match ids.split_first() {
         None => Ok(()),

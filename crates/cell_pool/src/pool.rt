@@ -1,6 +1,7 @@
 //! Distinct cells, each with one number.
 ghost use Rattle.std.specs.List.{All};
-ghost use Rattle.std.specs.Prelude.{ℕ, reverse, take, ◌≡◌, ◌≤◌, ◌<◌, ◌+◌, ◌^◌, ◌++◌, ◌∷◌, [], false, length, map, slice_get, Some, IfOk, IfSome, OnOk, OnErr, MatchOption};
+ghost use Rattle.std.specs.Prelude.{◌≡◌, ◌≤◌, ◌<◌, ◌+◌, ◌^◌, ◌++◌, ◌∷◌, [], ℕ, false, length, map, reverse, take};
+ghost use Rattle.std.specs.Prelude.{slice_get, Some, IfOk, IfSome, OnOk, OnErr, MatchOption};
 ghost use Rattle.cell_nodes.specs.declared.tree.Tree.{Tree, out-Tree};
 ghost use Rattle.cell_nodes.specs.Good.{AllGood};
 ghost use Rattle.cell_nodes.specs.Tree.{unfolded};
@@ -131,7 +132,8 @@ impl Pool {
         requires { root < length self.now }
         ensures numbers { IfOk result
             (λ v. IfSome (slice_get self.now root) (λ t. v.items ≡ map (place self.now) (reverse (post t)))) }
-        ensures meaning { IfOk result (λ v. IfSome (slice_get self.now root) (λ t. trees_at self.now v.items ≡ reverse (post t))) }
+        ensures meaning { IfOk result
+            (λ v. IfSome (slice_get self.now root) (λ t. trees_at self.now v.items ≡ reverse (post t))) }
         ensures there { IfOk result (λ v. All (λ n. n < length self.now) v.items) }
     {
         order_of(self, alloc, root)

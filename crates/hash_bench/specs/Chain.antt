@@ -14,4 +14,5 @@ child_with hash = record { depth = 1; hash = hash }
 unfoldable pub chained : List ℕ → ℕ → List ℕ
 chained bits zero = replicate 32 0
 chained bits (suc n) =
-    sha256 (representation (descriptor 2 false 0 (length bits)) (Data bits) (child_with (chained bits n) ∷ child_with (chained bits n) ∷ []))
+    sha256 (representation (descriptor 2 false 0 (length bits)) (Data bits)
+    (child_with (chained bits n) ∷ child_with (chained bits n) ∷ []))

@@ -1,3 +1,4 @@
 pub mod Adding
 pub mod Begin
 pub mod LabelsRead
+pub mod Writes

@@ -20,3 +20,4 @@ pub mod ThenLaws
 pub mod Top
 pub mod TopLaws
 pub mod Walk
+pub mod Written

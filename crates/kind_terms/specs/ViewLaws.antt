@@ -24,32 +24,32 @@ use Rattle.tlb_syntax.specs.Tree.{group, sum_of, no_exprs, an_expr, no_items, an
 pub seen_lit : (e : Expr) (n : ℕ) → e ≡ Lit n → expr e ≡ lit n
 seen_lit e n is =
     ap expr (is ∙ sym (rolls-Lit n))
-        ∙ fold-roll-Expr ExprView TypeView ItemView expr_step type_step item_step (open_forms.Lit n)
+    ∙ fold-roll-Expr ExprView TypeView ItemView expr_step type_step item_step (open_forms.Lit n)
 
 pub seen_named : (e : Expr) (x : List ℕ) (es : List Expr) → e ≡ Named x es → expr e ≡ named x (exprs es)
 seen_named e x es is =
     ap expr (is ∙ sym (rolls-Named x es))
-        ∙ fold-roll-Expr ExprView TypeView ItemView expr_step type_step item_step (open_forms.Named x es)
+    ∙ fold-roll-Expr ExprView TypeView ItemView expr_step type_step item_step (open_forms.Named x es)
 
 pub seen_nat32 : (e : Expr) → e ≡ Nat32 → expr e ≡ nat32
 seen_nat32 e is =
     ap expr (is ∙ sym rolls-Nat32)
-        ∙ fold-roll-Expr ExprView TypeView ItemView expr_step type_step item_step open_forms.Nat32
+    ∙ fold-roll-Expr ExprView TypeView ItemView expr_step type_step item_step open_forms.Nat32
 
 pub seen_bits : (e : Expr) (es : List Expr) → e ≡ Bits es → expr e ≡ bits (exprs es)
 seen_bits e es is =
     ap expr (is ∙ sym (rolls-Bits es))
-        ∙ fold-roll-Expr ExprView TypeView ItemView expr_step type_step item_step (open_forms.Bits es)
+    ∙ fold-roll-Expr ExprView TypeView ItemView expr_step type_step item_step (open_forms.Bits es)
 
 pub seen_below : (e : Expr) (es : List Expr) → e ≡ Below es → expr e ≡ below (exprs es)
 seen_below e es is =
     ap expr (is ∙ sym (rolls-Below es))
-        ∙ fold-roll-Expr ExprView TypeView ItemView expr_step type_step item_step (open_forms.Below es)
+    ∙ fold-roll-Expr ExprView TypeView ItemView expr_step type_step item_step (open_forms.Below es)
 
 pub seen_up_to : (e : Expr) (es : List Expr) → e ≡ UpTo es → expr e ≡ up_to (exprs es)
 seen_up_to e es is =
     ap expr (is ∙ sym (rolls-UpTo es))
-        ∙ fold-roll-Expr ExprView TypeView ItemView expr_step type_step item_step (open_forms.UpTo es)
+    ∙ fold-roll-Expr ExprView TypeView ItemView expr_step type_step item_step (open_forms.UpTo es)
 
 pub seen_sum : (e a b : Expr) (es : List Expr) → e ≡ Sum a b es → expr e ≡ sum_of (expr a) (expr b) (map expr es)
 seen_sum e a b es is =
@@ -59,22 +59,22 @@ seen_sum e a b es is =
 pub seen_star : (e : Expr) (a b : Expr) → e ≡ Star a b → expr e ≡ star (expr a) (expr b)
 seen_star e a b is =
     ap expr (is ∙ sym (rolls-Star a b))
-        ∙ fold-roll-Expr ExprView TypeView ItemView expr_step type_step item_step (open_forms.Star a b)
+    ∙ fold-roll-Expr ExprView TypeView ItemView expr_step type_step item_step (open_forms.Star a b)
 
 pub seen_out : (e : Expr) (a : Expr) → e ≡ Out a → expr e ≡ out (expr a)
 seen_out e a is =
     ap expr (is ∙ sym (rolls-Out a))
-        ∙ fold-roll-Expr ExprView TypeView ItemView expr_step type_step item_step (open_forms.Out a)
+    ∙ fold-roll-Expr ExprView TypeView ItemView expr_step type_step item_step (open_forms.Out a)
 
 pub seen_ref : (e : Expr) (a : Expr) → e ≡ Ref a → expr e ≡ ref (expr a)
 seen_ref e a is =
     ap expr (is ∙ sym (rolls-Ref a))
-        ∙ fold-roll-Expr ExprView TypeView ItemView expr_step type_step item_step (open_forms.Ref a)
+    ∙ fold-roll-Expr ExprView TypeView ItemView expr_step type_step item_step (open_forms.Ref a)
 
 pub seen_group : (e : Expr) (list : List Item) → e ≡ Group list → expr e ≡ group (items list)
 seen_group e list is =
     ap expr (is ∙ sym (rolls-Group list))
-        ∙ fold-roll-Expr ExprView TypeView ItemView expr_step type_step item_step (open_forms.Group list)
+    ∙ fold-roll-Expr ExprView TypeView ItemView expr_step type_step item_step (open_forms.Group list)
 
 pub has_exprs_seen : (es : List Expr) (b : Bool) → IsTrue b ↔ (es ≡ []) → not b ≡ has_exprs (exprs es)
 has_exprs_seen [] true h = refl

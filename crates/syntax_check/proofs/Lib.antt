@@ -21,3 +21,4 @@ pub mod Steps
 pub mod Stepwise
 pub mod Trail
 pub mod Words
+pub mod SomeAnswer

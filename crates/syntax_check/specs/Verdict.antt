@@ -1,5 +1,5 @@
 -- What the answers for a list of lexemes say by the productions.
-use Rattle.std.specs.Prelude.{ℕ, ◌≡◌, List, Some, None}
+use Rattle.std.specs.Prelude.{ℕ, ◌≡◌, ◌⊎◌, List, Some, None}
 use Rattle.tlb_syntax.specs.Lexeme.{Lexeme}
 use Rattle.tlb_syntax.specs.Grammar.{Declarations, TypeWord}
 use Rattle.tlb_syntax.specs.Tree.{ExprView, SchemaView}
@@ -32,6 +32,11 @@ abbrev pub SchemaOneAnswer : Type 0
 SchemaOneAnswer = (ls : List Lexeme) (s : SchemaView) (c : Reason) (place : ℕ) → Declarations standard ls s → HasFew s
     → SchemaRefusal ls c place → ⊥
 
+-- every list of lexemes writes a schema within the limits, or has a first refusal
+abbrev pub SchemaSomeAnswer : Type 0
+SchemaSomeAnswer = (ls : List Lexeme)
+    → ((s : SchemaView) × Declarations standard ls s × HasFew s) ⊎ ((c : Reason) × (place : ℕ) × IsFirst (SchemaRefusal ls) c place)
+
 -- ---- type words
 
 abbrev pub WordWritten : Type 0
@@ -47,6 +52,11 @@ WordTaken = (ls : List Lexeme) (e : ExprView) → TypeWord standard ls e → wor
 abbrev pub WordOneAnswer : Type 0
 WordOneAnswer = (ls : List Lexeme) (e : ExprView) (c : Reason) (place : ℕ) → TypeWord standard ls e
     → WordRefusal ls c place → ⊥
+
+-- every list of lexemes writes a type word within the limits, or has a first refusal
+abbrev pub WordSomeAnswer : Type 0
+WordSomeAnswer = (ls : List Lexeme)
+    → ((e : ExprView) × TypeWord standard ls e) ⊎ ((c : Reason) × (place : ℕ) × IsFirst (WordRefusal ls) c place)
 
 -- ---- first refusals
 

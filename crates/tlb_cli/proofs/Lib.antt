@@ -1,10 +1,10 @@
-pub mod Judging
-pub mod Layers
-pub mod Levels
-pub mod Moved
-pub mod Once
-pub mod Opened
-pub mod Refusing
-pub mod Said
-pub mod Saying
-pub mod Shown
+mod Ending
+mod Answering
+mod Facts
+mod Levels
+mod Loaded
+mod Once
+mod Reading
+mod Slots
+mod Stages
+mod Stopped

@@ -24,14 +24,20 @@ use Rattle.flat_records.specs.declared.read.Cause.{Cause}
 use Rattle.flat_records.specs.declared.read.Cause.TheVariants.{NoConstructor, ShortBits, Leftover}
 use Rattle.flat_records.specs.declared.read.Spot.{Spot}
 use Rattle.flat_records.specs.declared.read.Spot.TheVariants.{Root, InField}
+use Rattle.tlb_cli.specs.declared.refusal.CellCause.{CellCause}
+use Rattle.tlb_cli.specs.declared.refusal.CellCause.TheVariants.{Exotic, Reading}
+use Rattle.tlb_cli.specs.declared.refusal.SchemaCause.{SchemaCause}
+use Rattle.tlb_cli.specs.declared.refusal.SchemaCause.TheVariants as schemas
+use Rattle.tlb_cli.specs.declared.refusal.TypeCause.{TypeCause}
+use Rattle.tlb_cli.specs.declared.refusal.TypeCause.TheVariants as words
 
 -- a text and a line feed
 abbrev pub line_of : List ℕ → List ℕ
 line_of text = text ++ 10 ∷ []
 
--- words and, behind a space, a number or other words
+-- words and, after a space, a number or other words
 abbrev pub spaced : List ℕ → List ℕ → List ℕ
-spaced front back = front ++ 32 ∷ back
+spaced first second = first ++ 32 ∷ second
 
 abbrev pub numbered : List ℕ → ℕ → List ℕ
 numbered cause number = spaced cause (decimal number)
@@ -40,7 +46,7 @@ numbered cause number = spaced cause (decimal number)
 abbrev pub sum_text : ℕ → List ℕ
 sum_text sum = encode_lower (to_be_bytes w32 sum)
 
--- the cause and the numbers of a bag's refusal; no bag is refused for want of memory
+-- the cause and the numbers of a bag's refusal; no bag is refused for lack of memory
 abbrev pub bag_cause : BagError → List ℕ
 bag_cause (BadHex place) = numbered (codes "BadHex") place
 bag_cause BadBase64 = codes "BadBase64"
@@ -61,7 +67,7 @@ bag_cause (TooDeep cell) = numbered (codes "TooDeep") cell
 bag_cause Sprawl = codes "Sprawl"
 bag_cause NoMemory = []
 
--- the cause and the place of a schema's refusal; none is refused for want of memory
+-- the cause and the place of a schema's refusal; none is refused for lack of memory
 abbrev pub token_cause : LexError → List ℕ
 token_cause (BadCharacter place) = numbered (codes "BadCharacter") place
 token_cause (OpenComment place) = numbered (codes "OpenComment") place
@@ -84,7 +90,7 @@ part_text (places.Check place) = codes "{" ++ decimal place ++ codes "}"
 part_text places.Tag = codes "$"
 part_text places.Result = codes "="
 
--- each behind a dot
+-- each after a dot
 abbrev pub dotted : List Part → List ℕ
 dotted [] = []
 dotted (p ∷ ps) = codes "." ++ part_text p ++ dotted ps
@@ -93,7 +99,7 @@ dotted (p ∷ ps) = codes "." ++ part_text p ++ dotted ps
 abbrev pub item_text : At → List ℕ
 item_text s = s.type_name ++ codes "." ++ s.constructor ++ dotted s.item.parts
 
--- the cause and the place of a refusal by the kinds; none is refused for want of memory
+-- the cause and the place of a refusal by the kinds; none is refused for lack of memory
 abbrev pub kind_cause : KindError → List ℕ
 kind_cause (kinds.UnknownType s) = spaced (codes "UnknownType") (item_text s)
 kind_cause (kinds.UnknownName s) = spaced (codes "UnknownName") (item_text s)
@@ -121,6 +127,19 @@ abbrev pub cause_text : Cause → List ℕ
 cause_text NoConstructor = codes "NoConstructor"
 cause_text ShortBits = codes "ShortBits"
 cause_text Leftover = codes "Leftover"
+
+abbrev pub cell_cause : CellCause → List ℕ
+cell_cause Exotic = codes "Exotic"
+cell_cause (Reading cause) = cause_text cause
+
+-- the cause of a schema's refusal: by its text, by its kinds, or a form that isn't read yet
+abbrev pub schema_cause : SchemaCause → List ℕ
+schema_cause (schemas.Text error) = grammar_cause error
+schema_cause (schemas.Kinds error) = kind_cause error
+schema_cause schemas.Unsupported = codes "Unsupported"
+
+abbrev pub type_cause : TypeCause → List ℕ
+type_cause words.Unsupported = codes "Unsupported"
 
 -- a level, and the cell's hash and depth at it
 abbrev pub level_line : Tree → ℕ → List ℕ

@@ -7,7 +7,7 @@ use std::alloc::Global;
 use tlb_kinds::{KindError, Part, Spot};
 use tlb_memory::NoMemory;
 
-// Adds a shown part of a path, behind a dot.
+// Adds a shown part of a path, after a dot.
 fn add_part(alloc: Global, text: &mut Vec<u8>, part: &Part) -> Result<(), NoMemory>
     ensures { OnOk result (text.new.items ≡ text.old.items ++ dotted_text (part.now ∷ [])) }
 {

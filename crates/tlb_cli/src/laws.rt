@@ -1,10 +1,12 @@
 //! Laws of the outcome: functions of no parameters, whose contracts speak of the definitions alone.
 ghost use Rattle.std.specs.Prelude.{◌≡◌, List};
 ghost use Rattle.tlb_edge.specs.Files.{Files, Name};
-ghost use Rattle.tlb_cli.specs.Outcome.{Verdict, outcome};
-ghost use Rattle.tlb_cli.specs.Words.{files_of, form_of, HoldsAll};
+ghost use Rattle.tlb_cli.specs.Forms.{HoldsAll, files_of, form_of};
+ghost use Rattle.tlb_cli.specs.Outcome.{IsOutcome};
+ghost use Rattle.tlb_cli.specs.Refusal.{Verdict};
 
 /// A command has one outcome at most over files that hold each file that it names.
 pub fn at_most_one_outcome()
-    ensures { (words : List Name) (files : Files) (v w : Verdict) → HoldsAll files (files_of (form_of words)) → outcome words files v → outcome words files w → v ≡ w }
+    ensures { (words : List Name) (held : Files) (v w : Verdict) → HoldsAll held (files_of (form_of words))
+        → IsOutcome words held v → IsOutcome words held w → v ≡ w }
 {}

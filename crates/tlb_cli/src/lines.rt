@@ -1,6 +1,7 @@
 //! The words of the lines that are put.
 ghost use Rattle.std.specs.Prelude.{◌≡◌, ◌≢◌, ◌≤◌, decimal, IfOk};
 ghost use Rattle.bag_cells.specs.declared.error.BagError.TheVariants.{NoMemory as OutOfMemory};
+ghost use Rattle.cell_nodes.specs.Levels.{level_of};
 ghost use Rattle.cell_nodes.specs.Tree.{mask};
 ghost use Rattle.tlb_grammar.specs.declared.error.GrammarError.TheVariants as grammar;
 ghost use Rattle.tlb_lexer.specs.declared.LexError.TheVariants as tokens;
@@ -14,13 +15,13 @@ use tlb_grammar::GrammarError;
 use tlb_lexer::LexError;
 use tlb_memory::NoMemory;
 
-// Words, a space, and other words.
-fn spaced(alloc: Global, front: &[u8], back: &[u8]) -> Result<Vec<u8>, NoMemory>
-    ensures { IfOk result (λ text. text.items ≡ spaced front.now back.now) }
+/// Words, a space, and other words.
+pub fn spaced(alloc: Global, first: &[u8], second: &[u8]) -> Result<Vec<u8>, NoMemory>
+    ensures { IfOk result (λ text. text.items ≡ spaced first.now second.now) }
 {
-    let mut text = Vec::from_slice(alloc, front)?;
+    let mut text = Vec::from_slice(alloc, first)?;
     text.extend_from_slice(b" ")?;
-    text.extend_from_slice(back)?;
+    text.extend_from_slice(second)?;
     Ok(text)
 }
 
@@ -55,8 +56,8 @@ fn sum_digits(alloc: Global, sum: u32) -> Result<Vec<u8>, NoMemory>
 fn sums(alloc: Global, kept: u32, computed: u32) -> Result<Vec<u8>, NoMemory>
     ensures { IfOk result (λ text. text.items ≡ bag_cause (BagError.BadSum kept computed)) }
 {
-    let front = spaced(alloc, b"BadSum", &sum_digits(alloc, kept)?)?;
-    spaced(alloc, &front, &sum_digits(alloc, computed)?)
+    let first = spaced(alloc, b"BadSum", &sum_digits(alloc, kept)?)?;
+    spaced(alloc, &first, &sum_digits(alloc, computed)?)
 }
 
 /// The cause of a bag's refusal, and its numbers.
@@ -162,22 +163,22 @@ pub fn spot_words(alloc: Global, declaration: &Declaration, spot: Spot) -> Resul
 
 // The line of one level: its number, the hash and the depth.
 fn level_line(alloc: Global, cell: &Cell, level: u32) -> Result<Vec<u8>, NoMemory>
-    requires { level ≤ 1 }
+    requires { level ≤ 3 }
     ensures { IfOk result (λ text. text.items ≡ level_line cell.now level) }
 {
     let hash = hex::encode(alloc, cell.hash(level))?;
-    let front = spaced(alloc, &digits(alloc, u64::from(level))?, hash.as_bytes())?;
-    let mut line = spaced(alloc, &front, &digits(alloc, u64::from(cell.depth(level)))?)?;
+    let first = spaced(alloc, &digits(alloc, u64::from(level))?, hash.as_bytes())?;
+    let mut line = spaced(alloc, &first, &digits(alloc, u64::from(cell.depth(level)))?)?;
     line.extend_from_slice(b"\n")?;
     Ok(line)
 }
 
-/// The lines of a cell's levels.
+/// The lines of a cell's levels, from 0 to its own.
 pub fn level_lines(alloc: Global, cell: &Cell) -> Result<Vec<u8>, NoMemory>
-    ensures { IfOk result (λ text. text.items ≡ level_lines cell.now (mask cell.now)) }
+    ensures { IfOk result (λ text. text.items ≡ level_lines cell.now (level_of (mask cell.now))) }
 {
     let mut lines = level_line(alloc, cell, 0)?;
-    'levels: for level in 0..u32::from(cell.mask()) {
+    'levels: for level in 0..cell.level() {
         lines.extend_from_slice(&level_line(alloc, cell, level + 1)?)?;
     }
     Ok(lines)

@@ -2,14 +2,21 @@
 #![tactic(auto)]
 
 mod answer;
-mod command;
+mod bag;
+mod cell;
+mod flat_form;
+mod form;
+mod hash;
 mod kind_lines;
+mod kinds;
 mod laws;
 mod lines;
-mod load;
+mod read;
+mod refusal;
 mod run;
-mod schema;
+mod schema_text;
 mod status;
+mod type_word;
 
 use run::run;
 use status::Status;

@@ -105,7 +105,7 @@ short-turn files place d contents all bytes less whole fits others rest short =
     let P : List FileName → Type 0 = λ xs. AreShort xs (bytes.items ∷ rest) in
     let Q : List (List ℕ) → Type 0 = λ xs. AreShort (files_by files) xs in
     let same : contents_of contents ++ bytes.items ∷ rest ≡ contents_of all ++ rest =
-        sym (append_assoc (contents_of contents) (bytes.items ∷ []) rest) ∙ ap (λ xs. xs ++ rest) (sym (ap contents_of whole ∙ map_push bytes_of contents bytes)) in
+    sym (append_assoc (contents_of contents) (bytes.items ∷ []) rest) ∙ ap (λ xs. xs ++ rest) (sym (ap contents_of whole ∙ map_push bytes_of contents bytes)) in
     subst Q same (others (bytes.items ∷ rest) (subst P (sym (files-cons files place d less)) (fits, short)))
 
 -- it is what is held
@@ -120,7 +120,7 @@ holds-turn held files place d contents all bytes less whole fits same others res
     let P : List FileName → Type 0 = λ xs. IsLoading held xs (with_bytes bytes.items rest) in
     let Q : Loading → Type 0 = λ x. IsLoading held (files_by files) x in
     let one : after (contents_of contents) (with_bytes bytes.items rest) ≡ after (contents_of all) rest =
-        sym (ap (λ xs. after xs rest) (ap contents_of whole ∙ map_push bytes_of contents bytes) ∙ after-one (contents_of contents) bytes.items rest) in
+    sym (ap (λ xs. after xs rest) (ap contents_of whole ∙ map_push bytes_of contents bytes) ∙ after-one (contents_of contents) bytes.items rest) in
     subst Q one (others (with_bytes bytes.items rest) (subst P (sym (files-cons files place d less)) (IsLoading-file held file next bytes.items rest same fits is)))
 
 -- a file that is too long

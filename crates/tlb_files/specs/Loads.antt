@@ -16,7 +16,8 @@ pub record OpensLast (files : List FileName) (before now : Counts) (file : FileN
   pub opens : Opens files (place + 1) before now
 
 -- each file was opened, and no call failed
-pub record LoadsAll (held : Option Files) (files : List FileName) (before now : Counts) (contents : List (List ℕ)) : Type 0 where
+pub record LoadsAll (held : Option Files) (files : List FileName) (before now : Counts)
+    (contents : List (List ℕ)) : Type 0 where
   pub opens : Opens files (length files) before now
   pub calm : now.faults ≡ before.faults
   pub short : AreShort files contents
@@ -28,7 +29,8 @@ pub record Fails (files : List FileName) (before now : Counts) (file : FileName)
   pub rose : Rose before.faults now.faults
 
 -- the reads of this file gave more than its limit, and no call failed
-pub record IsTooLong (held : Option Files) (files : List FileName) (before now : Counts) (file : FileName) : Type 0 where
+pub record IsTooLong (held : Option Files) (files : List FileName) (before now : Counts)
+    (file : FileName) : Type 0 where
   pub last : OpensLast files before now file
   pub more : file.limit < now.given
   pub calm : now.faults ≡ before.faults

@@ -66,10 +66,12 @@ fn load<H: Shelf>(
     ensures reads { RoseAtMost (H.given shelf.new + 1) (H.reads shelf.old) (H.reads shelf.new) }
     ensures taken { H.given shelf.new ≤ limit + 1 }
     ensures short { IfOk result (λ bytes. length bytes.items ≤ limit) }
-    ensures bytes { IfOk result (λ bytes. IfSome (reported_at (H.held shelf.old) name.now) (λ held. bytes.items ≡ held)) }
+    ensures bytes { IfOk result (λ bytes. IfSome (reported_at (H.held shelf.old) name.now)
+        (λ held. bytes.items ≡ held)) }
     ensures given { IfOk result (λ bytes. H.given shelf.new ≡ length bytes.items) }
     ensures too_long { IsErrOf result FileError.TooLong → limit < H.given shelf.new }
-    ensures held_long { IsErrOf result FileError.TooLong → IfSome (reported_at (H.held shelf.old) name.now) (λ held. limit < length held) }
+    ensures held_long { IsErrOf result FileError.TooLong → IfSome (reported_at (H.held shelf.old) name.now)
+        (λ held. limit < length held) }
     ensures fault { IsErrOf result FileError.Fault → Rose (H.faults shelf.old) (H.faults shelf.new) }
     ensures calm { (IsErrOf result FileError.Fault → ⊥) → H.faults shelf.new ≡ H.faults shelf.old }
 {

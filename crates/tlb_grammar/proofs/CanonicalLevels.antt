@@ -1,18 +1,18 @@
 -- The levels that lexemes open, told by the lexemes alone: no derivation opens fewer, and a canonical text opens so
 -- many.
-use Rattle.std.proofs.Common.{◌≡◌, ◌≤◌, ◌+◌, suc, max, sym, refl, subst, ℕ, List, [], ◌∷◌, length, Option, Some, None, arith}
+use Rattle.std.proofs.Common.{◌≡◌, ◌≤◌, ◌+◌, suc, max, sym, refl, subst, Bool, true, false, ℕ, List, [], ◌∷◌, length, Option, Some, None, arith}
 use Rattle.nat_solver.specs.declared.compare.Op.{Op}
 use Rattle.nat_solver.specs.declared.compare.Op.TheVariants.{Eq, Lt, Le, Gt, Ge}
 use Rattle.tlb_syntax.specs.declared.tree.ParamKind.{ParamKind}
 use Rattle.tlb_syntax.specs.declared.tree.ParamKind.TheVariants.{Nat, Ty}
 use Rattle.tlb_syntax.specs.declared.sign.Sign.{Sign}
-use Rattle.tlb_syntax.specs.declared.sign.Sign.TheVariants.{Hash, HashHash, HashLess, HashLessEqual, Colon, Semicolon, Equal, OpenParen, CloseParen, OpenBrace, CloseBrace, OpenBracket, CloseBracket, Caret, Tilde, Question, Dot, Asterisk, Plus}
+use Rattle.tlb_syntax.specs.declared.sign.Sign.TheVariants.{Hash, HashHash, HashLess, HashLessEqual, Colon, Semicolon, Equal, OpenParen, CloseParen, OpenBrace, CloseBrace, OpenBracket, CloseBracket, Caret, Tilde, Question, Dot, Asterisk, Plus, Bang}
 use Rattle.tlb_syntax.specs.Lexeme.{Lexeme, word, blank, number, tag, sign, other}
 use Rattle.tlb_syntax.specs.Tree.{ExprView, ExprList, ItemView, ItemList, TypeView, TagView, ConstructorView, SchemaView, lit, named, nat32, bits, below, up_to, plus, star, out, ref, group, no_exprs, an_expr, plain, when, when_bit, implicit, check, explicit, no_items, an_item, computed, given}
 use Rattle.tlb_syntax.specs.Written.{standard}
-use Rattle.tlb_syntax.specs.Grammar.{Count, Bounds, Spends, freely, one_less, Compares, equal, less, less_equal, greater, greater_equal, Heads, by_name, by_blank, Tagged, tagged, untagged, Term, Terms, Apply, Product, Sum, Addends, Typed, AnItem, Items, Params, Declaration, Declarations, a_number, a_name, a_hash, an_output, a_reference, a_paren, a_record, no_terms, a_term, of_name, of_bits, of_below, of_up_to, of_term, one_factor, two_factors, a_sum, no_addend, an_addend, always, on_number, on_bit, of_numbers, of_types, a_check, a_field, a_bare_field, no_item, one_item, no_param, a_param, a_declaration, no_declaration, one_more}
+use Rattle.tlb_syntax.specs.Grammar.{Count, Bounds, Spends, freely, one_less, Compares, equal, less, less_equal, greater, greater_equal, Heads, by_name, by_blank, Tagged, tagged, untagged, Term, Terms, Apply, Product, Sum, Addends, Typed, AnItem, Items, Params, Declared, Declaration, Declarations, a_number, a_name, a_hash, an_output, a_reference, a_paren, a_record, no_terms, a_term, of_name, of_bits, of_below, of_up_to, of_term, one_factor, two_factors, a_sum, no_addend, an_addend, always, on_number, on_bit, of_numbers, of_types, a_check, a_field, a_bare_field, no_item, one_item, no_param, a_param, a_declaration, of_ordinary, of_exotic, no_declaration, one_more}
 use Rattle.tlb_grammar.specs.Canonical.{expr_levels, exprs_levels, type_levels, item_levels, items_levels, constructor_levels}
-use Rattle.tlb_grammar.proofs.CanonicalTrees.{head, comparing, kind_lexeme, marked, expr_before, exprs_before, type_before, item_before, items_before, constructor_before}
+use Rattle.tlb_grammar.proofs.CanonicalTrees.{head, comparing, kind_lexeme, marked, expr_before, exprs_before, type_before, item_before, items_before, exotic_before, constructor_before}
 
 -- what is open: brackets until they are closed, and prefixes until their term ends
 data Open : Type 0 where
@@ -175,12 +175,17 @@ tag_peak : {s : List Lexeme} {t : TagView} {r : List Lexeme} → Tagged s t r �
 tag_peak tagged n p = let most = p.most in record { most = omega arith }
 tag_peak untagged n p = p
 
-declaration_peak : {m : Bounds} {s : List Lexeme} {c : ConstructorView} {r : List Lexeme} → Declaration m s c r
-    → (n : ℕ) → Room m.levels [] n → Fits n [] r → Fits n [] s
-declaration_peak {m = m} (a_declaration {h = l} o t is ps) n h p =
+declared_peak : {m : Bounds} {exotic : Bool} {s : List Lexeme} {c : ConstructorView} {r : List Lexeme}
+    → Declared m exotic s c r → (n : ℕ) → Room m.levels [] n → Fits n [] r → Fits n [] s
+declared_peak {m = m} (a_declaration {h = l} o t is ps) n h p =
     next m.levels [] n h (along [] (after l []) (headed_peak o [] refl)
     (tag_peak t n (items_peak is n [] refl h
     (next m.levels [] n h (next m.levels [] n h (params_peak ps n h (next m.levels [] n h p)))))))
+
+declaration_peak : {m : Bounds} {s : List Lexeme} {c : ConstructorView} {r : List Lexeme} → Declaration m s c r
+    → (n : ℕ) → Room m.levels [] n → Fits n [] r → Fits n [] s
+declaration_peak (of_ordinary d) n h p = declared_peak d n h p
+declaration_peak {m = m} (of_exotic d) n h p = next m.levels [] n h (declared_peak d n h p)
 
 -- no more than the bound is open at once
 declarations_peak : {m : Bounds} {s : List Lexeme} {cs : SchemaView} → Declarations m s cs → (n : ℕ)
@@ -359,13 +364,17 @@ tag_reach : (t : TagView) {k : ℕ} {s r : List Lexeme} → Reach [] [] k s r �
 tag_reach computed p = p
 tag_reach (given b) p = skip {l = tag (Some b)} refl p
 
+exotic_reach : (b : Bool) {k : ℕ} {s r : List Lexeme} → Reach [] [] k s r → Reach [] [] k (exotic_before b s) r
+exotic_reach false p = p
+exotic_reach true p = skip {l = sign Bang} refl p
+
 constructor_reach : (c : ConstructorView) (r : List Lexeme)
     → Reach [] [] (constructor_levels c) (constructor_before c r) (sign Semicolon ∷ r)
 constructor_reach c r =
-    skip {l = head c.name} (head_same c.name [] refl)
+    exotic_reach c.exotic (skip {l = head c.name} (head_same c.name [] refl)
     (tag_reach c.tag (chain
     (items_reach c.items [] (sign Equal ∷ word c.result ∷ exprs_before c.params (sign Semicolon ∷ r)) refl)
-    (skip {l = sign Equal} refl (skip {l = word c.result} refl (exprs_reach c.params [] (sign Semicolon ∷ r) refl)))))
+    (skip {l = sign Equal} refl (skip {l = word c.result} refl (exprs_reach c.params [] (sign Semicolon ∷ r) refl))))))
 
 -- what derives the lexemes of a canonical text has room for its levels
 pub levels_within : (c : ConstructorView) (s : SchemaView) → Declarations standard (constructor_before c []) s

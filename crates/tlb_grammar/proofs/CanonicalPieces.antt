@@ -1,5 +1,5 @@
 -- The canonical text of a tree that texts write is made of tokens and single spaces.
-use Rattle.std.proofs.Common.{◌≡◌, ◌≤◌, ◌<◌, ◌+◌, ◌-◌, ◌^◌, sym, ap, refl, subst, ◌∙◌, rules, false, ℕ, true, List, [], ◌∷◌, ◌++◌, map, length, Option, Some, None, if◌then◌else◌, append_assoc, arith, nat_lt, not, codes}
+use Rattle.std.proofs.Common.{◌≡◌, ◌≤◌, ◌<◌, ◌+◌, ◌-◌, ◌^◌, sym, ap, refl, subst, ◌∙◌, rules, Bool, false, ℕ, true, List, [], ◌∷◌, ◌++◌, map, length, Option, Some, None, if◌then◌else◌, append_assoc, arith, nat_lt, not, codes}
 use Rattle.std.specs.Prelude.{decimal}
 use Rattle.std.specs.List.{list_all}
 use Rattle.std.proofs.lemmas.Fmt.{digits_decimal, decimal_nonempty, digits_value-decimal}
@@ -19,13 +19,13 @@ use Rattle.tlb_lexer.proofs.Spelled.{sign_longest}
 use Rattle.tlb_syntax.specs.declared.tree.ParamKind.{ParamKind}
 use Rattle.tlb_syntax.specs.declared.tree.ParamKind.TheVariants.{Nat, Ty}
 use Rattle.tlb_syntax.specs.declared.sign.Sign.{Sign}
-use Rattle.tlb_syntax.specs.declared.sign.Sign.TheVariants.{Hash, HashHash, HashLess, HashLessEqual, Colon, Semicolon, Equal, OpenParen, CloseParen, OpenBrace, CloseBrace, OpenBracket, CloseBracket, Caret, Tilde, Question, Dot, Asterisk, Plus, Less, LessEqual, Greater, GreaterEqual}
+use Rattle.tlb_syntax.specs.declared.sign.Sign.TheVariants.{Hash, HashHash, HashLess, HashLessEqual, Colon, Semicolon, Equal, OpenParen, CloseParen, OpenBrace, CloseBrace, OpenBracket, CloseBracket, Caret, Tilde, Question, Dot, Asterisk, Plus, Less, LessEqual, Greater, GreaterEqual, Bang}
 use Rattle.tlb_syntax.specs.Lexeme.{Lexeme, word, blank, number, tag, sign, meaning, decimal_onto, number_of, binary_bits, at_most_1023}
 use Rattle.tlb_syntax.specs.Tree.{ExprView, ExprList, ItemView, ItemList, TypeView, TagView, ConstructorView, lit, named, nat32, bits, below, up_to, plus, star, out, ref, group, no_exprs, an_expr, plain, when, when_bit, implicit, check, explicit, no_items, an_item, computed, given}
-use Rattle.tlb_syntax.specs.Text.{name_text, kind_text, op_text, tag_text, expr_text, spaced, type_text, item_text, spaced_items, constructor_text}
+use Rattle.tlb_syntax.specs.Text.{exotic_text, name_text, kind_text, op_text, tag_text, expr_text, spaced, type_text, item_text, spaced_items, constructor_text}
 use Rattle.tlb_grammar.proofs.Pieces.{both, Pieces, no_piece, a_space, a_token}
 use Rattle.tlb_grammar.proofs.PiecesLongest.{is_inner, stops, longest_before}
-use Rattle.tlb_grammar.proofs.CanonicalTrees.{IsWord, IsMark, IsWordOrBlank, IsTag, IsExpr, AreExprs, IsType, IsItem, AreItems, IsConstructor, head, comparing, kind_lexeme, marked, expr_before, exprs_before, type_before, item_before, items_before, constructor_before}
+use Rattle.tlb_grammar.proofs.CanonicalTrees.{IsWord, IsMark, IsWordOrBlank, IsTag, IsExpr, AreExprs, IsType, IsItem, AreItems, IsConstructor, head, comparing, kind_lexeme, marked, expr_before, exprs_before, type_before, item_before, items_before, exotic_before, constructor_before}
 
 -- ---- parts of texts, with what puts their lexemes in front
 
@@ -323,11 +323,16 @@ mutual
 -- ---- constructors
 
 abbrev unended : ConstructorView → List Lexeme → List Lexeme
-unended c ls = head c.name ∷ marked c.tag (items_before c.items (sign Equal ∷ word c.result ∷ exprs_before c.params ls))
+unended c ls = exotic_before c.exotic
+    (head c.name ∷ marked c.tag (items_before c.items (sign Equal ∷ word c.result ∷ exprs_before c.params ls)))
+
+exotic_free : (b : Bool) → Free (exotic_text b) (exotic_before b)
+exotic_free true = mark 33 Bang refl refl
+exotic_free false = record { goes = λ text ls p. p }
 
 constructor_part : (c : ConstructorView) → IsConstructor c → Part (constructor_text c) (unended c)
 constructor_part c p =
-    let marked_name = part_then (head_part c.name p.name) (tag_ends c.tag) (tag_part c.tag p.tag) in
+    let marked_name = part_then (free_then (exotic_free c.exotic) (head_part c.name p.name)) (tag_ends c.tag) (tag_part c.tag p.tag) in
     let with_items = part_then marked_name (items_end c.items) (items_part c.items p.items) in
     let with_result = free_then (broken with_items (between 61 Equal refl refl)) (word_part c.result p.result) in
     part_then with_result (spaced_ends c.params) (exprs_part c.params p.params)

@@ -1,10 +1,10 @@
 -- The trees that the lexemes of a text write.
-use Rattle.std.proofs.Common.{◌≡◌, ◌≤◌, ◌<◌, suc, zero, refl, subst, ℕ, List, [], ◌∷◌, length, Option, Some, None, arith}
+use Rattle.std.proofs.Common.{◌≡◌, ◌≤◌, ◌<◌, suc, zero, refl, subst, Bool, ℕ, List, [], ◌∷◌, length, Option, Some, None, arith}
 use Rattle.std.specs.Prelude.{slice_index_or}
 use Rattle.tlb_syntax.specs.Lexeme.{Lexeme}
 use Rattle.tlb_syntax.specs.Tree.{ExprView, ExprList, ItemView, ItemList, TypeView, TagView, ConstructorView, SchemaView}
 use Rattle.tlb_syntax.specs.Written.{standard}
-use Rattle.tlb_syntax.specs.Grammar.{Count, Bounds, Spends, freely, one_less, Heads, by_name, by_blank, Tagged, tagged, untagged, Term, Terms, Apply, Product, Sum, Addends, Typed, AnItem, Items, Params, Declaration, Declarations, a_number, a_name, a_hash, an_output, a_reference, a_paren, a_record, no_terms, a_term, of_name, of_bits, of_below, of_up_to, of_term, one_factor, two_factors, a_sum, no_addend, an_addend, always, on_number, on_bit, of_numbers, of_types, a_check, a_field, a_bare_field, no_item, one_item, no_param, a_param, a_declaration, no_declaration, one_more}
+use Rattle.tlb_syntax.specs.Grammar.{Count, Bounds, Spends, freely, one_less, Heads, by_name, by_blank, Tagged, tagged, untagged, Term, Terms, Apply, Product, Sum, Addends, Typed, AnItem, Items, Params, Declared, Declaration, Declarations, a_number, a_name, a_hash, an_output, a_reference, a_paren, a_record, no_terms, a_term, of_name, of_bits, of_below, of_up_to, of_term, one_factor, two_factors, a_sum, no_addend, an_addend, always, on_number, on_bit, of_numbers, of_types, a_check, a_field, a_bare_field, no_item, one_item, no_param, a_param, a_declaration, of_ordinary, of_exotic, no_declaration, one_more}
 use Rattle.tlb_grammar.specs.Canonical.{IsWritten}
 use Rattle.tlb_grammar.proofs.CanonicalTrees.{IsWordOrBlank, IsTag, exprs_count, items_count, IsExpr, AreExprs, IsType, IsItem, AreItems, IsConstructor}
 use Rattle.tlb_grammar.proofs.CanonicalWritten.{Within}
@@ -104,9 +104,9 @@ tag_proper : {s : List Lexeme} {t : TagView} {r : List Lexeme} → Tagged s t r 
 tag_proper tagged p = (p.0, p.1)
 tag_proper untagged p = (tt, p)
 
-declaration_proper : {s : List Lexeme} {c : ConstructorView} {r : List Lexeme} → Declaration standard s c r → AreMeant s
-    → IsConstructor c × AreMeant r
-declaration_proper (a_declaration h t is ps) p =
+declared_proper : {exotic : Bool} {s : List Lexeme} {c : ConstructorView} {r : List Lexeme}
+    → Declared standard exotic s c r → AreMeant s → IsConstructor c × AreMeant r
+declared_proper (a_declaration h t is ps) p =
     let mark = tag_proper t p.1 in
     let inside = items_proper is refl mark.1 in
     let behind = params_proper ps refl inside.2.1.1 in (
@@ -122,6 +122,11 @@ declaration_proper (a_declaration h t is ps) p =
       },
       behind.2.1,
     )
+
+declaration_proper : {s : List Lexeme} {c : ConstructorView} {r : List Lexeme} → Declaration standard s c r → AreMeant s
+    → IsConstructor c × AreMeant r
+declaration_proper (of_ordinary d) p = declared_proper d p
+declaration_proper (of_exotic d) p = declared_proper d p.1
 
 abbrev AreConstructors : SchemaView → Type 0
 AreConstructors [] = Unit {0}

@@ -1,5 +1,5 @@
 -- The trees that texts write, and the lexemes of their canonical texts.
-use Rattle.std.proofs.Common.{ℕ, suc, ◌≡◌, ◌<◌, ◌≤◌, ◌^◌, true, List, ◌∷◌, length, Option, Some, None, if◌then◌else◌, codes}
+use Rattle.std.proofs.Common.{ℕ, suc, ◌≡◌, ◌<◌, ◌≤◌, ◌^◌, Bool, true, false, List, ◌∷◌, length, Option, Some, None, if◌then◌else◌, codes}
 use Rattle.bit_slice.specs.Bits.{AreBits}
 use Rattle.nat_solver.specs.declared.compare.Op.{Op}
 use Rattle.nat_solver.specs.declared.compare.Op.TheVariants.{Eq, Lt, Le, Gt, Ge}
@@ -8,7 +8,7 @@ use Rattle.tlb_lexer.specs.Cut.{longest_name}
 use Rattle.tlb_syntax.specs.declared.tree.ParamKind.{ParamKind}
 use Rattle.tlb_syntax.specs.declared.tree.ParamKind.TheVariants.{Nat, Ty}
 use Rattle.tlb_syntax.specs.declared.sign.Sign.{Sign}
-use Rattle.tlb_syntax.specs.declared.sign.Sign.TheVariants.{Hash, HashHash, HashLess, HashLessEqual, Colon, Semicolon, Equal, OpenParen, CloseParen, OpenBrace, CloseBrace, OpenBracket, CloseBracket, Caret, Tilde, Question, Dot, Asterisk, Plus, Less, LessEqual, Greater, GreaterEqual}
+use Rattle.tlb_syntax.specs.declared.sign.Sign.TheVariants.{Hash, HashHash, HashLess, HashLessEqual, Colon, Semicolon, Equal, OpenParen, CloseParen, OpenBrace, CloseBrace, OpenBracket, CloseBracket, Caret, Tilde, Question, Dot, Asterisk, Plus, Less, LessEqual, Greater, GreaterEqual, Bang}
 use Rattle.tlb_syntax.specs.Lexeme.{Lexeme, word, blank, number, tag, sign}
 use Rattle.tlb_syntax.specs.Tree.{ExprView, ExprList, ItemView, ItemList, TypeView, TagView, ConstructorView, lit, named, nat32, bits, below, up_to, plus, star, out, ref, group, no_exprs, an_expr, plain, when, when_bit, implicit, check, explicit, no_items, an_item, computed, given}
 use Rattle.tlb_syntax.specs.Text.{are_none}
@@ -142,7 +142,11 @@ abbrev mutual
   items_before no_items r = r
   items_before (an_item i is) r = item_before i (items_before is r)
 
+abbrev pub exotic_before : Bool → List Lexeme → List Lexeme
+exotic_before true r = sign Bang ∷ r
+exotic_before false r = r
+
 abbrev pub constructor_before : ConstructorView → List Lexeme → List Lexeme
 constructor_before c r =
-    head c.name ∷ marked c.tag
-    (items_before c.items (sign Equal ∷ word c.result ∷ exprs_before c.params (sign Semicolon ∷ r)))
+    exotic_before c.exotic (head c.name ∷ marked c.tag
+    (items_before c.items (sign Equal ∷ word c.result ∷ exprs_before c.params (sign Semicolon ∷ r))))

@@ -1,5 +1,5 @@
 -- The lexemes of a canonical text are derived from the tree by the productions.
-use Rattle.std.proofs.Common.{ℕ, zero, suc, max, ◌≤◌, List, [], ◌∷◌, Option, Some, None, arith}
+use Rattle.std.proofs.Common.{ℕ, zero, suc, max, ◌≤◌, Bool, true, false, List, [], ◌∷◌, Option, Some, None, arith}
 use Rattle.nat_solver.specs.declared.compare.Op.{Op}
 use Rattle.nat_solver.specs.declared.compare.Op.TheVariants.{Eq, Lt, Le, Gt, Ge}
 use Rattle.tlb_syntax.specs.declared.tree.ParamKind.{ParamKind}
@@ -9,9 +9,9 @@ use Rattle.tlb_syntax.specs.declared.sign.Sign.TheVariants.{HashHash, HashLess, 
 use Rattle.tlb_syntax.specs.Lexeme.{Lexeme, sign}
 use Rattle.tlb_syntax.specs.Tree.{ExprView, ExprList, ItemView, ItemList, TypeView, TagView, ConstructorView, lit, named, nat32, bits, below, up_to, plus, star, out, ref, group, no_exprs, an_expr, plain, when, when_bit, implicit, check, explicit, no_items, an_item, computed, given}
 use Rattle.tlb_syntax.specs.Written.{bounds}
-use Rattle.tlb_syntax.specs.Grammar.{Count, Bounds, Spends, freely, one_less, Compares, equal, less, less_equal, greater, greater_equal, Heads, by_name, by_blank, Tagged, tagged, untagged, Term, Terms, Apply, Sum, Typed, AnItem, Items, Params, Declaration, Declarations, a_number, a_name, a_hash, an_output, a_reference, a_paren, a_record, no_terms, a_term, of_name, of_bits, of_below, of_up_to, of_term, one_factor, two_factors, a_sum, no_addend, an_addend, always, on_number, on_bit, of_numbers, of_types, a_check, a_field, no_item, one_item, no_param, a_param, a_declaration, no_declaration, one_more}
+use Rattle.tlb_syntax.specs.Grammar.{Count, Bounds, Spends, freely, one_less, Compares, equal, less, less_equal, greater, greater_equal, Heads, by_name, by_blank, Tagged, tagged, untagged, Term, Terms, Apply, Sum, Typed, AnItem, Items, Params, Declared, Declaration, Declarations, a_number, a_name, a_hash, an_output, a_reference, a_paren, a_record, no_terms, a_term, of_name, of_bits, of_below, of_up_to, of_term, one_factor, two_factors, a_sum, no_addend, an_addend, always, on_number, on_bit, of_numbers, of_types, a_check, a_field, no_item, one_item, no_param, a_param, a_declaration, of_ordinary, of_exotic, no_declaration, one_more}
 use Rattle.tlb_grammar.specs.Canonical.{expr_levels, exprs_levels, type_levels, item_levels, items_levels, constructor_levels}
-use Rattle.tlb_grammar.proofs.CanonicalTrees.{HasOne, exprs_count, items_count, IsExpr, AreExprs, IsType, IsItem, AreItems, IsConstructor, head, comparing, marked, expr_before, exprs_before, type_before, item_before, items_before, constructor_before}
+use Rattle.tlb_grammar.proofs.CanonicalTrees.{HasOne, exprs_count, items_count, IsExpr, AreExprs, IsType, IsItem, AreItems, IsConstructor, head, comparing, marked, expr_before, exprs_before, type_before, item_before, items_before, exotic_before, constructor_before}
 
 -- so many are within the count
 abbrev pub Within : Count → ℕ → Type 0
@@ -168,14 +168,19 @@ tag_written : (t : TagView) (r : List Lexeme) → Tagged (marked t r) t r
 tag_written computed r = untagged
 tag_written (given b) r = tagged
 
+as_declaration : (exotic : Bool) {m : Bounds} {s : List Lexeme} {c : ConstructorView} {r : List Lexeme}
+    → Declared m exotic s c r → Declaration m (exotic_before exotic s) c r
+as_declaration false d = of_ordinary d
+as_declaration true d = of_exotic d
+
 declaration_written : (c : ConstructorView) (top : Count) (r : List Lexeme) → IsConstructor c
     → Within top (constructor_levels c) → Declaration (leveled top) (constructor_before c r) c r
 declaration_written c top r p w =
     let i = in_left top (items_levels c.items) (exprs_levels c.params) w in
     let q = in_right top (items_levels c.items) (exprs_levels c.params) w in
-    a_declaration (headed c.name) (tag_written c.tag _)
+    as_declaration c.exotic (a_declaration (headed c.name) (tag_written c.tag _)
     (items_written c.items top top (Some 255) _ p.items i p.few_items)
-    (params_written c.params top (Some 8) _ p.params q p.few_params)
+    (params_written c.params top (Some 8) _ p.params q p.few_params))
 
 -- the lexemes of the canonical text and a semicolon derive the constructor
 pub canonical_written : (c : ConstructorView) (top : Count) → IsConstructor c → Within top (constructor_levels c)

@@ -1,9 +1,9 @@
 -- Single steps of the machine, from modes that stand behind the same.
-use Rattle.std.proofs.Common.{◌≡◌, ℕ, List, [], ◌∷◌, ◌++◌, Option, Some, None, refl, ap}
+use Rattle.std.proofs.Common.{◌≡◌, ℕ, Bool, true, false, List, [], ◌∷◌, ◌++◌, Option, Some, None, refl, ap}
 use Rattle.std.specs.Prelude.{codes}
 use Rattle.nat_solver.specs.declared.compare.Op.{Op}
 use Rattle.tlb_syntax.specs.declared.sign.Sign.{Sign}
-use Rattle.tlb_syntax.specs.declared.sign.Sign.TheVariants.{Hash, HashHash, HashLess, HashLessEqual, Colon, Semicolon, Equal, OpenParen, CloseParen, OpenBrace, CloseBrace, OpenBracket, CloseBracket, Caret, Tilde, Question, Dot, Asterisk, Plus}
+use Rattle.tlb_syntax.specs.declared.sign.Sign.TheVariants.{Hash, HashHash, HashLess, HashLessEqual, Colon, Semicolon, Equal, OpenParen, CloseParen, OpenBrace, CloseBrace, OpenBracket, CloseBracket, Caret, Tilde, Question, Dot, Asterisk, Plus, Bang}
 use Rattle.tlb_syntax.specs.declared.tree.ParamKind.TheVariants.{Nat, Ty}
 use Rattle.tlb_syntax.specs.declared.tree.Expr.{Expr}
 use Rattle.tlb_syntax.specs.declared.tree.Expr.TheVariants as exprs
@@ -17,6 +17,7 @@ use Rattle.tlb_syntax.specs.Lexeme.{Lexeme, word, number, tag, sign}
 use Rattle.tlb_syntax.specs.Tree.{ExprView, TypeView}
 use Rattle.tlb_syntax.specs.Grammar.{Count, Bounds, Compares, equal, less, less_equal, greater, greater_equal, Heads, by_name, by_blank, Term, Typed, a_number, a_name, a_hash, an_output, a_reference, a_paren, a_record, always, on_number, on_bit}
 use Rattle.tlb_grammar.specs.declared.state.OpenSum.{OpenSum}
+use Rattle.tlb_grammar.specs.declared.state.Heading.{Heading}
 use Rattle.tlb_grammar.specs.declared.state.Width.{Width}
 use Rattle.tlb_grammar.specs.declared.state.Width.TheVariants as widths
 use Rattle.tlb_grammar.specs.declared.state.Guard.{Guard}
@@ -26,7 +27,7 @@ use Rattle.tlb_grammar.specs.declared.state.Mode.TheVariants as modes
 use Rattle.tlb_grammar.specs.declared.state.Frame.{Frame}
 use Rattle.tlb_grammar.specs.declared.state.Frame.TheVariants as frames
 use Rattle.tlb_grammar.specs.Builder as builder
-use Rattle.tlb_grammar.specs.Builder.{step_mode, given, held, term, term_sign, width, apply, operated, operated_sign, ends_sum, compared, comparison, applied, applied_sign, items, items_sign, tag_behind, typed, named, named_blank, bit_of, bit_end, kind, kind_end, result_of, params, start, is_paren, is_record, left_of, right_of, heading_of}
+use Rattle.tlb_grammar.specs.Builder.{head, step_mode, given, held, term, term_sign, width, apply, operated, operated_sign, ends_sum, compared, comparison, applied, applied_sign, items, items_sign, tag_behind, typed, named, named_blank, bit_of, bit_end, kind, kind_end, result_of, params, start, is_paren, is_record, left_of, right_of, heading_of}
 use Rattle.tlb_grammar.specs.Builder.{State, at, run, no_sum, factored, times, added, whole, closed, limited, with_item, with_field, with_result}
 
 -- what is left is gone through from the state that is reached, if one is
@@ -139,12 +140,12 @@ bracket_goes after_items s under cs = refl
 bracket_goes after_field s under cs = refl
 bracket_goes after_name s under cs = refl
 
-pub equal_goes : {done : List Item} {mode : Mode} → StandsAfter done mode → (name : Option (List ℕ)) (mark : Tag) (x : List ℕ) (s : List Lexeme) (under : List Frame) (cs : List Constructor)
-    → run (at mode (frames.Declaration name mark ∷ under) cs) (sign Equal ∷ word x ∷ s) ≡ run (at (modes.Params (with_result name mark done x)) under cs) s
+pub equal_goes : {done : List Item} {mode : Mode} → StandsAfter done mode → (heading : Heading) (x : List ℕ) (s : List Lexeme) (under : List Frame) (cs : List Constructor)
+    → run (at mode (frames.Declaration heading ∷ under) cs) (sign Equal ∷ word x ∷ s) ≡ run (at (modes.Params (with_result heading done x)) under cs) s
 unfolding step_mode typed named items items_sign heading_of result_of
-equal_goes after_items name mark x s under cs = refl
-equal_goes after_field name mark x s under cs = refl
-equal_goes after_name name mark x s under cs = refl
+equal_goes after_items heading x s under cs = refl
+equal_goes after_field heading x s under cs = refl
+equal_goes after_name heading x s under cs = refl
 
 -- ---- the lexemes that begin a term
 
@@ -347,16 +348,29 @@ pub types_goes : (x : List ℕ) (r : List Lexeme) (done : List Item) (under : Li
 unfolding step_mode apply applied applied_sign left_of kind kind_end
 types_goes x r done under cs = refl
 
-pub start_goes : {h : Lexeme} {name : Option (List ℕ)} → Heads h name → (s : List Lexeme) (under : List Frame) (cs : List Constructor)
-    → run (at modes.Start under cs) (h ∷ s) ≡ run (at (modes.Items []) (frames.Declaration name Computed ∷ under) cs) s
-unfolding step_mode start
-start_goes by_name s under cs = refl
-start_goes by_blank s under cs = refl
+-- where a name is wanted: between declarations, or behind a `!`
+pub data Naming : Bool → Mode → Type 0 where
+  at_start : Naming false modes.Start
+  at_mark : Naming true modes.Marked
 
-pub tag_goes : (b : List ℕ) (s : List Lexeme) (name : Option (List ℕ)) (under : List Frame) (cs : List Constructor)
-    → run (at (modes.Items []) (frames.Declaration name Computed ∷ under) cs) (tag (Some b) ∷ s) ≡ run (at (modes.Items []) (frames.Declaration name (Given b) ∷ under) cs) s
+pub start_goes : {exotic : Bool} {mode : Mode} {h : Lexeme} {name : Option (List ℕ)} → Naming exotic mode → Heads h name → (s : List Lexeme) (under : List Frame) (cs : List Constructor)
+    → run (at mode under cs) (h ∷ s) ≡ run (at (modes.Items []) (frames.Declaration (builder.untagged exotic name) ∷ under) cs) s
+unfolding step_mode start head
+start_goes at_start by_name s under cs = refl
+start_goes at_start by_blank s under cs = refl
+start_goes at_mark by_name s under cs = refl
+start_goes at_mark by_blank s under cs = refl
+
+pub bang_goes : (s : List Lexeme) (under : List Frame) (cs : List Constructor)
+    → run (at modes.Start under cs) (sign Bang ∷ s) ≡ run (at modes.Marked under cs) s
+unfolding step_mode start
+bang_goes s under cs = refl
+
+pub tag_goes : (b : List ℕ) (s : List Lexeme) (exotic : Bool) (name : Option (List ℕ)) (under : List Frame) (cs : List Constructor)
+    → run (at (modes.Items []) (frames.Declaration (builder.untagged exotic name) ∷ under) cs) (tag (Some b) ∷ s)
+    ≡ run (at (modes.Items []) (frames.Declaration (record { exotic = exotic; name = name; tag = Given b }) ∷ under) cs) s
 unfolding step_mode items tag_behind heading_of
-tag_goes b s name under cs = refl
+tag_goes b s exotic name under cs = refl
 
 pub semicolon_goes : (s : List Lexeme) (c : Constructor) (under : List Frame) (cs : List Constructor) → run (at (modes.Params c) under cs) (sign Semicolon ∷ s) ≡ run (at modes.Start under (cs ++ c ∷ [])) s
 unfolding step_mode params

@@ -1,5 +1,5 @@
 -- What is written is built so: one function for each production.
-use Rattle.std.proofs.Common.{◌≡◌, ℕ, List, [], ◌∷◌, ◌++◌, map, Option, Some, None, refl, sym, ap, ◌∙◌, subst, append_assoc}
+use Rattle.std.proofs.Common.{◌≡◌, ℕ, Bool, List, [], ◌∷◌, ◌++◌, map, Option, Some, None, refl, sym, ap, ◌∙◌, subst, append_assoc}
 use Rattle.std.specs.Prelude.{codes}
 use Rattle.std.proofs.lemmas.List.{append-nil}
 use Rattle.tlb_syntax.specs.declared.sign.Sign.{Sign}
@@ -18,17 +18,20 @@ use Rattle.tlb_syntax.specs.Lexeme.{Lexeme, word, sign}
 use Rattle.tlb_syntax.specs.Tree.{ExprView, ExprList, ItemView, ItemList, TypeView, TagView, ConstructorView, SchemaView, named, bits, below, up_to, plus, star, out, ref, group, no_exprs, an_expr, plain, when, when_bit, check, explicit, an_item, nested}
 use Rattle.tlb_syntax.specs.View as view
 use Rattle.tlb_grammar.proofs.Views.{lit_seen, named_seen, nat32_seen, bits_seen, below_seen, up_to_seen, sum_seen, star_seen, out_seen, ref_seen, group_seen, plain_seen, when_seen, when_bit_seen, implicit_seen, check_seen, explicit_seen}
-use Rattle.tlb_syntax.specs.Grammar.{Count, Bounds, Tagged, tagged, untagged, Term, Terms, Apply, Product, Sum, Addends, Typed, AnItem, Items, Params, Declaration, Declarations, TypeWord, a_number, a_name, a_hash, an_output, a_reference, a_paren, a_record, no_terms, a_term, of_name, of_bits, of_below, of_up_to, of_term, one_factor, two_factors, a_sum, no_addend, an_addend, always, on_number, on_bit, of_numbers, of_types, a_check, a_field, a_bare_field, no_item, one_item, no_param, a_param, a_declaration, no_declaration, one_more}
+use Rattle.tlb_syntax.specs.Grammar.{Count, Bounds, Tagged, tagged, untagged, Term, Terms, Apply, Product, Sum, Addends, Typed, AnItem, Items, Params, Declared, Declaration, Declarations, TypeWord, a_number, a_name, a_hash, an_output, a_reference, a_paren, a_record, no_terms, a_term, of_name, of_bits, of_below, of_up_to, of_term, one_factor, two_factors, a_sum, no_addend, an_addend, always, on_number, on_bit, of_numbers, of_types, a_check, a_field, a_bare_field, no_item, one_item, no_param, a_param, a_declaration, of_ordinary, of_exotic, no_declaration, one_more}
 use Rattle.tlb_grammar.specs.declared.state.OpenSum.{OpenSum}
 use Rattle.tlb_grammar.specs.declared.state.Width.{Width}
 use Rattle.tlb_grammar.specs.declared.state.Guard.TheVariants as guards
+use Rattle.tlb_grammar.specs.declared.state.Heading.{Heading}
 use Rattle.tlb_grammar.specs.declared.state.Mode.{Mode}
 use Rattle.tlb_grammar.specs.declared.state.Mode.TheVariants as modes
 use Rattle.tlb_grammar.specs.declared.state.Frame.{Frame}
 use Rattle.tlb_grammar.specs.declared.state.Frame.TheVariants as frames
-use Rattle.tlb_grammar.proofs.Goes.{Reaches, both, StandsBehind, StandsTyped, StandsAfter, star_goes, plus_goes, paren_goes, left_goes, right_goes, question_goes, dot_goes, typed_after, brace_goes, head_goes, bracket_goes, equal_goes, begins, type_begins, argument_goes, param_goes, field_goes, number_goes, word_goes, hash_goes, tilde_goes, caret_goes, open_paren_goes, open_bracket_goes, out_given, ref_given, operand_given, argument_given, width_given, field_given, guarded_given, param_given, Opens, operand_goes, bare_goes, name_operand_goes, name_item_goes, Widens, width_goes, numbers_goes, types_goes, start_goes, tag_goes, semicolon_goes, goes, mode_of, behind_name, behind_operand, first_term, first_name, after_items, by_bits, by_below, by_up_to, number_opens, hash_opens, tilde_opens, caret_opens, paren_opens, bracket_opens, gives}
+use Rattle.tlb_grammar.proofs.Goes.{Reaches, both, StandsBehind, StandsTyped, StandsAfter, star_goes, plus_goes, paren_goes, left_goes, right_goes, question_goes, dot_goes, typed_after, brace_goes, head_goes, bracket_goes, equal_goes, begins, type_begins, argument_goes, param_goes, field_goes, number_goes, word_goes, hash_goes, tilde_goes, caret_goes, open_paren_goes, open_bracket_goes, out_given, ref_given, operand_given, argument_given, width_given, field_given, guarded_given, param_given, Opens, operand_goes, bare_goes, name_operand_goes, name_item_goes, Widens, width_goes, numbers_goes, types_goes, start_goes, tag_goes, semicolon_goes, goes, mode_of, behind_name, behind_operand, first_term, first_name, after_items, by_bits, by_below, by_up_to, number_opens, hash_opens, tilde_opens, caret_opens, paren_opens, bracket_opens, gives, Naming, at_start, at_mark, bang_goes}
 use Rattle.tlb_grammar.specs.Builder as builder
-use Rattle.tlb_grammar.specs.Builder.{State, at, run, no_sum, factored, times, added, whole, closed, limited, with_item, with_field, with_result}
+use Rattle.tlb_grammar.specs.declared.state.Terms.{Terms as SumTerms}
+use Rattle.tlb_grammar.specs.declared.state.Terms.TheVariants.{Zero, One, Several}
+use Rattle.tlb_grammar.specs.Builder.{State, at, run, no_sum, factored, times, with_term, added, whole, closed, limited, with_item, with_field, with_result}
 
 -- ---- what a production builds
 
@@ -48,14 +51,14 @@ record OperandBuilt (s : List Lexeme) (e : ExprView) (r : List Lexeme) : Type 0 
   same : view.expr value ≡ e
   reach : (sum : OpenSum) → Reaches (mode_of (modes.Apply sum)) s (StandsBehind sum value) r
 
-abbrev sum_at : List Expr → Option Expr → OpenSum
+abbrev sum_at : SumTerms → Option Expr → OpenSum
 sum_at terms factor = record { terms = terms; factor = factor }
 
 record ProductBuilt (s : List Lexeme) (e : ExprView) (r : List Lexeme) : Type 0 where
   factor : Option Expr
   value : Expr
   same : view.expr (factored factor value) ≡ e
-  reach : (terms : List Expr) → Reaches (mode_of (modes.Apply (sum_at terms None))) s (StandsBehind (sum_at terms factor) value) r
+  reach : (terms : SumTerms) → Reaches (mode_of (modes.Apply (sum_at terms None))) s (StandsBehind (sum_at terms factor) value) r
 
 -- from these states a sum
 record SumBuilt (from : List Frame → List Constructor → State) (s : List Lexeme) (e : ExprView) (r : List Lexeme) : Type 0 where
@@ -162,10 +165,12 @@ nested_last : (t : ExprView) (us : List Expr) (u : Expr) → nested t (map view.
 nested_last t [] u = refl
 nested_last t (v ∷ us) u = nested_last (plus t (view.expr v)) us u
 
-whole_last : (ts : List Expr) (t u : Expr) → view.expr (whole (ts ++ t ∷ []) u) ≡ plus (view.expr (whole ts t)) (view.expr u)
-whole_last [] t u = sum_seen (t ∷ u ∷ [])
-whole_last (v ∷ ts) t u =
-    sum_seen (v ∷ (ts ++ t ∷ []) ++ u ∷ []) ∙ nested_last (view.expr v) (ts ++ t ∷ []) u ∙ ap (λ z. plus z (view.expr u)) (sym (sum_seen (v ∷ ts ++ t ∷ [])))
+whole_last : (ts : SumTerms) (t u : Expr) → view.expr (whole (with_term ts t) u) ≡ plus (view.expr (whole ts t)) (view.expr u)
+whole_last Zero t u = sum_seen t u []
+whole_last (One a) t u = sum_seen a t (u ∷ []) ∙ ap (λ z. plus z (view.expr u)) (sym (sum_seen a t []))
+whole_last (Several a b es) t u =
+    sum_seen a b ((es ++ t ∷ []) ++ u ∷ []) ∙ nested_last (plus (view.expr a) (view.expr b)) (es ++ t ∷ []) u
+    ∙ ap (λ z. plus z (view.expr u)) (sym (sum_seen a b (es ++ t ∷ [])))
 
 -- an operand behind the sum so far
 plus_last : (sum : OpenSum) (t : Expr) (factor : Option Expr) (u : Expr) (a b : ExprView) → view.expr (closed sum t) ≡ a → view.expr (factored factor u) ≡ b
@@ -249,8 +254,8 @@ mutual
   sum_built : {m : Bounds} {d : Count} {s : List Lexeme} {e : ExprView} {r : List Lexeme} → Sum m d s e r → SumBuilt (mode_of (modes.Apply no_sum)) s e r
   sum_built (a_sum x y) =
       let a = product_built x in
-      let front = a.reach [] in
-      let b = addends_built y (sum_at [] a.factor) a.value front.next a.same front.stands in
+      let front = a.reach Zero in
+      let b = addends_built y (sum_at Zero a.factor) a.value front.next a.same front.stands in
       record { sum = b.sum; value = b.value; same = b.same; reach = led front.runs b.reach }
 
   addends_built : {m : Bounds} {d : Count} {a : ExprView} {s : List Lexeme} {e : ExprView} {r : List Lexeme} → Addends m d a s e r
@@ -348,7 +353,7 @@ mutual
 -- ---- declarations
 
 abbrev with_params : Constructor → List Expr → Constructor
-with_params c es = record { name = c.name; tag = c.tag; items = c.items; result = c.result; params = c.params ++ es }
+with_params c es = record { exotic = c.exotic; name = c.name; tag = c.tag; items = c.items; result = c.result; params = c.params ++ es }
 
 record ParamsBuilt (c : Constructor) (s : List Lexeme) (es : ExprList) (r : List Lexeme) : Type 0 where
   values : List Expr
@@ -371,31 +376,39 @@ params_built (a_param {mid = mid} {r = r} x y z) c =
 record TagBuilt (s : List Lexeme) (t : TagView) (r : List Lexeme) : Type 0 where
   mark : Tag
   same : view.tag mark ≡ t
-  runs : (name : Option (List ℕ)) (under : List Frame) (cs : List Constructor)
-      → run (at (modes.Items []) (frames.Declaration name Computed ∷ under) cs) s ≡ run (at (modes.Items []) (frames.Declaration name mark ∷ under) cs) r
+  runs : (exotic : Bool) (name : Option (List ℕ)) (under : List Frame) (cs : List Constructor)
+      → run (at (modes.Items []) (frames.Declaration (builder.untagged exotic name) ∷ under) cs) s
+      ≡ run (at (modes.Items []) (frames.Declaration (record { exotic = exotic; name = name; tag = mark }) ∷ under) cs) r
 
 tag_built : {s : List Lexeme} {t : TagView} {r : List Lexeme} → Tagged s t r → TagBuilt s t r
 tag_built (tagged {b = b} {s = s}) = record { mark = Given b; same = refl; runs = tag_goes b s }
-tag_built untagged = record { mark = Computed; same = refl; runs = λ name under cs. refl }
+tag_built untagged = record { mark = Computed; same = refl; runs = λ exotic name under cs. refl }
 
-record DeclarationBuilt (s : List Lexeme) (c : ConstructorView) (r : List Lexeme) : Type 0 where
+record DeclarationBuilt (mode : Mode) (s : List Lexeme) (c : ConstructorView) (r : List Lexeme) : Type 0 where
   value : Constructor
   same : view.constructor value ≡ c
-  runs : (cs : List Constructor) → run (at modes.Start [] cs) s ≡ run (at modes.Start [] (cs ++ value ∷ [])) r
+  runs : (cs : List Constructor) → run (at mode [] cs) s ≡ run (at modes.Start [] (cs ++ value ∷ [])) r
 
-declaration_built : {m : Bounds} {s : List Lexeme} {c : ConstructorView} {r : List Lexeme} → Declaration m s c r → DeclarationBuilt s c r
-declaration_built (a_declaration {s = s} {after_items = rest} {r = r} {x = x} {y = y} h t is ps) =
+declared_built : {m : Bounds} {exotic : Bool} {mode : Mode} {s : List Lexeme} {c : ConstructorView} {r : List Lexeme} → Naming exotic mode → Declared m exotic s c r → DeclarationBuilt mode s c r
+declared_built {exotic = exotic} n (a_declaration {s = s} {after_items = rest} {r = r} {x = x} {y = y} h t is ps) =
     let mark = tag_built t in
     let items = items_built is [] (modes.Items []) after_items in
-    let head = with_result x mark.mark items.values y in
+    let heading : Heading = record { exotic = exotic; name = x; tag = mark.mark } in
+    let head = with_result heading items.values y in
     let params = params_built ps head in
     record {
       value = with_params head params.values;
-      same = λ i. record { name = x; tag = mark.same i; items = items.same i; result = y; params = params.same i };
+      same = λ i. record { exotic = exotic; name = x; tag = mark.same i; items = items.same i; result = y; params = params.same i };
       runs = λ cs.
-          start_goes h s [] cs ∙ mark.runs x [] cs ∙ items.reach.runs (frames.Declaration x mark.mark ∷ []) cs
-          ∙ equal_goes items.reach.stands x mark.mark y rest [] cs ∙ params.runs [] cs ∙ semicolon_goes r (with_params head params.values) [] cs;
+          start_goes n h s [] cs ∙ mark.runs exotic x [] cs ∙ items.reach.runs (frames.Declaration heading ∷ []) cs
+          ∙ equal_goes items.reach.stands heading y rest [] cs ∙ params.runs [] cs ∙ semicolon_goes r (with_params head params.values) [] cs;
     }
+
+declaration_built : {m : Bounds} {s : List Lexeme} {c : ConstructorView} {r : List Lexeme} → Declaration m s c r → DeclarationBuilt modes.Start s c r
+declaration_built (of_ordinary d) = declared_built at_start d
+declaration_built (of_exotic {s = s} d) =
+    let b = declared_built at_mark d in
+    record { value = b.value; same = b.same; runs = λ cs. bang_goes s [] cs ∙ b.runs cs }
 
 record SchemaBuilt (s : List Lexeme) (t : SchemaView) : Type 0 where
   values : List Constructor

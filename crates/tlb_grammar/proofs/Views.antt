@@ -30,8 +30,8 @@ below_seen es = search (rules, the_lemmas)
 pub up_to_seen : (es : List Expr) → view.expr (exprs.UpTo es) ≡ up_to (view.exprs es)
 up_to_seen es = search (rules, the_lemmas)
 
-pub sum_seen : (es : List Expr) → view.expr (exprs.Sum es) ≡ sum_of (map view.expr es)
-sum_seen es = search (rules, the_lemmas)
+pub sum_seen : (a b : Expr) (es : List Expr) → view.expr (exprs.Sum a b es) ≡ sum_of (view.expr a) (view.expr b) (map view.expr es)
+sum_seen a b es = search (rules, the_lemmas)
 
 pub star_seen : (a b : Expr) → view.expr (exprs.Star a b) ≡ star (view.expr a) (view.expr b)
 star_seen a b = search (rules, the_lemmas)

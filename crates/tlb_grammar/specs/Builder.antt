@@ -4,7 +4,7 @@ use Rattle.std.specs.Prelude.{ℕ, Bool, true, false, List, [], ◌∷◌, ◌++
 use Rattle.nat_solver.specs.declared.compare.Op.{Op}
 use Rattle.nat_solver.specs.declared.compare.Op.TheVariants.{Eq, Lt, Le, Gt, Ge}
 use Rattle.tlb_syntax.specs.declared.sign.Sign.{Sign}
-use Rattle.tlb_syntax.specs.declared.sign.Sign.TheVariants.{Hash, HashHash, HashLess, HashLessEqual, Colon, Semicolon, Equal, OpenParen, CloseParen, OpenBrace, CloseBrace, OpenBracket, CloseBracket, Caret, Tilde, Question, Dot, Asterisk, Plus, Less, LessEqual, Greater, GreaterEqual}
+use Rattle.tlb_syntax.specs.declared.sign.Sign.TheVariants.{Hash, HashHash, HashLess, HashLessEqual, Colon, Semicolon, Equal, OpenParen, CloseParen, OpenBrace, CloseBrace, OpenBracket, CloseBracket, Caret, Tilde, Question, Dot, Asterisk, Plus, Less, LessEqual, Greater, GreaterEqual, Bang}
 use Rattle.tlb_syntax.specs.declared.tree.ParamKind.{ParamKind}
 use Rattle.tlb_syntax.specs.declared.tree.ParamKind.TheVariants.{Nat, Ty}
 use Rattle.tlb_syntax.specs.declared.tree.Expr.{Expr}
@@ -18,12 +18,15 @@ use Rattle.tlb_syntax.specs.declared.tree.Tag.TheVariants.{Computed, Given}
 use Rattle.tlb_syntax.specs.declared.tree.Constructor.{Constructor}
 use Rattle.tlb_syntax.specs.Lexeme.{Lexeme, word, blank, number, tag, sign, other}
 use Rattle.tlb_grammar.specs.declared.state.OpenSum.{OpenSum}
+use Rattle.tlb_grammar.specs.declared.state.Terms.{Terms}
+use Rattle.tlb_grammar.specs.declared.state.Terms.TheVariants.{Zero, One, Several}
+use Rattle.tlb_grammar.specs.declared.state.Heading.{Heading}
 use Rattle.tlb_grammar.specs.declared.state.Width.{Width}
 use Rattle.tlb_grammar.specs.declared.state.Width.TheVariants as widths
 use Rattle.tlb_grammar.specs.declared.state.Guard.{Guard}
 use Rattle.tlb_grammar.specs.declared.state.Guard.TheVariants as guards
 use Rattle.tlb_grammar.specs.declared.state.Mode.{Mode}
-use Rattle.tlb_grammar.specs.declared.state.Mode.TheVariants.{Start, Items, ItemName, ItemBlank, Typed, Bit, BitEnd, Kind, KindEnd, Term, Apply, Applied, Operated, Result, Params}
+use Rattle.tlb_grammar.specs.declared.state.Mode.TheVariants.{Start, Marked, Items, ItemName, ItemBlank, Typed, Bit, BitEnd, Kind, KindEnd, Term, Apply, Applied, Operated, Result, Params}
 use Rattle.tlb_grammar.specs.declared.state.Frame.{Frame}
 use Rattle.tlb_grammar.specs.declared.state.Frame.TheVariants as frames
 
@@ -63,29 +66,36 @@ unfoldable pub right_of : Frame → Option (List Item × Expr × Op)
 right_of (frames.Right is a op) = Some (is, a, op)
 right_of f = None
 
-unfoldable pub heading_of : Frame → Option (Option (List ℕ) × Tag)
-heading_of (frames.Declaration name mark) = Some (name, mark)
+unfoldable pub heading_of : Frame → Option Heading
+heading_of (frames.Declaration heading) = Some heading
 heading_of f = None
 
 -- ---- sums
 
 abbrev pub no_sum : OpenSum
-no_sum = record { terms = []; factor = None }
+no_sum = record { terms = Zero; factor = None }
 
 abbrev pub factored : Option Expr → Expr → Expr
 factored None e = e
 factored (Some a) e = exprs.Star a e
+
+-- one term more
+abbrev pub with_term : Terms → Expr → Terms
+with_term Zero e = One e
+with_term (One a) e = Several a e []
+with_term (Several a b es) e = Several a b (es ++ e ∷ [])
 
 -- the sum behind a `*` or a `+`
 abbrev pub times : OpenSum → Expr → OpenSum
 times sum e = record { terms = sum.terms; factor = Some e }
 
 abbrev pub added : OpenSum → Expr → OpenSum
-added sum e = record { terms = sum.terms ++ factored sum.factor e ∷ []; factor = None }
+added sum e = record { terms = with_term sum.terms (factored sum.factor e); factor = None }
 
-abbrev pub whole : List Expr → Expr → Expr
-whole [] e = e
-whole (t ∷ ts) e = exprs.Sum (t ∷ ts ++ e ∷ [])
+abbrev pub whole : Terms → Expr → Expr
+whole Zero e = e
+whole (One a) e = exprs.Sum a e []
+whole (Several a b es) e = exprs.Sum a b (es ++ e ∷ [])
 
 -- the whole sum with its last operand
 abbrev pub closed : OpenSum → Expr → Expr
@@ -109,7 +119,7 @@ abbrev pub with_field : List Item → Option (List ℕ) → FieldType → List I
 with_field is name t = with_item is (Explicit name t)
 
 abbrev pub with_param : Constructor → Expr → Constructor
-with_param c e = record { name = c.name; tag = c.tag; items = c.items; result = c.result; params = c.params ++ e ∷ [] }
+with_param c e = record { exotic = c.exotic; name = c.name; tag = c.tag; items = c.items; result = c.result; params = c.params ++ e ∷ [] }
 
 -- behind a term that is part of this
 unfoldable pub held : Frame → Expr → Option Mode
@@ -125,7 +135,7 @@ held frames.Paren e = None
 held frames.Record e = None
 held (frames.Left is) e = None
 held (frames.Right is a op) e = None
-held (frames.Declaration name mark) e = None
+held (frames.Declaration heading) e = None
 
 abbrev pub at_mode : Option Mode → List Frame → List Constructor → Option State
 at_mode None below cs = None
@@ -240,8 +250,11 @@ applied t sum x es below cs = term t (frames.Argument sum x es ∷ below) cs
 -- ---- items
 
 -- a tag behind the name of a declaration
-abbrev pub tagged : List ℕ → List Item → Option (Option (List ℕ) × Tag) → List Frame → List Constructor → Option State
-tagged b is (Some (name, mark)) below cs = Some (at (Items is) (frames.Declaration name (Given b) ∷ below) cs)
+abbrev pub with_tag : Heading → List ℕ → Heading
+with_tag heading b = record { exotic = heading.exotic; name = heading.name; tag = Given b }
+
+abbrev pub tagged : List ℕ → List Item → Option Heading → List Frame → List Constructor → Option State
+tagged b is (Some heading) below cs = Some (at (Items is) (frames.Declaration (with_tag heading b) ∷ below) cs)
 tagged b is None below cs = None
 
 unfoldable pub tag_behind : Option (List ℕ) → List Item → List Frame → List Constructor → Option State
@@ -252,8 +265,8 @@ abbrev pub ends_record : Bool → List Item → List Frame → List Constructor 
 ends_record true is below cs = given (exprs.Group is) below cs
 ends_record false is below cs = None
 
-abbrev pub ends_items : Option (Option (List ℕ) × Tag) → List Item → List Frame → List Constructor → Option State
-ends_items (Some (name, mark)) is below cs = Some (at (Result name mark is) below cs)
+abbrev pub ends_items : Option Heading → List Item → List Frame → List Constructor → Option State
+ends_items (Some heading) is below cs = Some (at (Result heading is) below cs)
 ends_items None is below cs = None
 
 unfoldable pub items_sign : Sign → List Item → List Frame → List Constructor → Option State
@@ -288,8 +301,9 @@ kind t is x = None
 
 -- ---- parameters
 
-abbrev pub with_result : Option (List ℕ) → Tag → List Item → List ℕ → Constructor
-with_result name mark is x = record { name = name; tag = mark; items = is; result = x; params = [] }
+abbrev pub with_result : Heading → List Item → List ℕ → Constructor
+with_result heading is x =
+    record { exotic = heading.exotic; name = heading.name; tag = heading.tag; items = is; result = x; params = [] }
 
 unfoldable pub params : Lexeme → Constructor → List Frame → List Constructor → Option State
 params (sign Semicolon) c below cs = Some (at Start below (cs ++ c ∷ []))
@@ -297,13 +311,21 @@ params t c below cs = term t (frames.Param c ∷ below) cs
 
 -- ---- one step
 
-abbrev pub begin : Option (List ℕ) → List Frame → List Constructor → Option State
-begin name below cs = Some (at (Items []) (frames.Declaration name Computed ∷ below) cs)
+abbrev pub untagged : Bool → Option (List ℕ) → Heading
+untagged exotic name = record { exotic = exotic; name = name; tag = Computed }
+
+abbrev pub begin : Heading → List Frame → List Constructor → Option State
+begin heading below cs = Some (at (Items []) (frames.Declaration heading ∷ below) cs)
+
+-- where the name of a declaration is wanted
+unfoldable pub head : Bool → Lexeme → List Frame → List Constructor → Option State
+head exotic (word x) below cs = begin (untagged exotic (Some x)) below cs
+head exotic blank below cs = begin (untagged exotic None) below cs
+head exotic t below cs = None
 
 unfoldable pub start : Lexeme → List Frame → List Constructor → Option State
-start (word x) below cs = begin (Some x) below cs
-start blank below cs = begin None below cs
-start t below cs = None
+start (sign Bang) below cs = Some (at Marked below cs)
+start t below cs = head false t below cs
 
 unfoldable pub named_blank : Lexeme → List Item → List Frame → List Constructor → Option State
 named_blank (sign Colon) is below cs = Some (at Term (frames.Field is None ∷ below) cs)
@@ -321,12 +343,13 @@ unfoldable pub kind_end : Lexeme → List Item → List ℕ → ParamKind → Op
 kind_end (sign CloseBrace) is x k = Some (Items (with_item is (Implicit x k)))
 kind_end t is x k = None
 
-unfoldable pub result_of : Lexeme → Option (List ℕ) → Tag → List Item → Option Mode
-result_of (word x) name mark is = Some (Params (with_result name mark is x))
-result_of t name mark is = None
+unfoldable pub result_of : Lexeme → Heading → List Item → Option Mode
+result_of (word x) heading is = Some (Params (with_result heading is x))
+result_of t heading is = None
 
 unfoldable pub step_mode : Mode → Lexeme → List Frame → List Constructor → Option State
 step_mode Start t below cs = start t below cs
+step_mode Marked t below cs = head true t below cs
 step_mode (Items is) t below cs = items t is below cs
 step_mode (ItemName is x) t below cs = named t is x below cs
 step_mode (ItemBlank is) t below cs = named_blank t is below cs
@@ -339,7 +362,7 @@ step_mode Term t below cs = term t below cs
 step_mode (Apply sum) t below cs = apply t sum below cs
 step_mode (Applied sum x es) t below cs = applied t sum x es below cs
 step_mode (Operated sum e) t below cs = operated t sum e below cs
-step_mode (Result name mark is) t below cs = at_mode (result_of t name mark is) below cs
+step_mode (Result heading is) t below cs = at_mode (result_of t heading is) below cs
 step_mode (Params c) t below cs = params t c below cs
 
 abbrev pub step : State → Lexeme → Option State

@@ -110,7 +110,7 @@ pub(crate) fn word_of(
     requires { PlacedFrom text.now 0 tokens.now }
     ensures { IfOk result (λ found. found ≡ plain.built_word (lexemes text.now tokens.now)) }
 {
-    let sum = OpenSum::new(alloc);
+    let sum = OpenSum::new();
     match behind(alloc, text, tokens, Mode::Apply(sum))? {
         Some((mode, builder)) => builder.word(mode),
         None => Ok(None),

@@ -7,7 +7,7 @@ ghost use Rattle.tlb_grammar.specs.Builder.{at};
 ghost use Rattle.tlb_grammar.specs.Follows.{under, state, Follows, Covered, IsBare, Removes, RemovesAny};
 
 use crate::parts::{comparison, held, kind, kind_end, result_of, tested_bit, width};
-use crate::state::{Frame, Guard, Mode, OpenSum};
+use crate::state::{Frame, Guard, Heading, Mode, OpenSum};
 use sqlite_items::{Boxed, Items};
 use std::alloc::Global;
 use tlb_memory::NoMemory;
@@ -81,8 +81,8 @@ impl Builder {
         frame.right()
     }
 
-    // The name of a declaration, and its tag.
-    fn pop_heading(&mut self) -> Option<(Option<Name>, Tag)>
+    // What stands before the items of a declaration.
+    fn pop_heading(&mut self) -> Option<Heading>
         ensures { Removes plain.heading_of self.old self.new result }
     {
         let Some(frame) = self.pop() else {
@@ -132,7 +132,7 @@ impl Builder {
             Sign::Tilde => self.enter(Frame::Out, Mode::Term),
             Sign::Caret => self.enter(Frame::Ref, Mode::Term),
             Sign::OpenParen => {
-                let sum = OpenSum::new(self.alloc);
+                let sum = OpenSum::new();
                 self.enter(Frame::Paren, Mode::Apply(sum))
             }
             Sign::OpenBracket => {
@@ -285,7 +285,7 @@ impl Builder {
     {
         match self.pop_left() {
             Some(items) => {
-                let sum = OpenSum::new(self.alloc);
+                let sum = OpenSum::new();
                 self.enter(Frame::Right(items, e, op), Mode::Apply(sum))
             }
             None => {
@@ -394,9 +394,16 @@ impl Builder {
             return Ok(None);
         };
         match self.pop_heading() {
-            Some((name, _)) => {
+            Some(
+                Heading {
+                    exotic,
+                    name,
+                    tag: _,
+                },
+            ) => {
+                let tag = Tag::Given(bits);
                 self.enter(
-                    Frame::Declaration(name, Tag::Given(bits)),
+                    Frame::Declaration(Heading { exotic, name, tag }),
                     Mode::Items(items),
                 )
             }
@@ -410,7 +417,7 @@ impl Builder {
     {
         match sign {
             Sign::OpenBrace => {
-                let sum = OpenSum::new(self.alloc);
+                let sum = OpenSum::new();
                 self.enter(Frame::Left(items), Mode::Apply(sum))
             }
             Sign::Equal => self.ends_items(items),
@@ -424,7 +431,7 @@ impl Builder {
         ensures { Follows self.new result (plain.ends_items (plain.innermost plain.heading_of (under self.old)) items (plain.outer (under self.old)) self.old.done) }
     {
         match self.pop_heading() {
-            Some((name, tag)) => Ok(Some(Mode::Result(name, tag, items))),
+            Some(heading) => Ok(Some(Mode::Result(heading, items))),
             None => Ok(None),
         }
     }
@@ -544,13 +551,29 @@ impl Builder {
         requires { IsSpelled next }
         ensures { Follows self.new result (plain.start (lexeme next.entry) (under self.old) self.old.done) }
     {
+        match next {
+            Lexeme::Sign(Sign::Bang) => Ok(Some(Mode::Marked)),
+            _ => self.head(false, next),
+        }
+    }
+
+    // Where the name of a declaration is wanted.
+    #[tactic(auto, unfolding(crate::specs::Builder::head))]
+    fn head(&mut self, exotic: bool, next: Lexeme<'_>) -> Result<Option<Mode>, NoMemory>
+        requires { IsSpelled next }
+        ensures { Follows self.new result (plain.head exotic (lexeme next.entry) (under self.old) self.old.done) }
+    {
         let name = match next {
             Lexeme::Name(text) => Some(Name::new(self.alloc, text)?),
             Lexeme::Blank => None,
             _ => return Ok(None),
         };
         let items = Items::new(self.alloc);
-        self.enter(Frame::Declaration(name, Tag::Computed), Mode::Items(items))
+        let tag = Tag::Computed;
+        self.enter(
+            Frame::Declaration(Heading { exotic, name, tag }),
+            Mode::Items(items),
+        )
     }
 
     /// The mode behind the lexeme, or `None` where it can't come.
@@ -561,6 +584,7 @@ impl Builder {
     {
         match mode {
             Mode::Start => self.start(next),
+            Mode::Marked => self.head(true, next),
             Mode::Items(items) => self.items(items, next),
             Mode::ItemName(items, name) => self.named(items, name, next),
             Mode::ItemBlank(items) => self.named_blank(items, next),
@@ -573,7 +597,7 @@ impl Builder {
             Mode::Apply(sum) => self.apply(sum, next),
             Mode::Applied(sum, name, args) => self.applied(sum, name, args, next),
             Mode::Operated(sum, e) => self.operated(sum, e, next),
-            Mode::Result(name, tag, items) => result_of(self.alloc, name, tag, items, next),
+            Mode::Result(heading, items) => result_of(self.alloc, heading, items, next),
             Mode::Params(constructor) => self.params(constructor, next),
         }
     }

@@ -2,7 +2,7 @@
 ghost use Rattle.std.specs.Prelude.{◌≡◌, IfOk};
 ghost use Rattle.tlb_grammar.specs.Builder as plain;
 
-use crate::state::OpenSum;
+use crate::state::{OpenSum, Terms};
 use sqlite_items::{Boxed, Items};
 use std::alloc::Global;
 use tlb_memory::NoMemory;
@@ -18,12 +18,48 @@ fn factored(alloc: Global, factor: Option<Boxed<Expr>>, e: Expr) -> Result<Expr,
     }
 }
 
+impl Terms {
+    // One term more.
+    fn with_term(self, alloc: Global, e: Expr) -> Result<Terms, NoMemory>
+        ensures { IfOk result (λ terms. terms ≡ plain.with_term self e) }
+    {
+        match self {
+            Terms::Zero => Ok(Terms::One(Boxed::new(alloc, e)?)),
+            Terms::One(first) => {
+                let second = Boxed::new(alloc, e)?;
+                Ok(Terms::Several(first, second, Items::new(alloc)))
+            }
+            Terms::Several(first, second, mut more) => {
+                more.push(e)?;
+                Ok(Terms::Several(first, second, more))
+            }
+        }
+    }
+
+    // The sum with its last term.
+    fn whole(self, alloc: Global, e: Expr) -> Result<Expr, NoMemory>
+        ensures { IfOk result (λ sum. sum ≡ plain.whole self e) }
+    {
+        match self {
+            Terms::Zero => Ok(e),
+            Terms::One(first) => {
+                let second = Boxed::new(alloc, e)?;
+                Ok(Expr::Sum(first, second, Items::new(alloc)))
+            }
+            Terms::Several(first, second, mut more) => {
+                more.push(e)?;
+                Ok(Expr::Sum(first, second, more))
+            }
+        }
+    }
+}
+
 impl OpenSum {
-    pub(crate) fn new(alloc: Global) -> OpenSum
+    pub(crate) fn new() -> OpenSum
         ensures { result ≡ plain.no_sum }
     {
         OpenSum {
-            terms: Items::new(alloc),
+            terms: Terms::Zero,
             factor: None,
         }
     }
@@ -43,11 +79,10 @@ impl OpenSum {
     pub(crate) fn added(self, alloc: Global, e: Expr) -> Result<OpenSum, NoMemory>
         ensures { IfOk result (λ sum. sum ≡ plain.added self e) }
     {
-        let OpenSum { mut terms, factor } = self;
+        let OpenSum { terms, factor } = self;
         let term = factored(alloc, factor, e)?;
-        terms.push(term)?;
         Ok(OpenSum {
-            terms,
+            terms: terms.with_term(alloc, term)?,
             factor: None,
         })
     }
@@ -56,12 +91,8 @@ impl OpenSum {
     pub(crate) fn closed(self, alloc: Global, e: Expr) -> Result<Expr, NoMemory>
         ensures { IfOk result (λ whole. whole ≡ plain.closed self e) }
     {
-        let OpenSum { mut terms, factor } = self;
+        let OpenSum { terms, factor } = self;
         let term = factored(alloc, factor, e)?;
-        if terms.is_empty() {
-            return Ok(term);
-        }
-        terms.push(term)?;
-        Ok(Expr::Sum(terms))
+        terms.whole(alloc, term)
     }
 }

@@ -4,11 +4,11 @@ ghost use Rattle.tlb_syntax.specs.Lexeme.{lexeme};
 ghost use Rattle.tlb_syntax.specs.Placed.{IsSpelled};
 ghost use Rattle.tlb_grammar.specs.Builder as plain;
 
-use crate::state::{Frame, Guard, Mode, Width};
+use crate::state::{Frame, Guard, Heading, Mode, Width};
 use sqlite_items::Items;
 use std::alloc::Global;
 use tlb_memory::NoMemory;
-use tlb_syntax::{Constructor, Expr, FieldType, Item, Lexeme, Name, Op, ParamKind, Sign, Tag};
+use tlb_syntax::{Constructor, Expr, FieldType, Item, Lexeme, Name, Op, ParamKind, Sign};
 
 /// The mode behind a term that is part of this.
 #[tactic(auto, unfolding(crate::specs::Builder::held))]
@@ -145,18 +145,18 @@ pub(crate) fn kind_end(
 #[tactic(auto, unfolding(crate::specs::Builder::result_of))]
 pub(crate) fn result_of(
     alloc: Global,
-    name: Option<Name>,
-    tag: Tag,
+    heading: Heading,
     items: Items<Item>,
     next: Lexeme<'_>,
 ) -> Result<Option<Mode>, NoMemory>
     requires { IsSpelled next }
-    ensures { IfOk result (λ mode. mode ≡ plain.result_of (lexeme next.entry) name tag items) }
+    ensures { IfOk result (λ mode. mode ≡ plain.result_of (lexeme next.entry) heading items) }
 {
     match next {
         Lexeme::Name(text) => Ok(Some(Mode::Params(Constructor {
-            name,
-            tag,
+            exotic: heading.exotic,
+            name: heading.name,
+            tag: heading.tag,
             items,
             result: Name::new(alloc, text)?,
             params: Items::new(alloc),
@@ -207,11 +207,11 @@ impl Frame {
     }
 
     #[tactic(auto, unfolding(crate::specs::Builder::heading_of))]
-    pub(crate) fn heading(self) -> Option<(Option<Name>, Tag)>
+    pub(crate) fn heading(self) -> Option<Heading>
         ensures { result ≡ plain.heading_of self }
     {
         match self {
-            Frame::Declaration(name, tag) => Some((name, tag)),
+            Frame::Declaration(heading) => Some(heading),
             other => {
                 drop(other);
                 None

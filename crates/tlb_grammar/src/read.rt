@@ -3,7 +3,7 @@ ghost use Rattle.std.specs.Prelude.{◌≡◌, ◌≤◌, ⊤, length};
 ghost use Rattle.tlb_lexer.specs.Cut.{Cut};
 ghost use Rattle.tlb_syntax.specs.Grammar.{Declarations, TypeWord};
 ghost use Rattle.tlb_syntax.specs.Lexeme.{lexemes};
-ghost use Rattle.tlb_syntax.specs.Limits.{IsWithinLimits};
+ghost use Rattle.tlb_syntax.specs.Limits.{IsWithinLimits, IsWordWithinLimits};
 ghost use Rattle.tlb_syntax.specs.Tree.{SchemaView, ExprView};
 ghost use Rattle.tlb_syntax.specs.View.{schema, expr};
 ghost use Rattle.tlb_syntax.specs.Written.{HasFew, Writes, WritesWord, byte_of, standard};
@@ -13,8 +13,11 @@ ghost use Rattle.tlb_grammar.specs.declared.error.GrammarError.{GrammarError as 
 use crate::build::{build_schema, build_word};
 use crate::error::GrammarError;
 use std::alloc::Global;
+use syntax_check::laws::one_answer;
 use syntax_check::{Cause, Refusal, check_schema, check_word};
+use tlb_lexer::laws::{at_most_one, in_order};
 use tlb_lexer::{LexError, Token, tokens};
+use tlb_syntax::laws::{word_within_limits, written_within_limits};
 use tlb_syntax::{Expr, Schema};
 
 // The byte at which the token with so many tokens before it begins, or the text's length.
@@ -85,6 +88,7 @@ fn schema_of(alloc: Global, text: &[u8]) -> Result<Schema, GrammarError>
     requires { length text.now ≤ 1048576 }
     ensures { IfRead result (λ s. Writes text.now (schema s)) (λ e. Refuses text.now e) }
 {
+    in_order();
     let tokens = tokens_of_schema(alloc, text)?;
     let schema = build_schema(alloc, text, &tokens)?;
     Ok(schema)
@@ -95,6 +99,7 @@ fn word_of(alloc: Global, word: &str) -> Result<Expr, GrammarError>
     ensures { IfRead result (λ e. WritesWord word.now (expr e)) (λ e. RefusesWord word.now e) }
 {
     let text = word.as_bytes();
+    in_order();
     let tokens = tokens_of_word(alloc, text)?;
     let expr = build_word(alloc, text, &tokens)?;
     Ok(expr)
@@ -112,6 +117,9 @@ pub fn read_schema(alloc: Global, text: &[u8]) -> Result<Schema, GrammarError>
     // What is answered is within the limits of a schema.
     ensures limits { IfRead result (λ s. IsWithinLimits (schema s)) (λ _. ⊤) }
 {
+    at_most_one();
+    one_answer();
+    written_within_limits();
     schema_of(alloc, text)
 }
 
@@ -121,6 +129,11 @@ pub fn read_type(alloc: Global, word: &str) -> Result<Expr, GrammarError>
     ensures holds { IfRead result (λ e. WritesWord word.now (expr e)) (λ e. RefusesWord word.now e) }
     ensures written { (e : ExprView) → WritesWord word.now e → IfRead result (λ found. expr found ≡ e) (λ _. ⊥) }
     ensures refused { (e : Refused) → RefusesWord word.now e → IfRead result (λ _. ⊥) (λ found. found ≡ e) }
+    // What is answered is within the limits of a type word.
+    ensures limits { IfRead result (λ e. IsWordWithinLimits (expr e)) (λ _. ⊤) }
 {
+    at_most_one();
+    one_answer();
+    word_within_limits();
     word_of(alloc, word)
 }

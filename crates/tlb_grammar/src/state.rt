@@ -2,11 +2,18 @@
 use sqlite_items::{Boxed, Items};
 use tlb_syntax::{Constructor, Expr, FieldType, Item, Name, Op, ParamKind, Tag};
 
+/// The whole terms of a sum that is begun.
+#[derive(Drop)]
+pub(crate) enum Terms {
+    Zero,
+    One(Boxed<Expr>),
+    Several(Boxed<Expr>, Boxed<Expr>, Items<Expr>),
+}
+
 /// A sum that is begun, before an operand.
 #[derive(Drop)]
 pub(crate) struct OpenSum {
-    /// The whole terms.
-    pub(crate) terms: Items<Expr>,
+    pub(crate) terms: Terms,
     /// The factor in front of a `*`.
     pub(crate) factor: Option<Boxed<Expr>>,
 }
@@ -28,11 +35,22 @@ pub(crate) enum Guard {
     Bit(Expr, u32),
 }
 
+/// What stands before the items of a declaration.
+#[derive(Drop)]
+pub(crate) struct Heading {
+    /// Whether a `!` stands before the name.
+    pub(crate) exotic: bool,
+    pub(crate) name: Option<Name>,
+    pub(crate) tag: Tag,
+}
+
 /// What was read last, or what is wanted next. The items are those before it in the record.
 #[derive(Drop)]
 pub(crate) enum Mode {
     /// Between declarations.
     Start,
+    /// Behind the `!` of a declaration.
+    Marked,
     /// In a record, between items.
     Items(Items<Item>),
     /// Behind a name that begins an item.
@@ -58,7 +76,7 @@ pub(crate) enum Mode {
     /// Behind a whole operand of the sum.
     Operated(OpenSum, Expr),
     /// Behind the `=` of a declaration.
-    Result(Option<Name>, Tag, Items<Item>),
+    Result(Heading, Items<Item>),
     /// Behind the type's name.
     Params(Constructor),
 }
@@ -91,5 +109,5 @@ pub(crate) enum Frame {
     /// The right of a comparison.
     Right(Items<Item>, Expr, Op),
     /// The record of a declaration.
-    Declaration(Option<Name>, Tag),
+    Declaration(Heading),
 }

@@ -144,6 +144,11 @@ pub record IsWithinLimits (s : SchemaView) : Type 0 where
   pub few : HasFew s
   pub constructors : AreConstructors s
 
+-- the expression of a type word, which opens at most 64 levels
+pub record IsWordWithinLimits (e : ExprView) : Type 0 where
+  pub expression : IsExpr e
+  pub levels : levels in_sum e ≤ 64
+
 -- ---- lexemes
 
 -- a lexeme that a token of some text can be

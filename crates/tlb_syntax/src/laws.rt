@@ -4,9 +4,9 @@ ghost use Rattle.tlb_lexer.specs.Cut.{Cut};
 ghost use Rattle.tlb_lexer.specs.declared.Token.{Token};
 ghost use Rattle.tlb_syntax.specs.Grammar.{Declarations};
 ghost use Rattle.tlb_syntax.specs.Lexeme.{Lexeme, lexemes};
-ghost use Rattle.tlb_syntax.specs.Limits.{AreOfText, IsWithinLimits};
-ghost use Rattle.tlb_syntax.specs.Tree.{SchemaView};
-ghost use Rattle.tlb_syntax.specs.Written.{HasFew, Writes, standard};
+ghost use Rattle.tlb_syntax.specs.Limits.{AreOfText, IsWithinLimits, IsWordWithinLimits};
+ghost use Rattle.tlb_syntax.specs.Tree.{ExprView, SchemaView};
+ghost use Rattle.tlb_syntax.specs.Written.{HasFew, Writes, WritesWord, standard};
 
 /// Lexemes of tokens write only schemas within the limits, where constructors are few.
 pub fn productions_keep_limits()
@@ -16,6 +16,11 @@ pub fn productions_keep_limits()
 /// The tokens of a cut are such lexemes.
 pub fn cuts_give_lexemes()
     ensures { (text : List ℕ) (tokens : List Token) → Cut text tokens → AreOfText (lexemes text tokens) }
+{}
+
+/// The expression that a text writes as a type word is within the limits.
+pub fn word_within_limits()
+    ensures { (text : List ℕ) (e : ExprView) → WritesWord text e → IsWordWithinLimits e }
 {}
 
 /// A schema that a text writes is within the limits.

@@ -11,7 +11,7 @@ pub cancels-returns-then-cancels-2 : goal.cancels-returns-then-cancels-2
 cancels-returns-then-cancels-2 t c =
     let two : c.if-cancels.value ≡ (list_any cancels (parts (expr c.in-Sum.first)) || list_any cancels (parts (expr c.in-Sum.second))) =
     elim c.if-cancels.branch [
-      cancels-then-cancels w ↦ first_cancels _ _ _ _ _ c.get.ensures c.cancels.ensures w.if-cancels.true w.value-is
+      | cancels-then-cancels w ↦ first_cancels _ _ _ _ _ c.get.ensures c.cancels.ensures w.if-cancels.true w.value-is
       | cancels-else-cancels w ↦
           second_cancels _ _ _ _ _ _ _ c.get.ensures c.cancels.ensures w.if-cancels.false w.get-else-cancels.ensures w.cancels-else-cancels.ensures w.value-is
     ] in
@@ -21,7 +21,7 @@ pub cancels-returns-else-cancels-2 : goal.cancels-returns-else-cancels-2
 cancels-returns-else-cancels-2 t c =
     let two : c.if-cancels.value ≡ (list_any cancels (parts (expr c.in-Sum.first)) || list_any cancels (parts (expr c.in-Sum.second))) =
     elim c.if-cancels.branch [
-      cancels-then-cancels w ↦ first_cancels _ _ _ _ _ c.get.ensures c.cancels.ensures w.if-cancels.true w.value-is
+      | cancels-then-cancels w ↦ first_cancels _ _ _ _ _ c.get.ensures c.cancels.ensures w.if-cancels.true w.value-is
       | cancels-else-cancels w ↦
           second_cancels _ _ _ _ _ _ _ c.get.ensures c.cancels.ensures w.if-cancels.false w.get-else-cancels.ensures w.cancels-else-cancels.ensures w.value-is
     ] in

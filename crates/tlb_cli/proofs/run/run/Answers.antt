@@ -1,31 +1,45 @@
-use Rattle.std.proofs.Common.{refl, Some, inl, map, string_bytes, codes}
-use Rattle.tlb_cli.proofs.Shown.{shown, judged_reads, outcome_is, usage_judged, usage_outcome, judges_text, read_fails}
-use Rattle.tlb_cli.specs.Outcome.{usage_line}
-use Rattle.tlb_cli.specs.View.{form_by, verdict_by}
-use Rattle.tlb_cli.specs.Words.{form_of}
+use Rattle.std.proofs.Common.{map, string_bytes}
+use Rattle.tlb_cli.proofs.Ending.{ran-outcome, ran-usage, ran-no_form, ran-read_fault, ran-too_long, ran-write_fault, ran-prefix, ran-no_memory, ran-puts, ran-refused, ran-opens, ran-loaded, ran-calm_shelf, ran-calm_sink}
 use Rattle.tlb_cli.proofs.run.run.Goals as goal
 
-pub returns-in-Err-clause-front : goal.returns-in-Err-clause-front
-returns-in-Err-clause-front g c is = (usage_line, c.in-Err.ensures.err, inl (usage_judged (g.H.Shelf.held c.args.shelf.now) _ c.in_default.ensures))
+pub returns-clause-outcome : goal.returns-clause-outcome
+returns-clause-outcome g c = ran-outcome (map string_bytes c.args.words.now) _ _ _ _ _ _ _ c.perform.ensures.ran
 
-pub returns-in-Ok-clause-outcome : goal.returns-in-Ok-clause-outcome
-returns-in-Ok-clause-outcome g c judged =
-    usage_outcome (g.H.Shelf.held c.args.shelf.now) (map string_bytes c.args.words.now) _ _ c.in_default.ensures c.in-Ok.ensures.ok
+pub returns-clause-usage : goal.returns-clause-usage
+returns-clause-usage g c = ran-usage _ _ _ _ _ _ _ _ c.perform.ensures.ran
 
-pub returns-in-Ok-put_all-clause-outcome : goal.returns-in-Ok-put_all-clause-outcome
-returns-in-Ok-put_all-clause-outcome g c judged =
-    outcome_is (g.H.Shelf.held c.args.shelf.now) (map string_bytes c.args.words.now) (Some (form_by c.in-Some.command)) (verdict_by c.in-Ok-answer_to.answer)
-    (g.K.Sink.written c.args.out.now) (g.K.Sink.written c.put_all-in-Ok-answer_to.new.sink) c.in-Some.ensures
-    (c.in-Ok-answer_to.ensures.judged (judged_reads c.in-Ok-answer_to.answer.status judged)) (rw c.deref.ensures.value at c.in-Ok-put_all.ensures.ok)
+pub returns-clause-no_form : goal.returns-clause-no_form
+returns-clause-no_form g c = ran-no_form _ _ _ _ _ _ _ _ c.perform.ensures.ran
 
-pub returns-clause-front : goal.returns-clause-front
-returns-clause-front g c is = (
-  c.in-Ok-answer_to.answer.text.items,
-  rw c.deref.ensures.value at c.in-Err-put_all.ensures.err,
-  shown c.in-Ok-answer_to.answer.status _ _
-      (λ other. judges_text (g.H.Shelf.held c.args.shelf.now) (Some (form_by c.in-Some.command)) (form_of (map string_bytes c.args.words.now)) (verdict_by c.in-Ok-answer_to.answer) c.in-Some.ensures (c.in-Ok-answer_to.ensures.judged other))
-      (λ fault. read_fails (Some (form_by c.in-Some.command)) (form_of (map string_bytes c.args.words.now)) _ _ _ _ _ c.in-Some.ensures (c.in-Ok-answer_to.ensures.read_fault fault)),
-)
+pub returns-clause-read_fault : goal.returns-clause-read_fault
+returns-clause-read_fault g c = ran-read_fault _ _ _ _ _ _ _ _ c.perform.ensures.ran
 
-pub returns-in-Ok-clause-refused : goal.returns-in-Ok-clause-refused
-returns-in-Ok-clause-refused g c refusal = (usage_line, record { cause = codes "usage"; whole = refl }, c.in-Ok.ensures.ok)
+pub returns-clause-too_long : goal.returns-clause-too_long
+returns-clause-too_long g c = ran-too_long _ _ _ _ _ _ _ _ c.perform.ensures.ran
+
+pub returns-clause-write_fault : goal.returns-clause-write_fault
+returns-clause-write_fault g c = ran-write_fault _ _ _ _ _ _ _ _ c.perform.ensures.ran
+
+pub returns-clause-prefix : goal.returns-clause-prefix
+returns-clause-prefix g c = ran-prefix _ _ _ _ _ _ _ _ c.perform.ensures.ran
+
+pub returns-clause-no_memory : goal.returns-clause-no_memory
+returns-clause-no_memory g c = ran-no_memory _ _ _ _ _ _ _ _ c.perform.ensures.ran
+
+pub returns-clause-puts : goal.returns-clause-puts
+returns-clause-puts g c = ran-puts _ _ _ _ _ _ _ _ c.perform.ensures.ran
+
+pub returns-clause-refused : goal.returns-clause-refused
+returns-clause-refused g c = ran-refused _ _ _ _ _ _ _ _ c.perform.ensures.ran
+
+pub returns-clause-opens : goal.returns-clause-opens
+returns-clause-opens g c = ran-opens _ _ _ _ _ _ _ _ c.perform.ensures.ran
+
+pub returns-clause-loaded : goal.returns-clause-loaded
+returns-clause-loaded g c = ran-loaded _ _ _ _ _ _ _ _ c.perform.ensures.ran
+
+pub returns-clause-calm_shelf : goal.returns-clause-calm_shelf
+returns-clause-calm_shelf g c = ran-calm_shelf _ _ _ _ _ _ _ _ c.perform.ensures.ran
+
+pub returns-clause-calm_sink : goal.returns-clause-calm_sink
+returns-clause-calm_sink g c = ran-calm_sink _ _ _ _ _ _ _ _ c.perform.ensures.ran

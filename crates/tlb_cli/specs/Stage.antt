@@ -1,0 +1,36 @@
+-- A stage of a command refuses or gives something, and stages compose.
+use Rattle.std.specs.Prelude.{◌≡◌, ⊤, Result, Ok, Err}
+use Rattle.tlb_cli.specs.Refusal.{Refusal}
+use Rattle.tlb_cli.specs.View.{refusal_by}
+use Rattle.tlb_cli.specs.declared.refusal.Stop.{Stop}
+use Rattle.tlb_cli.specs.declared.refusal.Stop.TheVariants.{Refused, NoMemory}
+
+-- a stage, of what it refuses and what it gives
+abbrev pub stage : {X : Type 0} → (Refusal → Type 0) → (X → Type 0) → Result X Refusal → Type 0
+stage refuses gives (Ok x) = gives x
+stage refuses gives (Err refusal) = refuses refusal
+
+-- the last stage gives this
+abbrev pub Gives : {X : Type 0} → X → Result X Refusal → Type 0
+Gives x answer = answer ≡ Ok x
+
+-- a stage refuses, or the next one follows what it gives
+pub data Next {X Y : Type 0} (first : Result X Refusal → Type 0)
+    (next : X → Result Y Refusal → Type 0) (answer : Result Y Refusal) : Type 0 where
+  stops : (refusal : Refusal) → first (Err refusal) → answer ≡ Err refusal → Next first next answer
+  goes_on : (x : X) → first (Ok x) → next x answer → Next first next answer
+
+-- what is answered is the stage's, unless memory ended
+abbrev pub Answers : {T X : Type 0} → (Result X Refusal → Type 0) → (T → X) → Result T Stop → Type 0
+Answers judged view (Ok value) = judged (Ok (view value))
+Answers judged view (Err (Refused refusal)) = judged (Err (refusal_by refusal))
+Answers judged view (Err NoMemory) = ⊤
+
+-- it refuses by one refusal, or gives one thing
+abbrev pub IsOnce : {X : Type 0} → (Result X Refusal → Type 0) → Type 0
+IsOnce judged = (a b : Result _ Refusal) → judged a → judged b → a ≡ b
+
+-- where it is a refusal, it is so
+abbrev pub IfRefused : (Refusal → Type 0) → Stop → Type 0
+IfRefused P (Refused refusal) = P (refusal_by refusal)
+IfRefused P NoMemory = ⊤

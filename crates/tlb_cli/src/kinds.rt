@@ -1,0 +1,32 @@
+//! The stage of a schema's kinds and its guard.
+ghost use Rattle.std.specs.Prelude.{◌≡◌, ◌≢◌, false};
+ghost use Rattle.tlb_syntax.specs.Limits.{IsWithinLimits};
+ghost use Rattle.tlb_syntax.specs.View.{schema as schema_view};
+ghost use Rattle.tlb_cli.specs.Kinds.{Kinds};
+ghost use Rattle.tlb_cli.specs.Stage.{Answers};
+
+use crate::refusal::{Refusal, SchemaCause, Stop};
+use std::alloc::Global;
+use tlb_grammar::Schema;
+use tlb_kinds::{KindError, kind_check};
+
+fn is_no_memory(error: &KindError) -> bool
+    ensures { result ≡ false → error.now ≢ KindError.NoMemory }
+{
+    match error {
+        KindError::NoMemory => true,
+        _ => false,
+    }
+}
+
+/// Whether the schema has no refusal by its kinds or its guard. The schema is given back.
+pub fn kinds(alloc: Global, tree: Schema) -> Result<(), Stop>
+    requires { IsWithinLimits (schema_view tree) }
+    ensures { Answers (Kinds (schema_view tree)) (λ done. done) result }
+{
+    match kind_check(alloc, tree) {
+        Ok(_) => Ok(()),
+        Err(error) if is_no_memory(&error) => Err(Stop::NoMemory),
+        Err(error) => Err(Stop::Refused(Refusal::Schema(SchemaCause::Kinds(error)))),
+    }
+}

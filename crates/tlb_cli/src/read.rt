@@ -1,0 +1,44 @@
+//! `read SCHEMA TYPE BAG`
+ghost use Rattle.std.specs.Prelude.{◌≡◌, ◌≤◌, length, IfOk};
+ghost use Rattle.value_text.specs.Text.{text_of};
+ghost use Rattle.typed_value.specs.View.{value};
+ghost use Rattle.tlb_cli.specs.Lines.{line_of};
+ghost use Rattle.tlb_cli.specs.Read.{Reads};
+ghost use Rattle.tlb_cli.specs.Stage.{Answers};
+ghost use Rattle.tlb_cli.specs.View.{text_by};
+
+use crate::bag::bag;
+use crate::cell::cell_value;
+use crate::flat_form::flat_form;
+use crate::kinds::kinds;
+use crate::refusal::Stop;
+use crate::schema_text::schema_text;
+use crate::type_word::type_word;
+use flat_records::print;
+use std::alloc::Global;
+use tlb_memory::NoMemory;
+use typed_value::Value;
+
+// The value's text and a line feed.
+fn value_line(alloc: Global, shown: &Value) -> Result<Vec<u8>, NoMemory>
+    ensures { IfOk result (λ text. text.items ≡ line_of (text_of (value shown.now))) }
+{
+    let mut text = print(alloc, shown)?;
+    text.extend_from_slice(b"\n")?;
+    Ok(text)
+}
+
+/// The value that the bag's cell spells at the type, on a line.
+pub fn read(alloc: Global, schema: &[u8], word: &str, file: &[u8]) -> Result<Vec<u8>, Stop>
+    requires { length schema.now ≤ 1048576 }
+    ensures { Answers (Reads word.now schema.now file.now) text_by result }
+{
+    let tree = schema_text(alloc, schema)?;
+    kinds(alloc, tree)?;
+    let declarations = flat_form(alloc, schema)?;
+    let declaration = type_word(declarations.as_slice(), word)?;
+    let root = bag(alloc, file)?;
+    let shown = cell_value(alloc, declaration, &root)?;
+    let text = value_line(alloc, &shown)?;
+    Ok(text)
+}
