@@ -12,7 +12,7 @@ use Rattle.flat_records.specs.declared.read.Cause.{Cause}
 use Rattle.flat_records.specs.declared.read.Spot.{Spot}
 use Rattle.tlb_grammar.proofs.Reading.{refused_at_most_once, not_both_read, written_at_most_once}
 use Rattle.tlb_kinds.specs.Refusals.{IsKinded}
-use Rattle.tlb_kinds.proofs.Firsts.{refused_not_kinded}
+use Rattle.tlb_kinds.specs.RefusalLaws.{refused_not_kinded}
 use Rattle.tlb_lexer.proofs.Whole.{cut_once}
 use Rattle.tlb_lexer.specs.declared.Token.{Token}
 use Rattle.tlb_syntax.specs.Tree.{SchemaView}
