@@ -18,8 +18,8 @@ fn written(rt: &impl Abort, alloc: Global, cell: &Cell) -> Vec<u8> {
 
 // A bag, and the one that is written. Nine are written as they are: of the empty cell; a cell of one bit; a map of one
 // entry; a map of four entries; a proof; a cell over a branch; a library cell beside an ordinary one of the same bits;
-// cells of 7 and of 8 bits; equal bits over unequal cells. In the last three there are equal cells, a cell that the root
-// doesn't reach, and cells in another order than that of first completion.
+// cells of 7 and of 8 bits; equal bits over unequal cells. In the last three there are equal cells, a cell that the
+// root doesn't reach, and cells in another order than that of first completion.
 static BAGS: [(&str, &str); 12] = [
     ("b5ee9c72010101010002000000", "b5ee9c72010101010002000000"),
     (

@@ -35,8 +35,8 @@ struct Row {
 
 // 0 to 4: the empty cell, a library cell, a branch of mask 1, an ordinary cell over that branch and the library cell,
 // and a proof of an ordinary cell over the branch.
-// 5 and 6: a branch of mask 2, which stores 32 bytes 22 and the depth 2, and one of mask 3, which stores 32 bytes 33 and
-// 32 bytes 44, and the depths 3 and 4.
+// 5 and 6: a branch of mask 2, which stores 32 bytes 22 and the depth 2, and one of mask 3, which stores 32 bytes 33
+// and 32 bytes 44, and the depths 3 and 4.
 // 7 to 11: an ordinary cell without bits over those two, the branch that stands for it below one proof, a proof of each
 // of the two, and an update from the first to the second.
 // A hash is that of the two descriptor bytes, the data, and the depths and then the hashes of the children; above the

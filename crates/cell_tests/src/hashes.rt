@@ -52,8 +52,8 @@ fn known_cells_have_their_hashes(rt: HostRuntime) {
     }
 }
 
-// The SHA-256 of 02 02 ab, the depths 00 00 and 01 02, and 32 bytes 11 and 32 bytes 22; and of 22 02, 32 bytes 77, and the
-// same depths and hashes.
+// The SHA-256 of 02 02 ab, the depths 00 00 and 01 02, and 32 bytes 11 and 32 bytes 22; and of 22 02, 32 bytes 77, and
+// the same depths and hashes.
 const OVER_DATA: &str = "7f54a1c87970f69b1e8ceb5dc37021a330cdb871e1a8e885d41a5f2884be65f5";
 
 const OVER_PREVIOUS: &str = "d516c1bc1b589d7f37b5301c3e704bf2f0fb174f18bd3d3c198ce05578748336";
