@@ -10,7 +10,8 @@ pub(crate) fn bits(rt: &impl Abort, alloc: Global, text: &str) -> BitString {
         .expect(rt, "bits")
 }
 
-fn shows(rt: &impl Abort, alloc: Global, slice: BitSlice<'_>, text: &str) -> bool {
+/// Whether a hexadecimal text spells these bits.
+pub(crate) fn shows(rt: &impl Abort, alloc: Global, slice: BitSlice<'_>, text: &str) -> bool {
     slice.hex_text(alloc).expect(rt, "memory").as_slice() == text.as_bytes()
 }
 
@@ -45,28 +46,12 @@ static REFUSED: [(&str, u64); 8] = [
     ("A ", 1),
 ];
 
-fn refusal(alloc: Global, text: &[u8]) -> Option<HexTextError> {
-    BitString::from_hex_text(alloc, text).err()
-}
-
 #[test]
 fn texts_are_refused_at_their_first_bad_byte(rt: HostRuntime) {
     for (text, place) in REFUSED.iter() {
-        assert!(rt;
-            refusal(rt.alloc(), text.as_bytes()) == Some(HexTextError::Bad(*place)),
-            "at {text}"
-        );
+        let found = BitString::from_hex_text(rt.alloc(), text.as_bytes()).err();
+        assert!(rt; found == Some(HexTextError::Bad(*place)), "at {text}");
     }
-}
-
-#[test]
-fn a_text_holds_at_most_1023_bits(rt: HostRuntime) {
-    let mut digits = [b'0'; 257];
-    assert!(rt; refusal(rt.alloc(), &digits[..255]).is_none());
-    assert!(rt; refusal(rt.alloc(), &digits[..256]) == Some(HexTextError::TooLong));
-    digits[255] = b'1';
-    digits[256] = b'_';
-    assert!(rt; refusal(rt.alloc(), &digits).is_none());
 }
 
 #[test]
@@ -98,16 +83,4 @@ fn copies_are_the_same(rt: HostRuntime) {
     let copy = BitString::from_slice(rt.alloc(), bytes.slice()).expect(&rt, "memory");
     assert!(rt; bytes.slice().same(copy.slice()));
     assert!(rt; shows(&rt, rt.alloc(), copy.slice(), "A5D"));
-}
-
-#[test]
-fn a_writer_is_full_at_1023_bits(rt: HostRuntime) {
-    let ones = BitString::from_bytes(rt.alloc(), &[255; 128], 1022).expect(&rt, "memory");
-    let mut writer = BitWriter::new(rt.alloc()).expect(&rt, "memory");
-    writer.push_number(0, 1).expect(&rt, "room");
-    writer.push_bits(ones.slice()).expect(&rt, "room");
-    assert!(rt; writer.push_number(1, 1).is_err());
-    let bits = writer.finish();
-    assert!(rt; bits.slice().len() == 1023);
-    assert!(rt; bits.slice().number(128) == Some(u128::MAX >> 1));
 }

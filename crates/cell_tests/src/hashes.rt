@@ -26,13 +26,6 @@ fn known_messages_have_their_crc32c(rt: HostRuntime) {
     assert!(rt; crc32c(&rising) == 0x46dd_794e && crc32c(&falling) == 0x113f_db5c);
 }
 
-#[test]
-fn descriptor_bytes_count_references_and_data(rt: HostRuntime) {
-    assert!(rt; descriptor(0, false, 0, 0) == (0, 0) && descriptor(2, false, 0, 8) == (2, 2));
-    assert!(rt; descriptor(1, false, 1, 12) == (33, 3) && descriptor(1, true, 0, 280) == (9, 70));
-    assert!(rt; descriptor(4, true, 1, 1023) == (44, 255));
-}
-
 // The SHA-256 of 00 00, and of 00 03 b3 b0.
 static DATA: [(u8, &str, &str); 2] = [
     (
@@ -49,6 +42,9 @@ static DATA: [(u8, &str, &str); 2] = [
 
 #[test]
 fn known_cells_have_their_hashes(rt: HostRuntime) {
+    assert!(rt; descriptor(0, false, 0, 0) == (0, 0) && descriptor(2, false, 0, 8) == (2, 2));
+    assert!(rt; descriptor(1, false, 1, 12) == (33, 3) && descriptor(1, true, 0, 280) == (9, 70));
+    assert!(rt; descriptor(4, true, 1, 1023) == (44, 255));
     for (second, data, digits) in DATA.iter() {
         let data = bits(&rt, rt.alloc(), data);
         let hash = hash_parts((0, *second), Content::Data(data.slice()), &[]);
@@ -56,7 +52,12 @@ fn known_cells_have_their_hashes(rt: HostRuntime) {
     }
 }
 
-// The SHA-256 of 02 02 ab, the depths 00 00 and 01 02, and 32 bytes 11 and 32 bytes 22.
+// The SHA-256 of 02 02 ab, the depths 00 00 and 01 02, and 32 bytes 11 and 32 bytes 22; and of 22 02, 32 bytes 77, and
+// the same depths and hashes.
+const OVER_DATA: &str = "7f54a1c87970f69b1e8ceb5dc37021a330cdb871e1a8e885d41a5f2884be65f5";
+
+const OVER_PREVIOUS: &str = "d516c1bc1b589d7f37b5301c3e704bf2f0fb174f18bd3d3c198ce05578748336";
+
 #[test]
 fn children_give_their_depths_and_then_their_hashes(rt: HostRuntime) {
     let children = [
@@ -71,18 +72,7 @@ fn children_give_their_depths_and_then_their_hashes(rt: HostRuntime) {
     ];
     let data = bits(&rt, rt.alloc(), "AB");
     let hash = hash_parts((2, 2), Content::Data(data.slice()), &children);
-    let digits = "7f54a1c87970f69b1e8ceb5dc37021a330cdb871e1a8e885d41a5f2884be65f5";
-    assert!(rt; has_digits(rt.alloc(), &hash, digits));
-}
-
-// The SHA-256 of 21 03, 32 bytes 77, the depth 00 01, and 32 bytes 99.
-#[test]
-fn a_previous_hash_stands_in_place_of_the_data(rt: HostRuntime) {
-    let child = ChildMark {
-        depth: 1,
-        hash: [0x99; 32],
-    };
-    let hash = hash_parts((33, 3), Content::Previous([0x77; 32]), &[child]);
-    let digits = "33a1ad3f7d5abf9d6f9e877a1d3f7b531fb07976f7619c195340cb521e058bd3";
-    assert!(rt; has_digits(rt.alloc(), &hash, digits));
+    assert!(rt; has_digits(rt.alloc(), &hash, OVER_DATA));
+    let hash = hash_parts((34, 2), Content::Previous([0x77; 32]), &children);
+    assert!(rt; has_digits(rt.alloc(), &hash, OVER_PREVIOUS));
 }

@@ -1,4 +1,4 @@
-//! Tests of the crates below the language: bits and names, sums, hashes, cells, bags, numbers, values.
+//! Tests of the crates below the language: bits, sums, hashes, cells, bags, pools, dictionaries, numbers, values.
 #![tactic(auto)]
 
 #[cfg(test)]
@@ -8,10 +8,16 @@ mod bits;
 #[cfg(test)]
 mod cells;
 #[cfg(test)]
+mod dictionaries;
+#[cfg(test)]
 mod hashes;
+#[cfg(test)]
+mod labels;
 #[cfg(test)]
 mod names;
 #[cfg(test)]
 mod numbers;
+#[cfg(test)]
+mod pools;
 #[cfg(test)]
 mod values;

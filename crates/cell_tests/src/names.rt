@@ -24,9 +24,5 @@ fn a_copy_of_a_name_is_the_same(rt: HostRuntime) {
     let name = Name::new(rt.alloc(), text).expect(&rt, "memory");
     let copy = name.copy(rt.alloc()).expect(&rt, "memory");
     assert!(rt; name.text() == text && copy.same(&name) && copy == name);
-}
-
-#[test]
-fn a_refused_allocation_is_no_memory(rt: HostRuntime) {
     assert!(rt; NoMemory::from(AllocError) == NoMemory);
 }

@@ -11,10 +11,6 @@ use sqlite_items::{Boxed, Items};
 use std::alloc::Global;
 use std::process::Abort;
 
-fn popped(rt: &impl Abort, stack: &mut Items<NatExpr>) -> NatExpr {
-    stack.pop().expect(rt, "an operand")
-}
-
 fn sum(rt: &impl Abort, alloc: Global, left: NatExpr, right: NatExpr) -> NatExpr {
     let mut terms = Items::new(alloc);
     terms.push(left).ok().expect(rt, "memory");
@@ -22,37 +18,29 @@ fn sum(rt: &impl Abort, alloc: Global, left: NatExpr, right: NatExpr) -> NatExpr
     NatExpr::Sum(terms)
 }
 
-fn product(rt: &impl Abort, alloc: Global, factor: &NatExpr, e: NatExpr) -> NatExpr {
-    let operand = Boxed::new(alloc, e).expect(rt, "memory");
-    match factor {
-        NatExpr::Lit(k) => NatExpr::Times(*k, operand),
-        _ => NatExpr::Times(0, operand),
-    }
-}
-
-fn number(rt: &impl Abort, digits: &str) -> u32 {
-    digits.parse().ok().expect(rt, "a number")
-}
-
 fn operator(rt: &impl Abort, alloc: Global, stack: &mut Items<NatExpr>, word: &str) -> NatExpr {
-    let right = popped(rt, stack);
-    let left = popped(rt, stack);
+    let right = stack.pop().expect(rt, "an operand");
+    let left = stack.pop().expect(rt, "an operand");
     if word == "+" {
-        sum(rt, alloc, left, right)
-    } else {
-        product(rt, alloc, &left, right)
+        return sum(rt, alloc, left, right);
+    }
+    let operand = Boxed::new(alloc, right).expect(rt, "memory");
+    match left {
+        NatExpr::Lit(k) => NatExpr::Times(k, operand),
+        _ => NatExpr::Times(0, operand),
     }
 }
 
 fn term(rt: &impl Abort, alloc: Global, stack: &mut Items<NatExpr>, word: &str) -> NatExpr {
     if word == "?" {
-        NatExpr::Sought(9)
-    } else if word == "+" || word == "*" {
-        operator(rt, alloc, stack, word)
-    } else if let Some(digits) = word.strip_prefix("v") {
-        NatExpr::Var(number(rt, digits))
-    } else {
-        NatExpr::Lit(number(rt, word))
+        return NatExpr::Sought(9);
+    }
+    if word == "+" || word == "*" {
+        return operator(rt, alloc, stack, word);
+    }
+    match word.strip_prefix("v") {
+        Some(digits) => NatExpr::Var(digits.parse().ok().expect(rt, "a number")),
+        None => NatExpr::Lit(word.parse().ok().expect(rt, "a number")),
     }
 }
 
@@ -62,7 +50,7 @@ fn expression(rt: &impl Abort, alloc: Global, words: &str) -> NatExpr {
         let e = term(rt, alloc, &mut stack, word);
         stack.push(e).ok().expect(rt, "memory");
     }
-    popped(rt, &mut stack)
+    stack.pop().expect(rt, "an operand")
 }
 
 /// The variables 0 to 3: 5, 4294967295, unset and unset.
@@ -71,13 +59,6 @@ fn numbers(rt: &impl Abort, alloc: Global) -> Env {
     env.set(0, 5);
     env.set(1, u32::MAX);
     env
-}
-
-#[test]
-fn variables_are_set_and_read(rt: HostRuntime) {
-    let env = numbers(&rt, rt.alloc());
-    assert!(rt; env.get(0) == Some(5) && env.get(1) == Some(u32::MAX));
-    assert!(rt; env.get(2).is_none() && env.get(4).is_none());
 }
 
 /// The value of an expression without an unknown.
@@ -112,26 +93,27 @@ fn expressions_have_values_or_a_first_part_without_one(rt: HostRuntime) {
     }
 }
 
-fn compares(env: &Env, left: u32, op: Op) -> bool {
-    holds(&NatExpr::Lit(left), op, &NatExpr::Var(0), env) == Ok(true)
-}
-
-// Whether 4, 5 and 6 compare so to the variable 0, which is 5.
-static COMPARISONS: [(Op, bool, bool, bool); 5] = [
-    (Op::Eq, false, true, false),
-    (Op::Lt, true, false, false),
-    (Op::Le, true, true, false),
-    (Op::Gt, false, false, true),
-    (Op::Ge, false, true, true),
+// A number, and whether it compares so to the variable 0, which is 5.
+static COMPARISONS: [(u32, Op, bool); 10] = [
+    (5, Op::Eq, true),
+    (6, Op::Eq, false),
+    (4, Op::Lt, true),
+    (5, Op::Lt, false),
+    (5, Op::Le, true),
+    (6, Op::Le, false),
+    (6, Op::Gt, true),
+    (5, Op::Gt, false),
+    (5, Op::Ge, true),
+    (4, Op::Ge, false),
 ];
 
 #[test]
-fn two_sides_are_compared(rt: HostRuntime) {
+fn numbers_compare_to_variables(rt: HostRuntime) {
     let env = numbers(&rt, rt.alloc());
-    for (op, less, same, more) in COMPARISONS.iter() {
-        assert!(rt; compares(&env, 4, *op) == *less);
-        assert!(rt; compares(&env, 5, *op) == *same);
-        assert!(rt; compares(&env, 6, *op) == *more);
+    assert!(rt; env.get(0) == Some(5) && env.get(2).is_none());
+    for (left, op, holds_so) in COMPARISONS.iter() {
+        let found = holds(&NatExpr::Lit(*left), *op, &NatExpr::Var(0), &env);
+        assert!(rt; found == Ok(*holds_so), "at {left}");
     }
 }
 
@@ -181,13 +163,6 @@ static FITS: [(Pattern, u32, Option<u32>); 6] = [
     (Pattern::Plus(0, 4), u32::MAX, Some(4_294_967_291)),
 ];
 
-#[test]
-fn patterns_fit_numbers(rt: HostRuntime) {
-    for (pattern, number, fit) in FITS.iter() {
-        assert!(rt; pattern_fit(pattern, *number) == *fit);
-    }
-}
-
 static PAIRS: [(Pattern, Pattern, bool); 6] = [
     (Pattern::Lit(3), Pattern::Plus(0, 4), true),
     (Pattern::Lit(0), Pattern::Lit(3), true),
@@ -198,7 +173,10 @@ static PAIRS: [(Pattern, Pattern, bool); 6] = [
 ];
 
 #[test]
-fn patterns_exclude_each_other(rt: HostRuntime) {
+fn patterns_fit_numbers_and_exclude_each_other(rt: HostRuntime) {
+    for (pattern, number, fit) in FITS.iter() {
+        assert!(rt; pattern_fit(pattern, *number) == *fit);
+    }
     for (first, second, exclude) in PAIRS.iter() {
         assert!(rt; patterns_exclude(first, second) == *exclude);
     }

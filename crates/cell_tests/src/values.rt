@@ -1,9 +1,13 @@
-//! Paths in a value.
-use bit_slice::is_name;
-use sqlite_items::Items;
+//! Paths in a value, copies, and the text that is printed.
+use crate::bits::bits;
+use crate::cells::over;
+use bit_slice::{BitString, is_name};
+use cell_nodes::Cell;
+use sqlite_items::{Boxed, Items};
 use std::alloc::Global;
 use std::process::Abort;
-use typed_value::{Name, Number, Path, Record, Step, Value};
+use typed_value::{Dict, Hidden, Name, Number, Path, Record, RestPart, Step, Value};
+use value_text::print;
 
 fn name(rt: &impl Abort, alloc: Global, text: &str) -> Name {
     assert!(rt; is_name(text.as_bytes()));
@@ -25,9 +29,10 @@ fn record(rt: &impl Abort, alloc: Global, field: &str, value: Value) -> Record {
     Record { name: None, fields }
 }
 
-// The record `{n:7,r:{m:17},n:1}`, of which the first `n` counts.
+// The record `t{n:7,r:{m:17},n:1}`, of which the first `n` counts.
 fn example(rt: &impl Abort, alloc: Global) -> Value {
     let mut outer = record(rt, alloc, "n", number(7));
+    outer.name = Some(name(rt, alloc, "t"));
     let inner = Value::Record(record(rt, alloc, "m", number(17)));
     let entry = (name(rt, alloc, "r"), inner);
     outer.fields.push(entry).ok().expect(rt, "memory");
@@ -73,19 +78,57 @@ fn fields_lead_to_the_values_inside(rt: HostRuntime) {
     }
 }
 
-#[test]
-fn an_item_names_nothing_in_a_record(rt: HostRuntime) {
-    let value = example(&rt, rt.alloc());
-    let mut steps = Items::new(rt.alloc());
-    steps.push(Step::Item(0)).ok().expect(&rt, "memory");
-    assert!(rt; value.at(&Path { steps }).is_none());
+const HIDDEN: Hidden = Hidden {
+    hash: [0x5a; 32],
+    depth: 7,
+};
+
+/// A map of the keys 00 and 01, and a hidden part after them.
+fn map(rt: &impl Abort, alloc: Global) -> Value {
+    let mut pairs = Items::new(alloc);
+    let entry = (bits(rt, alloc, "2_"), Value::Absent);
+    pairs.push(entry).ok().expect(rt, "memory");
+    let inner = Boxed::new(alloc, example(rt, alloc)).expect(rt, "memory");
+    let entry = (bits(rt, alloc, "6_"), Value::Ref(inner));
+    pairs.push(entry).ok().expect(rt, "memory");
+    let mut unknown = Items::new(alloc);
+    let entry = (bits(rt, alloc, "C_"), HIDDEN);
+    unknown.push(entry).ok().expect(rt, "memory");
+    Value::Map(Dict { pairs, unknown })
 }
 
+/// Cells as they are: a library cell, and the rest of a cell with a reference.
+fn cells(rt: &impl Abort, alloc: Global) -> (Value, Value) {
+    let mut refs = Items::new(alloc);
+    refs.push(over(rt, alloc, &[])).ok().expect(rt, "memory");
+    let library = Cell::library(alloc, &[0x11; 32]).expect(rt, "memory");
+    let rest = RestPart {
+        bits: bits(rt, alloc, "D2C_"),
+        refs,
+    };
+    (Value::Raw(library), Value::Rest(rest))
+}
+
+const TEXT: &str = "[-17,x{D2C_},<x{2_}:~,x{6_}:^t{n:7,r:{m:17},n:1},x{C_}?\
+5a5a5a5a5a5a5a5a5a5a5a5a5a5a5a5a5a5a5a5a5a5a5a5a5a5a5a5a5a5a5a5a.7>,\
+!(x{021111111111111111111111111111111111111111111111111111111111111111}),%(x{D2C_},(x{})),?\
+5a5a5a5a5a5a5a5a5a5a5a5a5a5a5a5a5a5a5a5a5a5a5a5a5a5a5a5a5a5a5a5a.7]";
+
 #[test]
-fn a_copy_is_made_of_as_many_values(rt: HostRuntime) {
-    let value = example(&rt, rt.alloc());
-    let copy = value.copy(rt.alloc()).expect(&rt, "memory");
-    assert!(rt; copy.levels() == 3 && copy.parts() == 5);
-    let path = path(&rt, rt.alloc(), "r m");
-    assert!(rt; number_at(&copy, &path) == Some(17));
+fn values_of_each_form_are_copied_and_printed(rt: HostRuntime) {
+    let mut items = Items::new(rt.alloc());
+    let negative = Value::Number(Number {
+        negative: true,
+        size: 17,
+    });
+    let (raw, rest) = cells(&rt, rt.alloc());
+    let bits = Value::Bits(bits(&rt, rt.alloc(), "D2C_"));
+    let hidden = Value::Unknown(HIDDEN);
+    for value in [negative, bits, map(&rt, rt.alloc()), raw, rest, hidden] {
+        items.push(value).ok().expect(&rt, "memory");
+    }
+    let copy = Value::List(items).copy(rt.alloc()).expect(&rt, "memory");
+    assert!(rt; copy.levels() == 6 && copy.parts() == 14);
+    let text = print(rt.alloc(), &copy).expect(&rt, "memory");
+    assert!(rt; text.as_slice() == TEXT.as_bytes());
 }
