@@ -10,12 +10,14 @@ use Rattle.flat_records.specs.Lexemes.{lexemes}
 use Rattle.flat_records.specs.declared.declaration.Declaration.{Declaration}
 use Rattle.flat_records.specs.declared.read.Cause.{Cause}
 use Rattle.flat_records.specs.declared.read.Spot.{Spot}
-use Rattle.tlb_grammar.proofs.Reading.{refused_at_most_once, not_both_read, written_at_most_once}
+use Rattle.tlb_grammar.specs.Answer.{Refuses}
+use Rattle.tlb_grammar.specs.declared.error.GrammarError.{GrammarError}
 use Rattle.tlb_kinds.specs.Refusals.{IsKinded}
 use Rattle.tlb_kinds.specs.RefusalLaws.{refused_not_kinded}
 use Rattle.tlb_lexer.proofs.Whole.{cut_once}
 use Rattle.tlb_lexer.specs.declared.Token.{Token}
 use Rattle.tlb_syntax.specs.Tree.{SchemaView}
+use Rattle.tlb_syntax.specs.Written.{Writes}
 use Rattle.typed_value.specs.Values.{Plain}
 use Rattle.tlb_cli.specs.Bag.{Bag, RefusesBag}
 use Rattle.tlb_cli.specs.Cell.{Cell, RefusesCell, exotic, stuck, SpellsValue}
@@ -36,11 +38,17 @@ some-same d e o a b = let same : Some d ≡ Some e = sym a ∙ b in cc
 none-some : {X : Type 0} (d : X) (o : Option X) → o ≡ None → o ≡ Some d → ⊥
 none-some d o a b = let same : None ≡ Some d = sym a ∙ b in grind arith
 
-pub text-once : (text : List ℕ) → IsOnce (SchemaText text)
-text-once text = stage-once (RefusesText text) _
-    (λ r s a b. a.2 ∙ ap (λ e. schema (Text e)) (refused_at_most_once text a.0 b.0 a.1 b.1) ∙ sym b.2)
-    (λ s t a b. written_at_most_once text s t a b)
-    (λ r s a b. not_both_read text s a.0 b a.1)
+-- what the laws of texts say of a schema's text
+pub record TextLaws : Type 0 where
+  pub written : (text : List ℕ) (s t : SchemaView) → Writes text s → Writes text t → s ≡ t
+  pub refused : (text : List ℕ) (e f : GrammarError) → Refuses text e → Refuses text f → e ≡ f
+  pub not_both : (text : List ℕ) (s : SchemaView) (e : GrammarError) → Writes text s → Refuses text e → ⊥
+
+pub text-once : TextLaws → (text : List ℕ) → IsOnce (SchemaText text)
+text-once laws text = stage-once (RefusesText text) _
+    (λ r s a b. a.2 ∙ ap (λ e. schema (Text e)) (laws.refused text a.0 b.0 a.1 b.1) ∙ sym b.2)
+    (λ s t a b. laws.written text s t a b)
+    (λ r s a b. laws.not_both text s a.0 b a.1)
 
 unit-once : (P : Type 0) (x y : Unit {0}) → P → P → x ≡ y
 unit-once P x y a b = refl

@@ -25,8 +25,12 @@ pub fn kinds(alloc: Global, tree: Schema) -> Result<(), Stop>
     ensures { Answers (Kinds (schema_view tree)) (λ done. done) result }
 {
     match kind_check(alloc, tree) {
-        Ok(_) => Ok(()),
-        Err(error) if is_no_memory(&error) => Err(Stop::NoMemory),
-        Err(error) => Err(Stop::Refused(Refusal::Schema(SchemaCause::Kinds(error)))),
+        Ok(_kinded) => Ok(()),
+        Err(error) => {
+            if is_no_memory(&error) {
+                return Err(Stop::NoMemory);
+            }
+            Err(Stop::Refused(Refusal::Schema(SchemaCause::Kinds(error))))
+        }
     }
 }
