@@ -9,7 +9,7 @@ use Rattle.tlb_lexer.specs.declared.Token.{Token}
 use Rattle.tlb_lexer.specs.Bytes.{is_bit, is_hex_digit}
 use Rattle.tlb_lexer.specs.Spelling.{spells, is_underscore, are_bits, ends_hex}
 use Rattle.tlb_lexer.specs.Cut.{longest_name, CutFrom, ended, gap, token, Cut, Longest}
-use Rattle.tlb_lexer.proofs.Runs.{and_parts, or_parts, clash}
+use Rattle.tlb_grammar.proofs.Symbols.{and_parts, or_parts, clash}
 use Rattle.tlb_syntax.specs.declared.sign.Sign.{Sign}
 use Rattle.tlb_syntax.specs.Lexeme.{Lexeme, word, blank, number, tag, sign, other, meaning, lexemes, decimal_onto, binary_bits, hexadecimal_bits, at_most_1023, and_at_most_1023, hex_value, hex_bits, or_behind, without_completion, hex_digits, is_completed, sign_among, sign_text, signs}
 use Rattle.tlb_grammar.proofs.CanonicalTrees.{IsWord, IsMark}

@@ -8,7 +8,8 @@ pub mod CanonicalWritten
 pub mod Goes
 pub mod Pieces
 pub mod PiecesLongest
-pub mod Runs
 pub mod Reading
+pub mod Runs
+pub mod Symbols
 pub mod Views
 pub mod Whole

@@ -7,8 +7,7 @@ use Rattle.tlb_lexer.specs.declared.TokenKind.TheVariants.{Name, Blank, Number, 
 use Rattle.tlb_lexer.specs.Bytes.{is_letter, is_digit, is_name_byte, is_bit, is_hex_digit}
 use Rattle.tlb_lexer.specs.Spelling.{spells, is_underscore, are_bits, ends_hex}
 use Rattle.tlb_lexer.specs.Cut.{Longest}
-use Rattle.tlb_lexer.proofs.Runs.{and_parts, or_parts}
-use Rattle.tlb_lexer.proofs.Classes.{hashes, hash_less, hash_less_equal, angle_equal, long_symbol, not_empty}
+use Rattle.tlb_grammar.proofs.Symbols.{and_parts, or_parts, hashes, hash_less, hash_less_equal, angle_equal, long_symbol, not_empty}
 
 -- the bytes that a token may have behind its first: those of names, and `#`, `<` and `=`
 abbrev pub is_inner : ℕ → Bool

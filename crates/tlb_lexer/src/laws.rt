@@ -1,7 +1,10 @@
 //! Laws of the cut: functions of no parameters, whose contracts speak of the definitions alone.
-ghost use Rattle.std.specs.Prelude.{◌≡◌, ◌⊎◌, ℕ, List};
-ghost use Rattle.tlb_lexer.specs.Cut.{Cut, CutRefused, PlacedFrom};
+ghost use Rattle.std.specs.Prelude.{◌≡◌, ◌∷◌, ◌⊎◌, ℕ, List};
+ghost use Rattle.tlb_lexer.specs.Cut.{Cut, CutRefused, Longest, PlacedFrom};
+ghost use Rattle.tlb_lexer.specs.Stretch.{class};
 ghost use Rattle.tlb_lexer.specs.declared.Token.{Token};
+ghost use Rattle.tlb_lexer.specs.declared.TokenKind.TheVariants as kinds;
+ghost use Rattle.tlb_lexer.specs.declared.bytes.Class.TheVariants as classes;
 ghost use Rattle.tlb_lexer.specs.declared.LexError.{LexError};
 
 /// A text has at most one cut, at most one refusal, and not both.
@@ -19,4 +22,9 @@ pub fn at_least_one()
 /// The tokens of a cut stand in order within the text, and their bytes spell their kinds.
 pub fn in_order()
     ensures { (text : List ℕ) (ts : List Token) → Cut text ts → PlacedFrom text 0 ts }
+{}
+
+/// A symbol that begins no longer one is a token, whatever follows.
+pub fn signs_stand_alone()
+    ensures { (b : ℕ) (bs : List ℕ) → class b ≡ classes.Sign → Longest kinds.Symbol 1 (b ∷ bs) }
 {}
