@@ -7,7 +7,7 @@ use Rattle.tlb_syntax.specs.Written.{standard, HasFew, IsFirst, SchemaRefusal, W
 use Rattle.syntax_check.specs.Judge.{Verdict, schema_verdict, word_verdict}
 use Rattle.syntax_check.specs.Verdict.{cause_of, SchemaSomeAnswer, WordSomeAnswer}
 use Rattle.syntax_check.proofs.Schemas.{schema_written, schema_refused}
-use Rattle.syntax_check.proofs.Words.{word_written, word_refused}
+use Rattle.syntax_check.proofs.TypeWords.{word_written, word_refused}
 
 pub schema_some_answer : SchemaSomeAnswer
 schema_some_answer ls = go (schema_verdict ls) refl

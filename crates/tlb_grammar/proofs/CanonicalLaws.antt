@@ -8,7 +8,7 @@ use Rattle.tlb_syntax.specs.Text.{constructor_text}
 use Rattle.tlb_syntax.specs.Grammar.{Declarations}
 use Rattle.tlb_syntax.specs.Written.{HasFew, Writes, standard}
 use Rattle.tlb_grammar.specs.Canonical.{constructor_levels, IsWritten}
-use Rattle.tlb_grammar.proofs.Runs.{schema_once}
+use Rattle.tlb_grammar.proofs.Completeness.{schema_once}
 use Rattle.tlb_grammar.proofs.Pieces.{CutAs, pieces_cut}
 use Rattle.tlb_grammar.proofs.CanonicalTrees.{IsConstructor, constructor_before}
 use Rattle.tlb_grammar.proofs.CanonicalWritten.{leveled, canonical_written}

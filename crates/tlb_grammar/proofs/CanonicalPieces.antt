@@ -26,21 +26,21 @@ use Rattle.tlb_grammar.proofs.Pieces.{both, Pieces, no_piece, a_space, a_token}
 use Rattle.tlb_grammar.proofs.PiecesLongest.{is_inner, stops, longest_before}
 use Rattle.tlb_grammar.proofs.CanonicalTrees.{IsWord, IsMark, IsWordOrBlank, IsTag, IsExpr, AreExprs, IsType, IsItem, AreItems, IsConstructor, head, comparing, kind_lexeme, marked, expr_before, exprs_before, type_before, item_before, items_before, exotic_before, constructor_before}
 
--- ---- parts of texts, with what puts their lexemes in front
+-- ---- parts of texts, with what puts their lexemes in prefix
 
--- in front of any text of pieces
+-- before any text of pieces
 record Free (xs : List ℕ) (f : List Lexeme → List Lexeme) : Type 0 where
   goes : (text : List ℕ) (ls : List Lexeme) → Pieces text ls → Pieces (xs ++ text) (f ls)
 
--- in front of a text that ends a token
+-- before a text that ends a token
 pub record Part (xs : List ℕ) (f : List Lexeme → List Lexeme) : Type 0 where
   pub goes : (text : List ℕ) (ls : List Lexeme) → stops text ≡ true → Pieces text ls → Pieces (xs ++ text) (f ls)
 
--- in front of a text that ends a token, it ends a token
+-- before a text that ends a token, it ends a token
 record Ends (xs : List ℕ) : Type 0 where
   ends : (text : List ℕ) → stops text ≡ true → stops (xs ++ text) ≡ true
 
--- in front of any text of pieces, and it ends a token
+-- before any text of pieces, and it ends a token
 record Breaks (xs : List ℕ) (f : List Lexeme → List Lexeme) : Type 0 where
   free : Free xs f
   stop : (text : List ℕ) → stops (xs ++ text) ≡ true
@@ -251,7 +251,7 @@ module _ (sign_longest : SignsStandAlone) where
   semicolon : Breaks (codes ";") (λ ls. sign Semicolon ∷ ls)
   semicolon = breaking 59 Semicolon refl refl refl
 
-  -- a bracket behind a space
+  -- a bracket after a space
   close_bracket : Breaks (codes " ]") (λ ls. sign CloseBracket ∷ ls)
   close_bracket =
       let m = mark 93 CloseBracket refl refl in

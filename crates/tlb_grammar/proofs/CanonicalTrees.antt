@@ -87,7 +87,7 @@ pub record IsConstructor (c : ConstructorView) : Type 0 where
   pub few_params : exprs_count c.params ≤ 8
   pub params : AreExprs c.params
 
--- ---- their lexemes, in front of others
+-- ---- their lexemes, before others
 
 abbrev pub head : Option (List ℕ) → Lexeme
 head (Some x) = word x

@@ -8,7 +8,7 @@ use Rattle.tlb_lexer.specs.declared.Token.{Token}
 use Rattle.tlb_lexer.specs.Cut.{Longest, longest_name, white, CutFrom, ended, gap, token}
 use Rattle.tlb_syntax.specs.Lexeme.{Lexeme, meaning, lexemes}
 
--- nothing, a space in front of such a text, or the bytes of a token in front of one: no longer front spells any token
+-- nothing, a space before such a text, or the bytes of a token before one: no longer prefix spells any token
 pub data Pieces : List ℕ → List Lexeme → Type 0 where
   no_piece : Pieces [] []
   a_space : {text : List ℕ} {ls : List Lexeme} → Pieces text ls → Pieces (32 ∷ text) ls

@@ -7,7 +7,7 @@ ghost use Rattle.tlb_grammar.specs.Canonical.{constructor_levels, IsWritten};
 
 use tlb_lexer::laws::{at_most_one, signs_stand_alone};
 
-/// The canonical text of a constructor that some text writes, with a semicolon behind it, writes that constructor
+/// The canonical text of a constructor that some text writes, with a semicolon after it, writes that constructor
 /// exactly where it opens at most 64 levels.
 pub fn canonical_text()
     ensures { (c : ConstructorView) → IsWritten c

@@ -14,7 +14,7 @@ use Rattle.tlb_lexer.specs.Spelling.{spells}
 abbrev pub longest_name : ℕ
 longest_name = 127
 
--- the first n bytes of the text spell a token of the kind, and no longer front spells any token
+-- the first n bytes of the text spell a token of the kind, and no longer prefix spells any token
 pub record Longest (kind : TokenKind) (n : ℕ) (text : List ℕ) : Type 0 where
   pub within : n ≤ length text
   pub spelled : spells kind (take n text) ≡ true
@@ -29,7 +29,7 @@ pub record FirstAt (mark : List ℕ) (place : ℕ) (bytes : List ℕ) : Type 0 w
   pub stands : StandsAt mark place bytes
   pub first : (earlier : ℕ) → earlier < place → StandsAt mark earlier bytes → ⊥
 
--- one byte of white space stands in front
+-- one byte of white space stands first
 pub record IsWhite (n : ℕ) (text : List ℕ) : Type 0 where
   pub byte : ℕ
   pub rest : List ℕ
@@ -42,7 +42,7 @@ pub record IsLineComment (n : ℕ) (text : List ℕ) : Type 0 where
   pub opens : StandsAt (codes "//") 0 text
   pub size : n ≡ 2 + prefix_len is_in_line (drop 2 text)
 
--- a comment of n bytes from `/*` to the next `*/`, which begins behind the `/*`
+-- a comment of n bytes from `/*` to the next `*/`, which begins after the `/*`
 pub record IsBlockComment (n : ℕ) (text : List ℕ) : Type 0 where
   pub opens : StandsAt (codes "/*") 0 text
   pub place : ℕ
@@ -55,12 +55,12 @@ pub data IsGap (n : ℕ) (text : List ℕ) : Type 0 where
   line : IsLineComment n text → IsGap n text
   block : IsBlockComment n text → IsGap n text
 
--- a `/*` stands in front, and no `*/` behind it
+-- a `/*` stands first, and no `*/` after it
 pub record IsOpenComment (text : List ℕ) : Type 0 where
   pub opens : StandsAt (codes "/*") 0 text
   pub never : (place : ℕ) → StandsAt (codes "*/") place (drop 2 text) → ⊥
 
--- in front of the text, which has not ended, there is no gap, no token and no open comment
+-- before the text, which has not ended, there is no gap, no token and no open comment
 pub record IsNothing (text : List ℕ) : Type 0 where
   pub not_ended : 0 < length text
   pub no_gap : (n : ℕ) → IsGap n text → ⊥
@@ -70,16 +70,22 @@ pub record IsNothing (text : List ℕ) : Type 0 where
 -- what is left of a text from a place on is cut into these tokens
 pub data CutFrom : ℕ → List ℕ → List Token → Type 0 where
   ended : {place : ℕ} → CutFrom place [] []
-  gap : {place n : ℕ} {text : List ℕ} {tokens : List Token} → IsGap n text → CutFrom (place + n) (drop n text) tokens → CutFrom place text tokens
-  token : {place n : ℕ} {text : List ℕ} {kind : TokenKind} {tokens : List Token} → Longest kind n text → (kind ≡ Name → n ≤ longest_name) → CutFrom (place + n) (drop n text) tokens → CutFrom place text (record { kind = kind; from = place; to = place + n } ∷ tokens)
+  gap : {place n : ℕ} {text : List ℕ} {tokens : List Token} → IsGap n text
+      → CutFrom (place + n) (drop n text) tokens → CutFrom place text tokens
+  token : {place n : ℕ} {text : List ℕ} {kind : TokenKind} {tokens : List Token} → Longest kind n text
+      → (kind ≡ Name → n ≤ longest_name) → CutFrom (place + n) (drop n text) tokens
+      → CutFrom place text (record { kind = kind; from = place; to = place + n } ∷ tokens)
 
 -- what is left of a text from a place on is cut no further than to the place of this refusal
 pub data RefusedFrom : ℕ → List ℕ → LexError → Type 0 where
-  after_gap : {place n : ℕ} {text : List ℕ} {error : LexError} → IsGap n text → RefusedFrom (place + n) (drop n text) error → RefusedFrom place text error
-  after_token : {place n : ℕ} {text : List ℕ} {kind : TokenKind} {error : LexError} → Longest kind n text → (kind ≡ Name → n ≤ longest_name) → RefusedFrom (place + n) (drop n text) error → RefusedFrom place text error
+  after_gap : {place n : ℕ} {text : List ℕ} {error : LexError} → IsGap n text
+      → RefusedFrom (place + n) (drop n text) error → RefusedFrom place text error
+  after_token : {place n : ℕ} {text : List ℕ} {kind : TokenKind} {error : LexError} → Longest kind n text
+      → (kind ≡ Name → n ≤ longest_name) → RefusedFrom (place + n) (drop n text) error → RefusedFrom place text error
   bad_character : {place : ℕ} {text : List ℕ} → IsNothing text → RefusedFrom place text (BadCharacter place)
   open_comment : {place : ℕ} {text : List ℕ} → IsOpenComment text → RefusedFrom place text (OpenComment place)
-  too_long_name : {place n : ℕ} {text : List ℕ} → Longest Name n text → longest_name < n → RefusedFrom place text (TooLongName place)
+  too_long_name : {place n : ℕ} {text : List ℕ} → Longest Name n text → longest_name < n
+      → RefusedFrom place text (TooLongName place)
 
 -- the text is cut into these tokens
 abbrev pub Cut : List ℕ → List Token → Type 0
@@ -100,7 +106,7 @@ pub record IsPlaced (text : List ℕ) (start : ℕ) (t : Token) : Type 0 where
   pub within : t.to ≤ length text
   pub spelled : spells t.kind (token_bytes text t) ≡ true
 
--- tokens from a place on, each behind the one before it
+-- tokens from a place on, each after the one before it
 abbrev pub PlacedFrom : List ℕ → ℕ → List Token → Type 0
 PlacedFrom text start [] = Unit {0}
 PlacedFrom text start (t ∷ ts) = IsPlaced text start t × PlacedFrom text t.to ts

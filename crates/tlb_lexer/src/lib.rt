@@ -29,7 +29,7 @@ pub enum TokenKind {
     Number,
     /// `$_`, or `$` and one or more of `0` and `1`.
     BinaryTag,
-    /// `#_`, or `#` and one or more hexadecimal digits of either case, with or without a `_` behind them.
+    /// `#_`, or `#` and one or more hexadecimal digits of either case, with or without a `_` after them.
     HexTag,
     /// `#` `##` `#<` `#<=` `:` `;` `=` `(` `)` `{` `}` `[` `]` `^` `~` `?` `.` `*` `+` `<` `<=` `>` `>=` `!`.
     Symbol,
@@ -100,7 +100,7 @@ fn cut(alloc: Global, text: &[u8]) -> Result<Vec<Token>, LexError>
     let mut tokens = Vec::new(alloc);
     let mut place = 0;
     'stretches: while place < text.len() {
-        match scan::front(&text[place..]) {
+        match scan::first_stretch(&text[place..]) {
             Stretch::Gap(len) => place += len,
             Stretch::Spelled(kind, len) => {
                 let token = Token {
@@ -121,14 +121,14 @@ fn cut(alloc: Global, text: &[u8]) -> Result<Vec<Token>, LexError>
 
 /// Cuts a text of at most 1,048,576 bytes into its tokens. White space (space, tab, carriage return, line
 /// feed) and comments stand freely between: `//` to the end of its line, which a line feed alone or the
-/// text's end ends, and `/*` to the next `*/` behind it.
+/// text's end ends, and `/*` to the next `*/` after it.
 pub fn tokens(alloc: Global, text: &[u8]) -> Result<Vec<Token>, LexError>
     requires { length text.now ≤ 1048576 }
     // What is answered holds of the text.
     ensures holds { IfAnswered result (λ ts. Cut text.now ts.items) (λ e. CutRefused text.now e) }
-    // The tokens of the text are answered, unless memory is wanted.
+    // The tokens of the text are answered, unless memory runs out.
     ensures cut { (ts : List Token) → Cut text.now ts → IfAnswered result (λ found. found.items ≡ ts) (λ _. ⊥) }
-    // The refusal of the text is answered, unless memory is wanted.
+    // The refusal of the text is answered, unless memory runs out.
     ensures refused { (e : LexError) → CutRefused text.now e → IfAnswered result (λ _. ⊥) (λ found. found ≡ e) }
     // The tokens stand in order within the text, and their bytes spell their kinds.
     ensures placed { IfAnswered result (λ ts. PlacedFrom text.now 0 ts.items) (λ _. ⊤) }

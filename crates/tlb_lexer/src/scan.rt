@@ -1,4 +1,4 @@
-//! What stands in front of a text.
+//! What stands before a text.
 ghost use Rattle.std.specs.Prelude.{◌≡◌, ◌<◌, ◌≤◌, length, MatchOption, IfSome, ℕ, List, drop, codes};
 ghost use Rattle.tlb_lexer.specs.Cut.{StandsAt, FirstAt};
 ghost use Rattle.tlb_lexer.specs.Stretch.{Stands, Advances, Begins, hash_symbol_len};
@@ -9,7 +9,7 @@ use crate::bytes::{Class, Run, class_of, run_len};
 
 const LONGEST_NAME: usize = 127;
 
-/// What stands in front of a text, with its length in bytes where the text goes on behind it.
+/// What stands before a text, with its length in bytes where the text goes on after it.
 #[derive(Clone, Copy)]
 pub enum Stretch {
     Gap(usize),
@@ -82,7 +82,8 @@ fn hex_tag(after: &[u8]) -> Stretch
 
 // Where the first end of a block comment stands.
 fn comment_end(body: &[u8]) -> Option<usize>
-    ensures first { MatchOption result ((place : ℕ) → StandsAt (codes "*/") place body.now → ⊥) (λ place. FirstAt (codes "*/") place body.now) }
+    ensures first { MatchOption result ((place : ℕ) → StandsAt (codes "*/") place body.now
+        → ⊥) (λ place. FirstAt (codes "*/") place body.now) }
     ensures within { IfSome result (λ place. place < length body.now) }
 {
     for place in 0..body.len() {
@@ -144,8 +145,8 @@ fn stretch_by(kind: Class, after: &[u8]) -> Stretch
     }
 }
 
-/// What stands in front of a text that has not ended.
-pub fn front(text: &[u8]) -> Stretch
+/// What stands before a text that has not ended.
+pub fn first_stretch(text: &[u8]) -> Stretch
     requires not_ended { 0 < length text.now }
     requires within { length text.now ≤ 1048576 }
     ensures stands { Stands text.now result }

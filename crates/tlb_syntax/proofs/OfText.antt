@@ -65,7 +65,7 @@ hex-bits (d ∷ ds) h =
     let small = hex_value-small d (grind (arith, h)) in
     AreBits-append (hex_bits d) (flat_map hex_bits ds) (omega (arith, small), (omega arith, (omega arith, (omega arith, tt)))) (hex-bits ds (grind (arith, h)))
 
--- ---- what stands behind the marks of tags
+-- ---- what stands after the marks of tags
 
 digits-before : (ds : List ℕ) → ends_hex ds ≡ true → list_all is_hex_digit (hex_digits ds) ≡ true
 digits-before [] h = refl

@@ -88,7 +88,7 @@ few-enough bits h = grind (arith, nat_tests, h)
 
 -- ---- completions
 
--- bits behind others that end in a 1
+-- bits after others that end in a 1
 completed-behind : (xs ys r : List ℕ) → without_completion ys ≡ Some r → without_completion (xs ++ ys) ≡ Some (xs ++ r)
 completed-behind [] ys r h = h
 completed-behind (x ∷ xs) ys r h = ap (or_behind x) (completed-behind xs ys r h)
@@ -175,7 +175,7 @@ long-completion ds i l all long =
     let size : length (take n (flat_map hex_bits ds)) ≡ n = length-take-le n (flat_map hex_bits ds) (omega (arith, length-hex_bits ds, l.within)) in
     ap and_at_most_1023 (completion ds i l all) ∙ too-many (take n (flat_map hex_bits ds)) (omega (arith, few, size, long))
 
--- ---- an underscore behind digits
+-- ---- an underscore after digits
 
 underscore-behind : (front : List ℕ) → (is_completed (front ++ codes "_") ≡ true) × (hex_digits (front ++ codes "_") ≡ front)
 underscore-behind [] = (refl, refl)

@@ -1,10 +1,14 @@
 -- The limits of a schema's size, as they hold of its tree.
-use Rattle.std.specs.Prelude.{ℕ, ◌≡◌, ◌≤◌, ◌<◌, ◌+◌, ◌^◌, true, max, List, [], ◌∷◌, length, Option, Some, None, nat_le, if◌then◌else◌}
+use Rattle.std.specs.Prelude.{ℕ, ◌≡◌, ◌≤◌, ◌<◌, ◌+◌, ◌^◌, true, max, List, [], ◌∷◌, length, Option, Some, None, nat_le}
+use Rattle.std.specs.Prelude.{if◌then◌else◌}
 use Rattle.bit_slice.specs.Bits.{AreBits}
 use Rattle.tlb_lexer.specs.Spelling.{is_name}
 use Rattle.tlb_lexer.specs.Cut.{longest_name}
 use Rattle.tlb_syntax.specs.Lexeme.{Lexeme, word, blank, number, tag, sign, other}
-use Rattle.tlb_syntax.specs.Tree.{ExprView, ExprList, ItemView, ItemList, TypeView, TagView, ConstructorView, SchemaView, lit, named, nat32, bits, below, up_to, plus, star, out, ref, group, no_exprs, an_expr, plain, when, when_bit, implicit, check, explicit, no_items, an_item, computed, given}
+use Rattle.tlb_syntax.specs.Tree.{ExprView, ExprList, ItemView, ItemList, TypeView, TagView, ConstructorView}
+use Rattle.tlb_syntax.specs.Tree.{SchemaView, lit, named, nat32, bits, below, up_to, plus, star, out, ref, group}
+use Rattle.tlb_syntax.specs.Tree.{no_exprs, an_expr, plain, when, when_bit, implicit, check, explicit, no_items}
+use Rattle.tlb_syntax.specs.Tree.{an_item, computed, given}
 use Rattle.tlb_syntax.specs.Text.{are_none}
 use Rattle.tlb_syntax.specs.Written.{HasFew}
 
@@ -12,7 +16,7 @@ use Rattle.tlb_syntax.specs.Written.{HasFew}
 
 -- the places in which an expression may stand without parentheses, where it is such a form or a form of an earlier line
 pub data Place : Type 0 where
-  -- anything alone, or behind `~` or `^`
+  -- anything alone, or after `~` or `^`
   in_term : Place
   -- a name with arguments; `##`, `#<` and `#<=`
   in_application : Place

@@ -10,7 +10,8 @@ ghost use Rattle.tlb_syntax.specs.Written.{HasFew, Writes, WritesWord, standard}
 
 /// Lexemes of tokens write only schemas within the limits, where constructors are few.
 pub fn productions_keep_limits()
-    ensures { (ls : List Lexeme) (s : SchemaView) → Declarations standard ls s → AreOfText ls → HasFew s → IsWithinLimits s }
+    ensures { (ls : List Lexeme) (s : SchemaView) → Declarations standard ls s → AreOfText ls → HasFew s
+        → IsWithinLimits s }
 {}
 
 /// The tokens of a cut are such lexemes.

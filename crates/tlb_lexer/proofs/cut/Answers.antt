@@ -4,9 +4,9 @@ use Rattle.tlb_lexer.specs.declared.Token.{Token}
 use Rattle.tlb_lexer.specs.declared.scan.Stretch.TheVariants.{Gap, Spelled, LongName, OpenComment, Nothing}
 use Rattle.tlb_lexer.specs.Cut.{bad_character, open_comment, too_long_name}
 use Rattle.tlb_lexer.specs.Stretch.{Stands}
-use Rattle.tlb_lexer.proofs.Stands.{rest_whole}
-use Rattle.tlb_lexer.proofs.Once.{advances}
-use Rattle.tlb_lexer.proofs.Whole.{CutsOn, gap_cuts, gap_refuses, token_cuts, token_refuses, whole_done, still_within}
+use Rattle.tlb_lexer.proofs.StretchOf.{rest_whole}
+use Rattle.tlb_lexer.proofs.OneTokenization.{advances}
+use Rattle.tlb_lexer.proofs.Tokenization.{CutsOn, gap_cuts, gap_refuses, token_cuts, token_refuses, whole_done, still_within}
 use Rattle.tlb_lexer.proofs.cut.Goals as goal
 
 pub stretches-preserved-in-Gap : goal.stretches-preserved-in-Gap

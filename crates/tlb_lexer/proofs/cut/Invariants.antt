@@ -1,5 +1,5 @@
 use Rattle.std.proofs.Common.{◌≤◌, ◌-◌, length}
-use Rattle.tlb_lexer.proofs.Whole.{CutsOn, RefusesOn}
+use Rattle.tlb_lexer.proofs.Tokenization.{CutsOn, RefusesOn}
 use Rattle.tlb_lexer.proofs.cut.Given as goal
 
 abbrev pub invariant-stretches : goal.invariant-stretches

@@ -1,4 +1,4 @@
-use Rattle.tlb_lexer.proofs.Whole.{answered_cut, answered_refused, answered_placed}
+use Rattle.tlb_lexer.proofs.Tokenization.{answered_cut, answered_refused, answered_placed}
 use Rattle.tlb_lexer.proofs.tokens.Goals as goal
 
 pub returns-clause-cut : goal.returns-clause-cut

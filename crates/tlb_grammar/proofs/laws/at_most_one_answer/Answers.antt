@@ -1,4 +1,4 @@
-use Rattle.tlb_grammar.proofs.Reading.{Laws, written_at_most_once, refused_at_most_once, not_both_read, word_at_most_once, word_refused_at_most_once, not_both_words}
+use Rattle.tlb_grammar.proofs.TextAnswers.{Laws, written_at_most_once, refused_at_most_once, not_both_read, word_at_most_once, word_refused_at_most_once, not_both_words}
 use Rattle.tlb_grammar.proofs.laws.at_most_one_answer.Goals as goal
 
 pub returns-clause-written : goal.returns-clause-written

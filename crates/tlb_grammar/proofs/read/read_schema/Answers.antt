@@ -2,7 +2,7 @@ use Rattle.tlb_syntax.specs.Limits.{IsWithinLimits}
 use Rattle.tlb_syntax.specs.View.{schema}
 use Rattle.tlb_syntax.specs.Written.{Writes}
 use Rattle.tlb_grammar.specs.Answer.{Refuses}
-use Rattle.tlb_grammar.proofs.Reading.{Laws, answered_written, answered_refused, answered_limits, written_at_most_once, refused_at_most_once, not_both_read}
+use Rattle.tlb_grammar.proofs.TextAnswers.{Laws, answered_written, answered_refused, answered_limits, written_at_most_once, refused_at_most_once, not_both_read}
 use Rattle.tlb_grammar.proofs.read.read_schema.Goals as goal
 
 pub returns-clause-written : goal.returns-clause-written

@@ -2,7 +2,7 @@ use Rattle.tlb_syntax.specs.Limits.{IsWordWithinLimits}
 use Rattle.tlb_syntax.specs.View.{expr}
 use Rattle.tlb_syntax.specs.Written.{WritesWord}
 use Rattle.tlb_grammar.specs.Answer.{RefusesWord}
-use Rattle.tlb_grammar.proofs.Reading.{Laws, answered_written, answered_refused, answered_limits, word_at_most_once, word_refused_at_most_once, not_both_words}
+use Rattle.tlb_grammar.proofs.TextAnswers.{Laws, answered_written, answered_refused, answered_limits, word_at_most_once, word_refused_at_most_once, not_both_words}
 use Rattle.tlb_grammar.proofs.read.read_type.Goals as goal
 
 pub returns-clause-written : goal.returns-clause-written

@@ -1,4 +1,4 @@
-use Rattle.tlb_lexer.proofs.Whole.{cut_once, refused_once, not_both}
+use Rattle.tlb_lexer.proofs.Tokenization.{cut_once, refused_once, not_both}
 use Rattle.tlb_lexer.proofs.laws.at_most_one.Goals as goal
 
 pub returns : goal.returns
