@@ -1,15 +1,14 @@
 -- Declarations found part by part.
-use Rattle.std.proofs.Common.{◌≡◌, ◌<◌, ◌≤◌, ◌+◌, ◌⊎◌, inl, inr, ℕ, Bool, true, false, List, [], ◌∷◌, ◌++◌, length, map, append_assoc, refl, ap, sym, ◌∙◌, arith}
+use Rattle.std.proofs.Common.{◌≡◌, ◌<◌, ◌⊎◌, inl, inr, ℕ, false, List, [], ◌∷◌, ◌++◌, length, append_assoc, refl, ap, sym, ◌∙◌, arith}
 use Rattle.std.specs.List.{flat_map, list_all}
 use Rattle.std.proofs.lemmas.Bool.{false≢true}
 use Rattle.std.proofs.lemmas.List.{length-map, length-append}
-use Rattle.std.proofs.lemmas.List.Concat.{flat_map-append}
 use Rattle.tlb_lexer.specs.declared.Token.{Token}
 use Rattle.tlb_lexer.specs.declared.TokenKind.TheVariants.{BinaryTag}
 use Rattle.tlb_lexer.specs.Cut.{PlacedFrom}
 use Rattle.flat_records.specs.Placed.{AreWithin}
 use Rattle.flat_records.specs.Lexemes.{Lexeme, lexeme, lexeme_of, lexemes}
-use Rattle.flat_records.specs.Form.{tag_text, field_lexemes, declaration_lexemes, IsShapedField, AreShapedFields, IsShaped, AreShaped, is_flat, are_apart, type_name_of, Declares}
+use Rattle.flat_records.specs.Form.{tag_text, field_lexemes, declaration_lexemes, AreShapedFields, AreShaped, is_flat, are_apart, type_name_of, Declares}
 use Rattle.flat_records.specs.Found.{IsTag, BeginsField, BeginsFields, NoEnding, BeginsDeclaration, NoDeclaration, AreDeclarations}
 use Rattle.flat_records.specs.declared.declaration.Declaration.{Declaration}
 use Rattle.flat_records.specs.declared.declaration.Field.{Field}

@@ -1,16 +1,14 @@
 -- Lexemes tell the fields and declarations that they are of.
-use Rattle.std.proofs.Common.{◌≡◌, ◌≢◌, ◌<◌, ◌≤◌, ◌+◌, ◌-◌, ◌^◌, ℕ, zero, suc, List, [], ◌∷◌, ◌++◌, length, map, take, drop, get_or, append_assoc, refl, ap, sym, ◌∙◌, subst, arith}
+use Rattle.std.proofs.Common.{◌≡◌, ◌<◌, ◌+◌, ◌-◌, ℕ, List, [], ◌∷◌, ◌++◌, length, map, drop, get_or, append_assoc, refl, ap, sym, ◌∙◌, subst, arith}
 use Rattle.std.specs.Prelude.{codes, decimal}
 use Rattle.std.specs.List.{flat_map}
 use Rattle.std.proofs.lemmas.Fmt.{decimal_injective}
-use Rattle.tlb_lexer.specs.declared.Token.{Token}
 use Rattle.tlb_lexer.specs.declared.TokenKind.{TokenKind}
-use Rattle.tlb_lexer.specs.declared.TokenKind.TheVariants.{Name, BinaryTag, Symbol}
+use Rattle.tlb_lexer.specs.declared.TokenKind.TheVariants.{Name, Symbol}
 use Rattle.bit_slice.specs.Bits.{AreBits}
-use Rattle.bit_slice.specs.Names.{IsName}
-use Rattle.flat_records.specs.Lexemes.{Lexeme, lexeme, lexeme_of, lexemes}
+use Rattle.flat_records.specs.Lexemes.{Lexeme, lexeme}
 use Rattle.flat_records.specs.Form.{tag_text, field_lexemes, ending_lexemes, declaration_lexemes, IsShapedField, AreShapedFields, IsShaped, AreShaped}
-use Rattle.flat_records.specs.Found.{BeginsField, NoField, BeginsFields, BeginsEnding, NoEnding, BeginsDeclaration, NoDeclaration, AreDeclarations}
+use Rattle.flat_records.specs.Found.{NoField, BeginsFields, BeginsDeclaration, NoDeclaration}
 use Rattle.flat_records.specs.declared.declaration.Declaration.{Declaration}
 use Rattle.flat_records.specs.declared.declaration.Field.{Field}
 

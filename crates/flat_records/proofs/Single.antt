@@ -1,19 +1,18 @@
 -- One reading, one place where it stops, and never both.
-use Rattle.std.proofs.Common.{◌≡◌, ◌<◌, ◌≤◌, ◌+◌, ◌⊎◌, inl, inr, ℕ, zero, suc, List, [], ◌∷◌, ◌++◌, length, take, drop, append_assoc, refl, ap, sym, ◌∙◌, subst, false, Some, arith}
+use Rattle.std.proofs.Common.{◌≡◌, ◌<◌, ◌⊎◌, inl, inr, ℕ, zero, suc, List, [], ◌∷◌, ◌++◌, length, take, drop, refl, ap, sym, ◌∙◌, subst, false, Some, arith}
 use Rattle.std.proofs.lemmas.List.{append_cancel_left, length-append}
 use Rattle.std.proofs.Math.Seq.{take-append_seam, drop-append_seam}
 use Rattle.bit_slice.specs.Bits.{number_of}
 use Rattle.typed_value.specs.Values.{Plain, number}
-use Rattle.flat_records.specs.Fields.{Fields, fields_of, names_of, values_of, no_fields, a_field, record_with}
+use Rattle.flat_records.specs.Fields.{Fields, a_field, record_with}
 use Rattle.flat_records.specs.Lexemes.{Lexeme}
 use Rattle.flat_records.specs.Form.{Declares}
 use Rattle.flat_records.specs.Spelling.{SpellsFields, none, more, Spells, spells, Reading, Stuck, no_constructor, short_bits, leftover}
 use Rattle.flat_records.specs.declared.declaration.Declaration.{Declaration}
 use Rattle.flat_records.specs.declared.declaration.Field.{Field}
 use Rattle.flat_records.specs.declared.read.Cause.{Cause}
-use Rattle.flat_records.specs.declared.read.Cause.TheVariants.{NoConstructor, ShortBits, Leftover}
 use Rattle.flat_records.specs.declared.read.Spot.{Spot}
-use Rattle.flat_records.specs.declared.read.Spot.TheVariants.{Root, InField}
+use Rattle.flat_records.specs.declared.read.Spot.TheVariants.{InField}
 use Rattle.flat_records.proofs.Shapes.{declarations-same}
 
 front-same : (f g m n : List ℕ) → f ++ m ≡ g ++ n → length f ≡ length g → f ≡ g

@@ -3,7 +3,7 @@ use Rattle.std.proofs.Common.{◌≡◌, ◌<◌, ◌≤◌, ◌⊎◌, inl, inr
 use Rattle.std.proofs.lemmas.List.{take-append-drop, length-take-le}
 use Rattle.bit_slice.specs.Bits.{number_of}
 use Rattle.typed_value.specs.Values.{Plain, number}
-use Rattle.flat_records.specs.Fields.{Fields, fields_of, names_of, values_of, no_fields, a_field, record_with}
+use Rattle.flat_records.specs.Fields.{Fields, no_fields, a_field, record_with}
 use Rattle.flat_records.specs.Spelling.{SpellsFields, none, more, spells, Reading, Stuck, no_constructor, short_bits, leftover}
 use Rattle.flat_records.specs.Stops.{IsShort}
 use Rattle.flat_records.specs.declared.declaration.Declaration.{Declaration}

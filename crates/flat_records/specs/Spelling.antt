@@ -1,8 +1,8 @@
 -- What the bits of a cell spell at a flat record, and where they spell nothing.
 --
 -- Source: the TON documentation on TL-B: a constructor's tag, then its fields in order; uintN takes N bits.
-use Rattle.std.specs.Prelude.{◌≡◌, ◌≢◌, ℕ, ◌<◌, List, [], ◌∷◌, ◌++◌, length, Some, false, ◌⊎◌}
-use Rattle.bit_slice.specs.Bits.{number_of, BeginsWith}
+use Rattle.std.specs.Prelude.{◌≡◌, ℕ, ◌<◌, List, [], ◌∷◌, ◌++◌, length, Some, false, ◌⊎◌}
+use Rattle.bit_slice.specs.Bits.{number_of}
 use Rattle.typed_value.specs.Values.{Plain, number}
 use Rattle.flat_records.specs.Fields.{Fields, no_fields, a_field, record_with}
 use Rattle.flat_records.specs.declared.declaration.Declaration.{Declaration}

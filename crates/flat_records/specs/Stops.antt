@@ -3,9 +3,7 @@ use Rattle.std.specs.Prelude.{◌≡◌, ℕ, ◌<◌, List, ◌∷◌, ◌++◌
 use Rattle.flat_records.specs.Fields.{Fields}
 use Rattle.flat_records.specs.declared.declaration.Declaration.{Declaration}
 use Rattle.flat_records.specs.declared.declaration.Field.{Field}
-use Rattle.flat_records.specs.declared.read.Cause.{Cause}
 use Rattle.flat_records.specs.declared.read.Cause.TheVariants.{NoConstructor, ShortBits, Leftover}
-use Rattle.flat_records.specs.declared.read.Spot.{Spot}
 use Rattle.flat_records.specs.declared.read.Spot.TheVariants.{Root, InField}
 use Rattle.flat_records.specs.declared.read.ReadError.{ReadError}
 use Rattle.flat_records.specs.declared.read.ReadError.TheVariants.{Stuck as StuckAt, NoMemory}

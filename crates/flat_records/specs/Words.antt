@@ -1,5 +1,5 @@
 -- Names that the schema language has for itself.
-use Rattle.std.specs.Prelude.{◌≡◌, ℕ, List, [], ◌∷◌, ◌++◌, Bool, true, false, ◌&&◌, ◌||◌, ◌==◌, not, IsTrue, codes, bytes_eq, drop, length, nat_eq}
+use Rattle.std.specs.Prelude.{ℕ, List, [], ◌∷◌, Bool, false, ◌&&◌, ◌||◌, ◌==◌, not, codes, bytes_eq, drop, length, nat_eq}
 use Rattle.std.specs.List.{list_all, starts_with}
 use Rattle.std.specs.Char.{is_ascii_digit}
 

@@ -1,5 +1,5 @@
 -- Values as data. The ten forms are this project's own.
-use Rattle.std.specs.Prelude.{ℕ, ◌+◌, max, min, Bool, List, [], ◌∷◌, Option}
+use Rattle.std.specs.Prelude.{ℕ, ◌+◌, max, min, Bool, List, Option}
 use Rattle.cell_nodes.specs.declared.tree.Tree.{Tree}
 use Rattle.cell_nodes.specs.declared.tree.Hidden.{Hidden}
 

@@ -1,5 +1,5 @@
 -- What the program's values and steps stand for.
-use Rattle.std.specs.Prelude.{ℕ, List, [], ◌∷◌, map, Option}
+use Rattle.std.specs.Prelude.{ℕ, List, [], ◌∷◌, Option}
 use Rattle.cell_nodes.specs.declared.tree.Hidden.{Hidden}
 use Rattle.typed_value.specs.declared.value.Value.{Value, fold-Value}
 use Rattle.typed_value.specs.declared.value.Value.TheOpen.{Value-F, Dict-F, Record-F, Number, Bits, Record, Absent, List as Series, Ref, Unknown, Map, Raw, Rest}

@@ -50,11 +50,11 @@ fn copy_items(alloc: Global, items: &[Value]) -> Result<Items<Value>, NoMemory>
 }
 
 #[cycle(copy)]
-fn copy_record(alloc: Global, record: &Record) -> Result<Record, NoMemory>
-    ensures { IfOk result (λ r. r ≡ record.now) }
+fn copy_record(alloc: Global, from: &Record) -> Result<Record, NoMemory>
+    ensures { IfOk result (λ r. r ≡ from.now) }
 {
-    let name = copy_name(alloc, &record.name)?;
-    let fields = copy_fields(alloc, record.fields.as_slice())?;
+    let name = copy_name(alloc, &from.name)?;
+    let fields = copy_fields(alloc, from.fields.as_slice())?;
     Ok(Record { name, fields })
 }
 
@@ -81,7 +81,10 @@ fn copy_dict(alloc: Global, dict: &Dict) -> Result<Dict, NoMemory>
 }
 
 #[cycle(copy)]
-fn copy_pairs(alloc: Global, pairs: &[(BitString, Value)]) -> Result<Items<(BitString, Value)>, NoMemory>
+fn copy_pairs(
+    alloc: Global,
+    pairs: &[(BitString, Value)],
+) -> Result<Items<(BitString, Value)>, NoMemory>
     ensures { IfOk result (λ copies. copies ≡ pairs.now) }
 {
     let mut copies = Items::new(alloc);
@@ -93,7 +96,10 @@ fn copy_pairs(alloc: Global, pairs: &[(BitString, Value)]) -> Result<Items<(BitS
     Ok(copies)
 }
 
-fn copy_unknown(alloc: Global, unknown: &[(BitString, Hidden)]) -> Result<Items<(BitString, Hidden)>, NoMemory>
+fn copy_unknown(
+    alloc: Global,
+    unknown: &[(BitString, Hidden)],
+) -> Result<Items<(BitString, Hidden)>, NoMemory>
     ensures { IfOk result (λ copies. copies ≡ unknown.now) }
 {
     let mut copies = Items::new(alloc);

@@ -35,10 +35,8 @@ fn step_of<'a>(from: &'a Value, step: &Step) -> Option<&'a Value>
 }
 
 fn in_record<'a>(fields: &'a [(Name, Value)], step: &Step) -> Option<&'a Value>
-    ensures {
-        let fs = map pair_of fields.entry.now in
-        option_map (λ v. value v.now) result ≡ in_record (names_in fs) (vals_in fs) (stride step.now)
-    }
+    ensures { let fs = map pair_of fields.entry.now in
+        option_map (λ v. value v.now) result ≡ in_record (names_in fs) (vals_in fs) (stride step.now) }
 {
     match step {
         Step::Field(name) => field(fields, name),
@@ -69,10 +67,8 @@ fn in_map<'a>(pairs: &'a [(BitString, Value)], step: &Step) -> Option<&'a Value>
 
 // The first field of that name.
 fn field<'a>(fields: &'a [(Name, Value)], name: &Name) -> Option<&'a Value>
-    ensures {
-        let fs = map pair_of fields.entry.now in
-        option_map (λ v. value v.now) result ≡ field_at (names_in fs) (vals_in fs) name.now
-    }
+    ensures { let fs = map pair_of fields.entry.now in
+        option_map (λ v. value v.now) result ≡ field_at (names_in fs) (vals_in fs) name.now }
 {
     'fields: for (found, inner) in fields {
         if found.text() == name.text() {

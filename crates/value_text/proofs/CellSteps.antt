@@ -1,11 +1,10 @@
 -- A cell has more cells than its children, and what is written of it.
-use Rattle.std.proofs.Common.{◌≡◌, ℕ, ◌+◌, ◌*◌, ◌<◌, List, [], ◌∷◌, ◌++◌, map, arith, refl, ap, ◌∙◌, sym, append_assoc}
+use Rattle.std.proofs.Common.{◌≡◌, ℕ, ◌+◌, ◌*◌, ◌<◌, List, [], ◌∷◌, ◌++◌, map, arith, refl, append_assoc}
 use Rattle.cell_nodes.specs.declared.tree.Tree.{Tree, out-Tree}
 use Rattle.cell_nodes.specs.Tree.{total, unfolded}
 use Rattle.cell_nodes.specs.Equations.{unfolded-out, one_le-unfolded}
 use Rattle.value_text.specs.Tokens.{Token, mark, bits, spelling, written}
-use Rattle.value_text.specs.Text.{body}
-use Rattle.value_text.specs.TextLaws.{written-append, put-then}
+use Rattle.value_text.specs.TextLaws.{put-then}
 
 pub down : (t : Tree) (cs : List Tree) → cs ≡ (out-Tree t).children → 2 * total (map unfolded cs) + 1 < 2 * unfolded t
 down t cs e = rw (e) (omega (arith, unfolded-out t))

@@ -89,7 +89,8 @@ abbrev mutual
   pub entries : {A : Type 0} → Pairs A → List (List ℕ × Hidden) → List (List Token)
   entries no_pairs us = map hidden_entry us
   entries (a_pair k v ps) us =
-      map hidden_entry (take (count_before k us) us) ++ (bits k ∷ mark 58 ∷ tokens v) ∷ entries ps (drop (count_before k us) us)
+      map hidden_entry (take (count_before k us) us)
+      ++ (bits k ∷ mark 58 ∷ tokens v) ∷ entries ps (drop (count_before k us) us)
 
 -- the text of a value without white space
 abbrev pub text_of : {A : Type 0} → Val A → List ℕ

@@ -7,8 +7,7 @@ use Rattle.bit_slice.specs.Names.{IsName}
 use Rattle.cell_nodes.specs.Good.{IsGood, AllGood}
 use Rattle.cell_nodes.specs.Tree.{total, unfolded}
 use Rattle.cell_nodes.specs.declared.tree.Hidden.{Hidden}
-use Rattle.cell_nodes.specs.declared.tree.Tree.{Tree}
-use Rattle.typed_value.specs.Values.{Slice, Val, Vals, Pairs, number, bit_string, record_of, absent, list_of, ref_to, unknown, map_of, raw, rest, no_vals, a_val, no_pairs, a_pair, levels, most_levels, most_parts, parts}
+use Rattle.typed_value.specs.Values.{Val, Vals, Pairs, number, bit_string, record_of, absent, list_of, ref_to, unknown, map_of, raw, rest, no_vals, a_val, no_pairs, a_pair, levels, most_levels, most_parts, parts}
 use Rattle.value_text.specs.Text.{comes_before, count_before, tokens}
 use Rattle.value_text.specs.Tokens.{Token, spelling}
 

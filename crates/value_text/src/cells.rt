@@ -53,7 +53,8 @@ fn put_children(alloc: Global, text: &mut Vec<u8>, refs: RefSlice<'_>) -> Result
 
 /// A `%`, and bits and references in parentheses.
 pub(crate) fn put_rest(alloc: Global, text: &mut Vec<u8>, shown: &RestPart) -> Result<(), NoMemory>
-    ensures { OnOk result (text.new.items ≡ text.old.items ++ written (mark 37 ∷ body shown.now.bits (map cell shown.now.refs))) }
+    ensures { let b = body shown.now.bits (map cell shown.now.refs) in
+        OnOk result (text.new.items ≡ text.old.items ++ written (mark 37 ∷ b)) }
 {
     put_byte(text, b'%')?;
     put_byte(text, b'(')?;

@@ -65,7 +65,11 @@ pub(crate) fn put_number(alloc: Global, text: &mut Vec<u8>, shown: Number) -> Re
     Ok(())
 }
 
-pub(crate) fn put_bits(alloc: Global, text: &mut Vec<u8>, shown: BitSlice<'_>) -> Result<(), NoMemory>
+pub(crate) fn put_bits(
+    alloc: Global,
+    text: &mut Vec<u8>,
+    shown: BitSlice<'_>,
+) -> Result<(), NoMemory>
     ensures { OnOk result (text.new.items ≡ text.old.items ++ spelling (bits shown.entry)) }
 {
     let digits = shown.hex_text(alloc)?;

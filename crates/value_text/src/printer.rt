@@ -9,7 +9,8 @@ ghost use Rattle.value_text.specs.Writes.{IsWritable, TextWrites};
 
 use crate::cells::{put_cell, put_rest};
 use crate::marks::{
-    comes_before, put_bits, put_byte, put_comma, put_hidden, put_key, put_label, put_name, put_number,
+    comes_before, put_bits, put_byte, put_comma, put_hidden, put_key, put_label, put_name,
+    put_number,
 };
 use bit_slice::{BitString, Name};
 use std::alloc::Global;
@@ -51,10 +52,8 @@ fn put_record(
     name: &Option<Name>,
     shown: &[(Name, Value)],
 ) -> Result<(), NoMemory>
-    ensures {
-        let fs = map pair_of shown.now in
-        OnOk result (text.new.items ≡ text.old.items ++ text_of (record_of name.now (names_in fs) (vals_in fs)))
-    }
+    ensures { let fs = map pair_of shown.now in
+        OnOk result (text.new.items ≡ text.old.items ++ text_of (record_of name.now (names_in fs) (vals_in fs))) }
 {
     put_name(text, name)?;
     put_byte(text, b'{')?;
@@ -89,10 +88,8 @@ fn put_map(
     pairs: &[(BitString, Value)],
     unknown: &[(BitString, Hidden)],
 ) -> Result<(), NoMemory>
-    ensures {
-        let m = map_of tt (pairs_of (map pair_of pairs.now)) unknown.now in
-        OnOk result (text.new.items ≡ text.old.items ++ text_of m)
-    }
+    ensures { let m = map_of tt (pairs_of (map pair_of pairs.now)) unknown.now in
+        OnOk result (text.new.items ≡ text.old.items ++ text_of m) }
 {
     put_byte(text, b'<')?;
     put_entries(alloc, text, pairs, unknown)?;
@@ -102,9 +99,8 @@ fn put_map(
 
 #[cycle(print)]
 fn put_items(alloc: Global, text: &mut Vec<u8>, shown: &[Value]) -> Result<(), NoMemory>
-    ensures {
-        OnOk result (text.new.items ≡ text.old.items ++ written (separated (items (vals_of (map value shown.now)))))
-    }
+    ensures { let es = items (vals_of (map value shown.now)) in
+        OnOk result (text.new.items ≡ text.old.items ++ written (separated es)) }
 {
     let mut is_first = true;
     'items: for item in shown {
@@ -117,10 +113,8 @@ fn put_items(alloc: Global, text: &mut Vec<u8>, shown: &[Value]) -> Result<(), N
 
 #[cycle(print)]
 fn put_fields(alloc: Global, text: &mut Vec<u8>, shown: &[(Name, Value)]) -> Result<(), NoMemory>
-    ensures {
-        let fs = map pair_of shown.now in
-        OnOk result (text.new.items ≡ text.old.items ++ written (separated (fields (names_in fs) (vals_in fs))))
-    }
+    ensures { let fs = map pair_of shown.now in
+        OnOk result (text.new.items ≡ text.old.items ++ written (separated (fields (names_in fs) (vals_in fs)))) }
 {
     let mut is_first = true;
     'fields: for (name, inner) in shown {
@@ -139,10 +133,8 @@ fn put_entries(
     pairs: &[(BitString, Value)],
     unknown: &[(BitString, Hidden)],
 ) -> Result<(), NoMemory>
-    ensures {
-        let es = entries (pairs_of (map pair_of pairs.now)) unknown.now in
-        OnOk result (text.new.items ≡ text.old.items ++ written (separated es))
-    }
+    ensures { let es = entries (pairs_of (map pair_of pairs.now)) unknown.now in
+        OnOk result (text.new.items ≡ text.old.items ++ written (separated es)) }
 {
     let mut is_first = true;
     let mut left = unknown;
@@ -166,10 +158,9 @@ fn put_unknown(
     is_first: bool,
     unknown: &[(BitString, Hidden)],
 ) -> Result<bool, NoMemory>
-    ensures {
-        let es = map hidden_entry unknown.now in
-        IfOk result (λ b. (b ≡ first_after is_first es) × (text.new.items ≡ text.old.items ++ written (separated_from is_first es)))
-    }
+    ensures { let es = map hidden_entry unknown.now in
+        let added = written (separated_from is_first es) in
+        IfOk result (λ b. (b ≡ first_after is_first es) × (text.new.items ≡ text.old.items ++ added)) }
 {
     let mut still = is_first;
     'unknown: for (prefix, hidden) in unknown {

@@ -1,4 +1,4 @@
-use Rattle.std.proofs.Common.{◌≡◌, ap}
+use Rattle.std.proofs.Common.{ap}
 use Rattle.flat_records.specs.Lexemes.{lexeme_of, lexemes}
 use Rattle.flat_records.proofs.Parts.{tagless, endless}
 use Rattle.flat_records.proofs.form.declaration.Goals as goal

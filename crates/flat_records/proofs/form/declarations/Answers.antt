@@ -1,4 +1,4 @@
-use Rattle.std.proofs.Common.{◌≡◌, ◌<◌, arith, length}
+use Rattle.std.proofs.Common.{◌<◌, arith, length}
 use Rattle.std.proofs.lemmas.List.{length-map}
 use Rattle.flat_records.specs.Lexemes.{lexeme_of, lexemes}
 use Rattle.flat_records.proofs.Parts.{declarations-step, declaration-shorter, not-only}

@@ -1,4 +1,3 @@
-use Rattle.std.proofs.Common.{◌≡◌}
 use Rattle.flat_records.specs.Lexemes.{lexemes}
 use Rattle.flat_records.proofs.Parts.{fields-step}
 use Rattle.flat_records.proofs.form.fields.Goals as goal

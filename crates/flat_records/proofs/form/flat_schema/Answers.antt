@@ -1,4 +1,4 @@
-use Rattle.std.proofs.Common.{◌≡◌, ap, sym, ◌∙◌, inl, inr}
+use Rattle.std.proofs.Common.{ap, sym, ◌∙◌, inl, inr}
 use Rattle.std.specs.List.{list_all}
 use Rattle.flat_records.specs.Form.{is_flat, are_apart, type_name_of}
 use Rattle.flat_records.proofs.Parts.{lacks, placed-within}

@@ -1,4 +1,4 @@
-use Rattle.std.proofs.Common.{◌≡◌, ◌<◌, ◌^◌, arith, inl, inr, ap, ◌∙◌, sym}
+use Rattle.std.proofs.Common.{arith, inl, inr, ap, ◌∙◌, sym}
 use Rattle.std.specs.Prelude.{decimal}
 use Rattle.flat_records.proofs.Digits.{no-number, decimal-of_plain}
 use Rattle.flat_records.proofs.lexeme.small_number.Goals as goal

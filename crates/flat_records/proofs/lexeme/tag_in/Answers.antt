@@ -1,4 +1,4 @@
-use Rattle.std.proofs.Common.{◌≡◌, ◌≢◌, ◌∙◌, ap, sym, codes, ◌++◌, ◌-◌, map}
+use Rattle.std.proofs.Common.{◌∙◌, ap, sym, codes, ◌++◌, ◌-◌, map}
 use Rattle.std.specs.Str.{bytes_eq}
 use Rattle.std.proofs.lemmas.Bool.{false≢true}
 use Rattle.flat_records.proofs.Digits.{no-tag, tag-of_digits}

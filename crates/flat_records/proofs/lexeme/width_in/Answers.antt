@@ -1,4 +1,4 @@
-use Rattle.std.proofs.Common.{◌≡◌, ◌<◌, ◌^◌, arith}
+use Rattle.std.proofs.Common.{arith}
 use Rattle.flat_records.proofs.Digits.{width-of_digits}
 use Rattle.flat_records.proofs.lexeme.width_in.Goals as goal
 

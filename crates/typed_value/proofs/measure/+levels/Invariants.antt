@@ -1,4 +1,4 @@
-use Rattle.std.proofs.Common.{◌≡◌, ℕ, drop, map, max, min}
+use Rattle.std.proofs.Common.{◌≡◌, drop, map, max, min}
 use Rattle.typed_value.specs.Values.{levels_by, levels_in}
 use Rattle.typed_value.specs.View.{pair_of, pairs_of, vals_in, vals_of, value}
 use Rattle.typed_value.proofs.measure.+levels.Given as goal

@@ -9,10 +9,10 @@ parts_within-returns-in-Record t c =
     let r = c.in-Record.record in
     let n = c.args.limit in
     let seen : value c.args.of.now ≡ record_of r.name (names_in (map pair_of r.fields)) (vals_in (map pair_of r.fields)) =
-      rw c.in-Record.is (search (the_lemmas, rules)) in
+    rw c.in-Record.is (search (the_lemmas, rules)) in
     let whole : parts (value c.args.of.now) ≡ 1 + parts_in (vals_in (map pair_of r.fields)) = ap parts seen in
     let inner : c.parts_of_fields.result ≡ min (parts_in (vals_in (map pair_of r.fields))) (n - 1) =
-      c.parts_of_fields.ensures ∙ ap (λ z. min (parts_in (vals_in (map pair_of z))) (n - 1)) c.as_slice.ensures in
+    c.parts_of_fields.ensures ∙ ap (λ z. min (parts_in (vals_in (map pair_of z))) (n - 1)) c.as_slice.ensures in
     omega arith
 
 pub parts_within-returns-in-Map : goal.parts_within-returns-in-Map
@@ -20,8 +20,8 @@ parts_within-returns-in-Map t c =
     let d = c.in-Map.dict in
     let n = c.args.limit in
     let seen : value c.args.of.now ≡ map_of tt (pairs_of (map pair_of d.pairs)) d.unknown =
-      rw c.in-Map.is (search (the_lemmas, rules)) in
+    rw c.in-Map.is (search (the_lemmas, rules)) in
     let whole : parts (value c.args.of.now) ≡ 1 + parts_by (pairs_of (map pair_of d.pairs)) = ap parts seen in
     let inner : c.parts_of_pairs.result ≡ min (parts_by (pairs_of (map pair_of d.pairs))) (n - 1) =
-      c.parts_of_pairs.ensures ∙ ap (λ z. min (parts_by (pairs_of (map pair_of z))) (n - 1)) c.as_slice-in-Map.ensures in
+    c.parts_of_pairs.ensures ∙ ap (λ z. min (parts_by (pairs_of (map pair_of z))) (n - 1)) c.as_slice-in-Map.ensures in
     omega arith

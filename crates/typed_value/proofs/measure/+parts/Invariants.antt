@@ -1,4 +1,4 @@
-use Rattle.std.proofs.Common.{◌≡◌, ◌≤◌, ◌+◌, ◌-◌, ℕ, drop, map, min}
+use Rattle.std.proofs.Common.{◌≡◌, ◌≤◌, ◌+◌, ◌-◌, drop, map, min}
 use Rattle.typed_value.specs.Values.{parts_by, parts_in}
 use Rattle.typed_value.specs.View.{pair_of, pairs_of, vals_in, vals_of, value}
 use Rattle.typed_value.proofs.measure.+parts.Given as goal

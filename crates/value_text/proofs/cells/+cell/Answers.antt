@@ -1,5 +1,4 @@
-use Rattle.std.proofs.Common.{◌≡◌, ◌∙◌, ◌++◌, [], ◌∷◌, ap, sym, map, false}
-use Rattle.cell_nodes.specs.declared.tree.Tree.{out-Tree}
+use Rattle.std.proofs.Common.{◌≡◌, ◌∙◌, ◌++◌, ap, sym, map, false}
 use Rattle.value_text.specs.Tokens.{written}
 use Rattle.value_text.specs.Text.{body, cell, cell_step, kind_mark, more}
 use Rattle.value_text.specs.TextLaws.{cell-out, put-item, put-then}
@@ -13,7 +12,7 @@ put_cell-returns t c =
     let bs = c.content-content.result.bits in
     let rs = c.content-content.result.refs in
     let step : cell_step c.kind.result bs (map cell rs) ≡ cell c.args.shown.now =
-      (λ i. cell_step (c.kind.ensures i) (seen.bits i) (map cell (seen.refs i))) ∙ sym (cell-out c.args.shown.now) in
+    (λ i. cell_step (c.kind.ensures i) (seen.bits i) (map cell (seen.refs i))) ∙ sym (cell-out c.args.shown.now) in
     put-then x _ _ (kind_mark c.kind.result) (body bs (map cell rs)) c.in_ok-put_kind.ensures
     (put-body _ _ _ _ _ bs (more (map cell rs)) c.in_ok-put_byte.ensures c.in_ok-put_bits.ensures c.in_ok-put_children.ensures c.in_ok-put_byte-2.ensures)
     ∙ ap (λ ts. x ++ written ts) step

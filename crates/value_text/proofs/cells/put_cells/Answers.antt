@@ -1,4 +1,4 @@
-use Rattle.std.proofs.Common.{◌≡◌, ◌∙◌, ◌+◌, ◌++◌, ap, sym, map, drop, false}
+use Rattle.std.proofs.Common.{◌∙◌, ◌+◌, ◌++◌, ap, sym, map, drop, false}
 use Rattle.value_text.specs.Tokens.{written}
 use Rattle.value_text.specs.Text.{cell, more}
 use Rattle.value_text.specs.TextLaws.{put-item}

@@ -1,5 +1,5 @@
-use Rattle.std.proofs.Common.{◌≡◌, ◌∙◌, ◌++◌, [], ◌∷◌, ap, map}
-use Rattle.value_text.specs.Tokens.{bits, mark, spelling, written}
+use Rattle.std.proofs.Common.{◌∙◌, ◌++◌, [], ◌∷◌, ap, map}
+use Rattle.value_text.specs.Tokens.{mark, written}
 use Rattle.value_text.specs.Text.{body, cell, more}
 use Rattle.value_text.specs.TextLaws.{put-then}
 use Rattle.value_text.proofs.CellSteps.{put-body}

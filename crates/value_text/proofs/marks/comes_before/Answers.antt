@@ -1,4 +1,4 @@
-use Rattle.std.proofs.Common.{◌≡◌, ◌≤◌, ◌∙◌, length, min, arith}
+use Rattle.std.proofs.Common.{◌∙◌, arith}
 use Rattle.value_text.proofs.Orders.{before-rest}
 use Rattle.value_text.proofs.marks.comes_before.Goals as goal
 

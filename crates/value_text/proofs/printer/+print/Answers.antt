@@ -1,10 +1,10 @@
-use Rattle.std.proofs.Common.{◌≡◌, ◌∙◌, ◌+◌, ◌++◌, append_assoc, List, [], ◌∷◌, ap, sym, map, take, drop, false, rules, subst, OnOk}
+use Rattle.std.proofs.Common.{◌≡◌, ◌∙◌, ◌+◌, ◌++◌, append_assoc, List, [], ◌∷◌, ap, sym, map, take, drop, rules, subst, OnOk}
 use Rattle.typed_value.specs.declared.value.Value.{the_lemmas}
-use Rattle.typed_value.specs.Values.{Plain, list_of, map_of, record_of, ref_to, rest}
-use Rattle.typed_value.specs.View.{names_in, pair_of, pairs_of, slice_of, vals_in, vals_of, value}
+use Rattle.typed_value.specs.Values.{Plain, map_of, record_of}
+use Rattle.typed_value.specs.View.{names_in, pair_of, pairs_of, vals_in, vals_of, value}
 use Rattle.value_text.specs.Tokens.{Token, bits, mark, name, written}
-use Rattle.value_text.specs.Text.{count_before, entries, fields, hidden_entry, items, name_of, separated, text_of, tokens}
-use Rattle.value_text.specs.TextLaws.{first_after, put-item, put-some, put-then, separated_from}
+use Rattle.value_text.specs.Text.{entries, fields, hidden_entry, items, name_of, separated, text_of, tokens}
+use Rattle.value_text.specs.TextLaws.{put-item, put-some, put-then, separated_from}
 use Rattle.value_text.proofs.Lists.{next-item, put-between}
 use Rattle.value_text.proofs.printer.+print.Goals as goal
 
@@ -13,9 +13,9 @@ put_value-returns-in-Record t c =
     let r = c.in-Record.record in
     let x = c.args.text.now.items in
     let seen : value c.args.shown.now ≡ record_of r.name (names_in (map pair_of r.fields)) (vals_in (map pair_of r.fields)) =
-      rw c.in-Record.is (search (the_lemmas, rules)) in
+    rw c.in-Record.is (search (the_lemmas, rules)) in
     let same : record_of r.name (names_in (map pair_of c.as_slice.result.now)) (vals_in (map pair_of c.as_slice.result.now)) ≡ value c.args.shown.now =
-      ap (λ z. record_of r.name (names_in (map pair_of z)) (vals_in (map pair_of z))) c.as_slice.ensures ∙ sym seen in
+    ap (λ z. record_of r.name (names_in (map pair_of z)) (vals_in (map pair_of z))) c.as_slice.ensures ∙ sym seen in
     let P : Plain → Type 0 = λ v. OnOk c.put_record.result (c.put_record.new.text.items ≡ x ++ text_of v) in
     subst P same c.put_record.ensures
 
@@ -24,9 +24,9 @@ put_value-returns-in-Map t c =
     let d = c.in-Map.dict in
     let x = c.args.text.now.items in
     let seen : value c.args.shown.now ≡ map_of tt (pairs_of (map pair_of d.pairs)) d.unknown =
-      rw c.in-Map.is (search (the_lemmas, rules)) in
+    rw c.in-Map.is (search (the_lemmas, rules)) in
     let same : map_of tt (pairs_of (map pair_of c.as_slice-in-Map.result.now)) c.as_slice-in-Map-2.result.now ≡ value c.args.shown.now =
-      (λ i. map_of tt (pairs_of (map pair_of (c.as_slice-in-Map.ensures i))) (c.as_slice-in-Map-2.ensures i)) ∙ sym seen in
+    (λ i. map_of tt (pairs_of (map pair_of (c.as_slice-in-Map.ensures i))) (c.as_slice-in-Map-2.ensures i)) ∙ sym seen in
     let P : Plain → Type 0 = λ v. OnOk c.put_map.result (c.put_map.new.text.items ≡ x ++ text_of v) in
     subst P same c.put_map.ensures
 
@@ -72,7 +72,7 @@ put_fields-fields-preserved t c =
     put-item c.fields.is_first x _ _ (name f.0 ∷ mark 58 ∷ tokens (value f.1)) (fields (names_in later) (vals_in later)) c.in_ok-put_comma.ensures
     (put-then _ _ _ (name f.0 ∷ mark 58 ∷ []) (tokens (value f.1)) c.in_ok-put_label.ensures c.in_ok-put_value.ensures)
     ∙ ap (λ l. x ++ written (separated_from c.fields.is_first (fields (names_in (map pair_of l)) (vals_in (map pair_of l)))))
-      (sym (next-item all i f c.fields-test.true c.fields-item.is))
+    (sym (next-item all i f c.fields-test.true c.fields-item.is))
     ∙ c.fields.invariant
 
 pub put_entries-pairs-preserved : goal.put_entries-pairs-preserved
