@@ -3,6 +3,8 @@
 
 mod cells;
 mod marks;
+mod path;
 mod printer;
 
+pub use path::{PathError, parse_path};
 pub use printer::print;
