@@ -1,24 +1,20 @@
 -- The bag that is written for a tree holds it.
-use Rattle.std.proofs.Common.{◌≡◌, ◌≢◌, ◌∙◌, ℕ, zero, suc, ◌+◌, ◌-◌, ◌*◌, ◌/◌, ◌%◌, ◌^◌, ◌<◌, ◌≤◌, Bool, true, false, List, [], ◌∷◌, ◌++◌, length, map, take, drop, reverse, slice_index, append_assoc, refl, ap, sym, subst, ⊎_elim, arith, add-one}
-use Rattle.std.specs.Prelude.{Option, Some, None, Result, Ok, slice_get, nat_lt, nat_le, max, ◌==◌, not, ◌&&◌, ◌||◌, if◌then◌else◌}
+use Rattle.std.proofs.Common.{◌≡◌, ◌≢◌, ◌∙◌, ℕ, zero, suc, ◌+◌, ◌-◌, ◌*◌, ◌%◌, ◌^◌, ◌<◌, ◌≤◌, Bool, true, false, List, [], ◌∷◌, ◌++◌, length, take, drop, reverse, slice_index, append_assoc, refl, ap, sym, subst, arith}
+use Rattle.std.specs.Prelude.{Option, Some, None, Ok, slice_get, nat_lt, nat_le, ◌==◌, ◌&&◌}
 use Rattle.std.specs.List.{flat_map}
-use Rattle.std.proofs.lemmas.Bool.{cases_eq, eq-eqb, ne_eqb, le-ltb, lt-leb}
+use Rattle.std.proofs.lemmas.Bool.{eq-eqb, ne_eqb, le-ltb, lt-leb}
 use Rattle.std.proofs.lemmas.List.{length-append, length-reverse, take_all}
-use Rattle.bit_slice.specs.Bits.{completed}
-use Rattle.bit_slice.specs.Completion.{length-completed}
 use Rattle.cell_nodes.specs.declared.tree.Kind.{Kind}
 use Rattle.cell_nodes.specs.declared.tree.Tree.{Tree, out-Tree}
 use Rattle.cell_nodes.specs.Tree.{tree_of, mask, deepest, unfolded}
 use Rattle.cell_nodes.specs.Equations.{tree_of-out}
 use Rattle.cell_nodes.specs.Good.{IsSound, IsGood}
 use Rattle.cell_nodes.specs.GoodParts.{good-sound}
-use Rattle.bag_cells.specs.First.{first_before, last_before}
 use Rattle.bag_cells.specs.Form.{raw_of}
 use Rattle.bag_cells.specs.Header.{size, cells, root, data_start, data_end, header_refusal}
-use Rattle.bag_cells.specs.Cells.{ref_count, has_stored_hashes, reported_mask, is_completed, last_byte, ref_at, cell_size, is_malformed, goes_back, refusal_at, cell_refusal, start, left_refusal}
-use Rattle.bag_cells.specs.Trees.{cell_bits, cell_kind, one, picked, node_of, node, trees, refusal_of, node_refusal, root_tree, sprawl_of, sprawl_refusal}
+use Rattle.bag_cells.specs.Cells.{ref_count, reported_mask, is_completed, last_byte, ref_at, cell_size, is_malformed, goes_back, refusal_at, cell_refusal, start}
+use Rattle.bag_cells.specs.Trees.{picked, node_of, node, trees, refusal_of, node_refusal, root_tree, sprawl_of, sprawl_refusal}
 use Rattle.bag_cells.specs.Bag.{refusal, BagHolds}
-use Rattle.bag_cells.specs.Known.{IsLater, IsCell}
 use Rattle.cell_pool.specs.Post.{stands, post}
 use Rattle.cell_pool.specs.Post.{place as place_in}
 use Rattle.cell_pool.specs.Listing.{AllStand}
@@ -27,15 +23,15 @@ use Rattle.bag_cells.proofs.Rows.{first_before-none, last_before-none}
 use Rattle.bag_cells.proofs.Refusals.{not_refused}
 use Rattle.bag_cells.proofs.Laid.{well, left_none}
 use Rattle.bag_cells.specs.Unfolds.{Unfolds}
+use Rattle.bag_cells.specs.Once.{ListsEachOnce}
 use Rattle.bag_cells.proofs.Unfolding.{root_unfolds, made_unfolds}
-use Rattle.bag_cells.proofs.Picks.{picked-more, trees-more, refusal_before}
-use Rattle.cell_pool.specs.PlaceLaws.{place-within}
+use Rattle.bag_cells.proofs.Picks.{trees-more, refusal_before}
 use Rattle.cell_pool.specs.PostLaws.{ordered-post}
 use Rattle.cell_pool.specs.PlaceLaws.{some-at, take-some, stands-at, at-place}
 use Rattle.cell_pool.specs.ReverseLaws.{place-reverse}
 use Rattle.cell_pool.specs.OnceLaws.{post-good}
 use Rattle.cell_pool.specs.GrowthLaws.{length-post}
-use Rattle.bag_cells.proofs.Widths.{width-bound, width-fits, one_le-width}
+use Rattle.bag_cells.proofs.Widths.{width-bound, width-fits}
 use Rattle.bag_cells.proofs.Fields.{HasFields, HasEnds, fields, ends}
 use Rattle.bag_cells.proofs.Completed.{last-used}
 use Rattle.bag_cells.proofs.Reread.{IsPlaced, IsReread, reread, bits-reread, kind-reread, ref-reread, size-reread, length-cell}
@@ -384,3 +380,6 @@ cells-unfold t u i g l h =
     ∙ at-reverse (post t) i u h in
     let same : cells raw - 1 - (n - 1 - i) ≡ i = omega (arith, b.cells_are, within (reverse (post t)) i u h, length-reverse (post t)) in
     subst (λ (j : ℕ). Unfolds raw j u) same (made_unfolds raw (n - 1 - i) u (accepted raw t b l) found)
+
+pub bag-once : (t : Tree) → IsGood t → unfolded t ≤ 262144 → ListsEachOnce (bag_of t) t
+bag-once t g l = record { count = cells-counted t g l; cell_each = λ i u h. cells-unfold t u i g l h }

@@ -1,19 +1,14 @@
 -- Places in lists of trees, in a reversed list, and in lists that are written one after the other.
-use Rattle.std.proofs.Common.{◌≡◌, ◌∙◌, ℕ, zero, suc, ◌+◌, ◌-◌, ◌*◌, ◌<◌, ◌≤◌, Bool, true, false, List, [], ◌∷◌, ◌++◌, length, map, take, drop, reverse, get_or, append_assoc, refl, ap, sym, subst, ⊎_elim, arith}
-use Rattle.std.specs.Prelude.{Option, Some, None, slice_get, not, cond}
+use Rattle.std.proofs.Common.{◌≡◌, ◌∙◌, ℕ, zero, suc, ◌+◌, ◌-◌, ◌*◌, ◌<◌, ◌≤◌, true, List, [], ◌∷◌, ◌++◌, length, map, take, drop, reverse, get_or, append_assoc, refl, ap, sym, arith}
+use Rattle.std.specs.Prelude.{Some, slice_get}
 use Rattle.std.specs.List.{flat_map}
-use Rattle.std.proofs.lemmas.Bool.{cases_Bool}
-use Rattle.std.proofs.lemmas.List.{length-append, length-reverse, length-take-le, get_or-reverse, take-append-drop}
+use Rattle.std.proofs.lemmas.List.{length-append, length-reverse, get_or-reverse, take-append-drop}
 use Rattle.std.proofs.lemmas.List.Concat.{flat_map-append}
 use Rattle.cell_nodes.specs.declared.tree.Tree.{Tree, out-Tree}
-use Rattle.cell_nodes.specs.Tree.{total, unfolded}
-use Rattle.cell_nodes.specs.Equations.{unfolded-out}
-use Rattle.cell_pool.specs.Post.{stands, place, without, joined, post}
-use Rattle.cell_pool.specs.Listing.{added, added_all}
-use Rattle.cell_pool.specs.SameLaws.{EachOf, tree_induction}
+use Rattle.cell_pool.specs.Post.{stands, place, joined, post}
 use Rattle.cell_pool.specs.PlaceLaws.{place-within, place-append_left}
-use Rattle.cell_pool.specs.PostLaws.{post-out, stands-post}
-use Rattle.cell_pool.specs.PlaceLaws.{some-at, take-some, stands-at}
+use Rattle.cell_pool.specs.PostLaws.{post-out}
+use Rattle.cell_pool.specs.PlaceLaws.{take-some}
 
 at-get_or : (ts : List Tree) (i : ℕ) (t : Tree) → slice_get ts i ≡ Some t → get_or ts i t ≡ t
 at-get_or [] i t h = absurd (cc)
