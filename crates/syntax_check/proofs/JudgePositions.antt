@@ -97,7 +97,8 @@ pub counted_not : (a : Position) → awaits_name a.state ≡ false → counted a
 counted_not a e = ap (λ b. if b then (if length a.names == 4096 then or_met a.met (TooManyConstructors, a.place) else
     a.met) else None) e
 
-pub unjudged : (a : Position) (t : Lexeme) → awaits_name a.state ≡ false → is_result a.state ≡ false → judged_name a t ≡ None
+pub unjudged : (a : Position) (t : Lexeme) → awaits_name a.state ≡ false → is_result a.state ≡ false
+    → judged_name a t ≡ None
 unjudged a (word x) e f = ap (λ b. if b then judged_result a x else counted a) f ∙ counted_not a e
 unjudged a blank e f = counted_not a e
 unjudged a (number n) e f = refl

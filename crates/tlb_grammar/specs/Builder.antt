@@ -127,8 +127,15 @@ abbrev pub with_field : List Item → Option (List ℕ) → FieldType → List I
 with_field is name t = with_item is (Explicit name t)
 
 abbrev pub with_param : Constructor → Expr → Constructor
-with_param c e = record { exotic = c.exotic; name = c.name; tag = c.tag; items = c.items; result = c.result; params =
-    c.params ++ e ∷ [] }
+with_param c e = record {
+  exotic = c.exotic;
+  name = c.name;
+  tag = c.tag;
+  items = c.items;
+  result = c.result;
+  params =
+      c.params ++ e ∷ [];
+}
 
 -- after a term that is part of this
 unfoldable pub after_term : Frame → Expr → Option ParserState
