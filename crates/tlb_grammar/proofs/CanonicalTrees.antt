@@ -4,7 +4,7 @@ use Rattle.bit_slice.specs.Bits.{AreBits}
 use Rattle.nat_solver.specs.declared.compare.Op.{Op}
 use Rattle.nat_solver.specs.declared.compare.Op.TheVariants.{Eq, Lt, Le, Gt, Ge}
 use Rattle.tlb_lexer.specs.Spelling.{is_name}
-use Rattle.tlb_lexer.specs.Cut.{longest_name}
+use Rattle.tlb_lexer.specs.Tokenization.{longest_name}
 use Rattle.tlb_syntax.specs.declared.tree.ParamKind.{ParamKind}
 use Rattle.tlb_syntax.specs.declared.tree.ParamKind.TheVariants.{Nat, Ty}
 use Rattle.tlb_syntax.specs.declared.sign.Sign.{Sign}
@@ -23,7 +23,7 @@ pub record IsWord (x : List ℕ) : Type 0 where
 -- the bits of a tag
 pub record IsMark (b : List ℕ) : Type 0 where
   pub bits : AreBits b
-  pub few : length b ≤ 1023
+  pub short : length b ≤ 1023
 
 abbrev pub IsWordOrBlank : Option (List ℕ) → Type 0
 IsWordOrBlank None = Unit {0}
@@ -81,13 +81,13 @@ abbrev mutual
 pub record IsConstructor (c : ConstructorView) : Type 0 where
   pub name : IsWordOrBlank c.name
   pub tag : IsTag c.tag
-  pub few_items : items_count c.items ≤ 255
+  pub item_count : items_count c.items ≤ 255
   pub items : AreItems c.items
   pub result : IsWord c.result
-  pub few_params : exprs_count c.params ≤ 8
+  pub param_count : exprs_count c.params ≤ 8
   pub params : AreExprs c.params
 
--- ---- their lexemes, in front of others
+-- ---- their lexemes, before others
 
 abbrev pub head : Option (List ℕ) → Lexeme
 head (Some x) = word x
