@@ -1,4 +1,4 @@
--- The list of distinct subtrees has each of them once, each behind its children.
+-- The list of distinct subtrees has each of them once, each after its children.
 use Rattle.std.proofs.Common.{◌≡◌, ◌∙◌, ℕ, zero, suc, true, false, List, [], ◌∷◌, ◌++◌, map, refl, ap, sym, subst}
 use Rattle.std.proofs.Common.{⊎_elim, inl, inr}
 use Rattle.std.specs.Prelude.{Some, slice_get, ◌⊎◌}
@@ -44,16 +44,16 @@ only-all seen (t ∷ ts) u each h = ⊎_elim
 
 only_step : (t : Tree) → EachOf OnlySubtrees (out-Tree t).children → OnlySubtrees t
 only_step t each u h =
-    let front = joined [] (map post (out-Tree t).children) in
-    let k : stands (front ++ t ∷ []) u ≡ true = sym (ap (λ (l : List Tree). stands l u) (post-out t)) ∙ h in
+    let prefix = joined [] (map post (out-Tree t).children) in
+    let k : stands (prefix ++ t ∷ []) u ≡ true = sym (ap (λ (l : List Tree). stands l u) (post-out t)) ∙ h in
     ⊎_elim
-    (λ (l : stands front u ≡ true). ⊎_elim
+    (λ (l : stands prefix u ≡ true). ⊎_elim
     (λ (m : false ≡ true). absurd (cc))
     (λ (m : (i : ℕ) × (c : Tree) × (slice_get (out-Tree t).children i ≡ Some c)
     × IsSubtree u c). below u m.1 t m.0 m.2 m.3)
     (only-all [] (out-Tree t).children u each l))
     (λ (l : stands (t ∷ []) u ≡ true). subst (λ (v : Tree). IsSubtree v t) (stands-only t u l) (itself t))
-    (or_cases (stands front u) (stands (t ∷ []) u) (sym (stands-append front (t ∷ []) u) ∙ k))
+    (or_cases (stands prefix u) (stands (t ∷ []) u) (sym (stands-append prefix (t ∷ []) u) ∙ k))
 
 only-subtrees : (t : Tree) → OnlySubtrees t
 only-subtrees = tree_induction OnlySubtrees only_step

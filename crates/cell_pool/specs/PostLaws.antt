@@ -73,7 +73,7 @@ added-out seen t =
     ∙ sym (append_assoc seen (without seen below) (without seen (t ∷ [])))
     ∙ ap (λ (l : List Tree). l ++ without seen (t ∷ [])) (sym (joined-after seen (map post (out-Tree t).children)))
 
--- a tree that is not there comes behind its children
+-- a tree that is not there comes after its children
 pub added-new : (seen : List Tree) (t : Tree) → stands seen t ≡ false
     → added seen t ≡ added_all seen (out-Tree t).children ++ t ∷ []
 added-new seen t h =
