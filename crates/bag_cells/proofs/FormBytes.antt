@@ -121,8 +121,8 @@ table =
     let enc = standard.encode_table in
     let dec = standard.decode_table in
     let pad = standard.padding.value in
-    let front = and_parts (is_alphabet enc pad && is_inverse enc dec) (slice_index dec pad == 255) standard.tables in
-    table_by enc dec (and_parts (is_alphabet enc pad) (is_inverse enc dec) front.0).1
+    let prefix = and_parts (is_alphabet enc pad && is_inverse enc dec) (slice_index dec pad == 255) standard.tables in
+    table_by enc dec (and_parts (is_alphabet enc pad) (is_inverse enc dec) prefix.0).1
 
 none-first : (a b : Option DecodeError) → or_else a b ≡ None → a ≡ None
 none-first None b h = refl

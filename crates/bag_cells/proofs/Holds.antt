@@ -35,7 +35,7 @@ use Rattle.bag_cells.proofs.Widths.{width-bound, width-fits}
 use Rattle.bag_cells.proofs.Fields.{HasFields, HasEnds, fields, ends}
 use Rattle.bag_cells.proofs.Completed.{last-used}
 use Rattle.bag_cells.proofs.Reread.{IsPlaced, IsReread, reread, bits-reread, kind-reread, ref-reread, size-reread, length-cell}
-use Rattle.bag_cells.proofs.Lists.{within, at-reverse, reverse-at, place-front, place-before, written-split, length-written, length-few, last-post, some-post}
+use Rattle.bag_cells.proofs.Lists.{within, at-reverse, reverse-at, place-prefix, place-before, written-split, length-written, length-few, last-post, some-post}
 
 -- the cells of the tree stand after the header
 pub record IsBag (raw : List ℕ) (t : Tree) : Type 0 where
@@ -60,7 +60,7 @@ placed-from raw t u i b s h =
     let order = reverse (post t) in
     let f = cell_bytes (size raw) order in
     record {
-      front = b.head ++ flat_map f (take i order);
+      prefix = b.head ++ flat_map f (take i order);
       rest = flat_map f (drop (suc i) order);
       bytes_are =
           b.bytes_are
@@ -120,11 +120,11 @@ before-at t u c i j h k =
     let n = length (post t) - 1 - i in
     child-before (out-Tree u).children (take n (post t)) j c ((ordered-post t).before n u (at-reverse (post t) i u h)) k
 
-stands-front : (ts : List Tree) (k : ℕ) (c : Tree) → stands (take k ts) c ≡ true → stands ts c ≡ true
-stands-front [] zero c h = absurd (cc)
-stands-front [] (suc k) c h = absurd (cc)
-stands-front (t ∷ ts) zero c h = absurd (cc)
-stands-front (t ∷ ts) (suc k) c h = stands-at (t ∷ ts) (place_in (take (suc k) (t ∷ ts)) c) c (from_front (t ∷ ts) (suc k) (place_in (take (suc k) (t ∷ ts)) c) c (at-place (take (suc k) (t ∷ ts)) c h))
+stands-prefix : (ts : List Tree) (k : ℕ) (c : Tree) → stands (take k ts) c ≡ true → stands ts c ≡ true
+stands-prefix [] zero c h = absurd (cc)
+stands-prefix [] (suc k) c h = absurd (cc)
+stands-prefix (t ∷ ts) zero c h = absurd (cc)
+stands-prefix (t ∷ ts) (suc k) c h = stands-at (t ∷ ts) (place_in (take (suc k) (t ∷ ts)) c) c (from_front (t ∷ ts) (suc k) (place_in (take (suc k) (t ∷ ts)) c) c (at-place (take (suc k) (t ∷ ts)) c h))
   where
     from_front : (ts : List Tree) (k i : ℕ) (c : Tree) → slice_get (take k ts) i ≡ Some c → slice_get ts i ≡ Some c
     from_front [] zero i c h = absurd (cc)
@@ -137,7 +137,7 @@ stands-front (t ∷ ts) (suc k) c h = stands-at (t ∷ ts) (place_in (take (suc 
 index-at : (t u c : Tree) (i j : ℕ) → slice_get (reverse (post t)) i ≡ Some u → slice_get (out-Tree u).children j ≡ Some c
     → place_in (reverse (post t)) c ≡ length (post t) - 1 - place_in (post t) c
 index-at t u c i j h k =
-    place-reverse (post t) c (ordered-post t).distinct (stands-front (post t) (length (post t) - 1 - i) c (before-at t u c i j h k))
+    place-reverse (post t) c (ordered-post t).distinct (stands-prefix (post t) (length (post t) - 1 - i) c (before-at t u c i j h k))
 
 ref-at : (raw : List ℕ) (t u c : Tree) (i j : ℕ) → IsBag raw t → slice_get (reverse (post t)) i ≡ Some u → slice_get (out-Tree u).children j ≡ Some c
     → ref_at raw (start raw i) j ≡ length (post t) - 1 - place_in (post t) c
@@ -188,8 +188,8 @@ cell-accepted raw t u i b h =
     let r = reread-at raw t u i b h in
     let s = size-reread raw place order u r in
     let f = cell_bytes (size raw) order u in
-    let n : length raw ≡ length p.front + (length f + length p.rest) =
-    ap length p.bytes_are ∙ length-append p.front (f ++ p.rest) ∙ ap (λ (x : ℕ). length p.front + x) (length-append f p.rest) in
+    let n : length raw ≡ length p.prefix + (length f + length p.rest) =
+    ap length p.bytes_are ∙ length-append p.prefix (f ++ p.rest) ∙ ap (λ (x : ℕ). length p.prefix + x) (length-append f p.rest) in
     let l = length-cell (size raw) order u in
     let few : ref_count raw place ≤ 4 = omega (arith, r.refs_are, sound.few) in
     let inside : place + cell_size raw place ≤ data_end raw = omega (arith, p.place_is, b.end_is) in
@@ -215,7 +215,7 @@ picked-at raw t u i (suc m) b h l =
     let e = ref-at raw t u c i m b h some.1 in
     let s = before-at t u c i m h some.1 in
     let p = place-before (post t) k c s in
-    let q : cells raw - 1 - ref_at raw (start raw i) m ≡ place_in (take k (post t)) c = omega (arith, b.cells_are, place-front (post t) k c s) in
+    let q : cells raw - 1 - ref_at raw (start raw i) m ≡ place_in (take k (post t)) c = omega (arith, b.cells_are, place-prefix (post t) k c s) in
     let found : slice_get (take k (post t)) (cells raw - 1 - ref_at raw (start raw i) m) ≡ Some c =
     ap (λ (x : ℕ). slice_get (take k (post t)) x) q ∙ at-place (take k (post t)) c s in
     rw (found, picked-at raw t u i m b h (omega arith)) (sym (take-some (out-Tree u).children m c some.1))

@@ -41,8 +41,8 @@ reverse-at ts k t h =
     get_or-at (reverse ts) i t (omega (arith, length-reverse ts)) ∙ ap (λ (u : Tree). Some u) e
 
 -- the place of a tree among the first ones
-pub place-front : (ts : List Tree) (k : ℕ) (t : Tree) → stands (take k ts) t ≡ true → place ts t ≡ place (take k ts) t
-place-front ts k t h = ap (λ (l : List Tree). place l t) (sym (take-append-drop k ts)) ∙ place-append_left (take k ts) (drop k ts) t h
+pub place-prefix : (ts : List Tree) (k : ℕ) (t : Tree) → stands (take k ts) t ≡ true → place ts t ≡ place (take k ts) t
+place-prefix ts k t h = ap (λ (l : List Tree). place l t) (sym (take-append-drop k ts)) ∙ place-append_left (take k ts) (drop k ts) t h
 
 pub length-take-most : (ts : List Tree) (k : ℕ) → length (take k ts) ≤ k
 length-take-most [] zero = omega arith
@@ -51,7 +51,7 @@ length-take-most (t ∷ ts) zero = omega arith
 length-take-most (t ∷ ts) (suc k) = omega (arith, length-take-most ts k)
 
 pub place-before : (ts : List Tree) (k : ℕ) (t : Tree) → stands (take k ts) t ≡ true → place ts t < k
-place-before ts k t h = omega (arith, place-front ts k t h, place-within (take k ts) t h, length-take-most ts k)
+place-before ts k t h = omega (arith, place-prefix ts k t h, place-within (take k ts) t h, length-take-most ts k)
 
 -- ---- lists that are written one after the other
 
@@ -77,9 +77,9 @@ length-few f most (t ∷ ts) h =
 -- the tree itself is the last
 pub last-post : (t : Tree) → slice_get (post t) (length (post t) - 1) ≡ Some t
 last-post t =
-    let front = joined [] (map post (out-Tree t).children) in
-    let e : length (front ++ t ∷ []) - 1 ≡ length front = omega (arith, length-append front (t ∷ [])) in
-    ap (λ (l : List Tree). slice_get l (length l - 1)) (post-out t) ∙ ap (λ (n : ℕ). slice_get (front ++ t ∷ []) n) e ∙ at_end front t
+    let prefix = joined [] (map post (out-Tree t).children) in
+    let e : length (prefix ++ t ∷ []) - 1 ≡ length prefix = omega (arith, length-append prefix (t ∷ [])) in
+    ap (λ (l : List Tree). slice_get l (length l - 1)) (post-out t) ∙ ap (λ (n : ℕ). slice_get (prefix ++ t ∷ []) n) e ∙ at_end prefix t
   where
     at_end : (xs : List Tree) (t : Tree) → slice_get (xs ++ t ∷ []) (length xs) ≡ Some t
     at_end [] t = refl

@@ -74,8 +74,8 @@ pub first_before-some : {E : Type 0} (row : ℕ → Option E) (n : ℕ) (e : E) 
 unfolding first_before
 first_before-some row zero e h = absurd (cc)
 first_before-some row (suc n) e h = elim (or_else-some (first_before row n) (row n) e h) [
-  | inl front ↦
-      let f = first_before-some row n e front in
+  | inl prefix ↦
+      let f = first_before-some row n e prefix in
       record { i = f.i; within = omega (arith, f.within); before = f.before; found = f.found }
   | inr last ↦ record { i = n; within = omega arith; before = first_before-all row n last.0; found = last.1 }
 ]
@@ -100,7 +100,7 @@ unfolding last_before
 last_before-some row zero e h = absurd (cc)
 last_before-some row (suc n) e h = elim (or_else-some (row n) (last_before row n) e h) [
   | inl last ↦ record { i = n; within = omega arith; after = λ j l m. absurd (omega arith); found = last }
-  | inr front ↦
-      let f = last_before-some row n e front.1 in
-      record { i = f.i; within = omega (arith, f.within); after = more_after row n f.i f.after front.0; found = f.found }
+  | inr prefix ↦
+      let f = last_before-some row n e prefix.1 in
+      record { i = f.i; within = omega (arith, f.within); after = more_after row n f.i f.after prefix.0; found = f.found }
 ]

@@ -120,7 +120,7 @@ trees_unfold raw (suc n) h forward each p t g =
     let known = trees_unfold raw n (omega arith) forward fewer in
     let count = trees-length raw n (omega arith) fewer in
     elim (in_front_or_last xs (node raw (start raw i) xs) p t g) [
-      | inl front ↦ known p t front
+      | inl prefix ↦ known p t prefix
       | inr last ↦
           let at : n ≡ p = sym (last.0 ∙ count) in
           subst (λ (m : ℕ). Unfolds raw (cells raw - 1 - m) t) at (node-unfolds raw i n xs t forward count whole known last.1)
