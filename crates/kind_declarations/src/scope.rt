@@ -28,6 +28,9 @@ pub struct Scope<'a, 't> {
     pub bindings: Items<Binding<'a>>,
     /// How many of them are of the records around.
     pub around: usize,
+    /// The inputs that belong to the record: those of a constructor belong to no record in it.
+    pub inputs: &'t [&'a Name],
+    /// The variables in scope that are known.
     pub known: Items<&'a Name>,
     /// The fields so far of the record and of those around it.
     pub fields: Items<&'a Name>,
@@ -40,8 +43,8 @@ fn is_implicit(meaning: Option<Meaning>) -> bool
 }
 
 impl<'a, 't> Scope<'a, 't> {
-    /// The first item of a constructor, of which the inputs are known from the start.
-    pub fn new(alloc: Global, types: &'t Types<'a>, inputs: Items<&'a Name>) -> Scope<'a, 't>
+    /// The first item of a constructor with these inputs.
+    pub fn new(alloc: Global, types: &'t Types<'a>, inputs: &'t [&'a Name]) -> Scope<'a, 't>
         ensures { result
             ≡ record {
               alloc = alloc;
@@ -49,7 +52,8 @@ impl<'a, 't> Scope<'a, 't> {
               path = [];
               bindings = [];
               around = 0;
-              known = inputs.entry;
+              inputs = inputs.entry;
+              known = [];
               fields = [];
             } }
     {
@@ -59,7 +63,8 @@ impl<'a, 't> Scope<'a, 't> {
             path: Items::new(alloc),
             bindings: Items::new(alloc),
             around: 0,
-            known: inputs,
+            inputs,
+            known: Items::new(alloc),
             fields: Items::new(alloc),
         }
     }

@@ -94,7 +94,7 @@ fn what_items_declare_and_make_known(rt: HostRuntime) {
     let mut known = Items::new(rt.alloc());
     let mut scope = Items::new(rt.alloc());
     for item in last.items.as_slice() {
-        add_known(&types, item, &mut known).expect(&rt, "memory");
+        add_known(&types, &[], item, &mut known).expect(&rt, "memory");
         let entry = declares(item).expect(&rt, "a name");
         scope.push(entry).ok().expect(&rt, "memory");
     }
