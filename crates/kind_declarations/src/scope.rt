@@ -8,7 +8,8 @@ ghost use Rattle.kind_terms.specs.Scopes.{in_scope, is_implicit_number};
 ghost use Rattle.kind_terms.specs.Scopes as scopes_spec;
 ghost use Rattle.kind_terms.specs.Types.{type_named};
 ghost use Rattle.kind_terms.specs.Views.{named_by};
-ghost use Rattle.kind_rules.specs.ExpectedKinds.{as_type, type_unless, meaning_by};
+ghost use Rattle.kind_rules.specs.ExpectedKinds.{as_type, meaning_by};
+ghost use Rattle.kind_rules.specs.NameLaws.{type_unless};
 ghost use Rattle.kind_rules.specs.Numbers.{is_variable_in, holds_variable as holds_variable_in};
 ghost use Rattle.kind_declarations.specs.Views.{scope_by};
 

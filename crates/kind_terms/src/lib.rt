@@ -4,6 +4,7 @@
 #![tactic(auto)]
 
 mod kind;
+pub mod laws;
 mod numbers;
 mod outs;
 mod part;
@@ -25,7 +26,4 @@ pub use shape::{
 pub use shown::{Shown, is_unnamed, show_item};
 pub use types::{Declared, Sort, TypeNamed, Types, no_type};
 pub use variables::{add_variable, inputs};
-pub use words::{
-    has_some_width, has_width, is_any_or_cell, is_built_in, is_dictionary, is_family, is_map,
-    is_wide,
-};
+pub use words::{Family, WordClass, is_built_in, is_dictionary, is_wide, word_class};
