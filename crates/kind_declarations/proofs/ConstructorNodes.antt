@@ -7,8 +7,8 @@ use Rattle.tlb_syntax.specs.declared.tree.Expr.{Expr}
 use Rattle.tlb_syntax.specs.declared.tree.Item.{Item}
 use Rattle.tlb_syntax.specs.View.{constructor, exprs, items}
 use Rattle.tlb_syntax.specs.Tree.{ConstructorView, SchemaView}
-use Rattle.kind_terms.specs.declared.part.Part.{Part}
-use Rattle.kind_terms.specs.declared.part.Part.TheVariants as places
+use Rattle.field_path.specs.declared.part.Part.{Part}
+use Rattle.field_path.specs.declared.part.Part.TheVariants as places
 use Rattle.kind_terms.specs.Params.{inputs}
 use Rattle.kind_terms.specs.Words.{Word}
 use Rattle.kind_terms.specs.Scopes.{Scope, at_end, made_known}

@@ -15,7 +15,7 @@ use Rattle.kind_rules.specs.ExpectedKinds.{a_number}
 use Rattle.tlb_syntax.specs.Limits.{AreExprs, AreItems, IsExpr, IsItem, item_count}
 use Rattle.tlb_syntax.specs.View.{constructor, expr, exprs, field_type, item, items}
 use Rattle.tlb_syntax.specs.Tree.{an_expr, explicit, ItemList, ItemView, SchemaView}
-use Rattle.kind_terms.specs.declared.part.Part.{Part}
+use Rattle.field_path.specs.declared.part.Part.{Part}
 use Rattle.kind_terms.specs.declared.kind.TermKind.{TermKind}
 use Rattle.kind_terms.specs.declared.scope.Binding.{Binding as ProgramBinding}
 use Rattle.kind_terms.specs.Words.{Word}

@@ -4,8 +4,8 @@ use Rattle.std.specs.Prelude.{if◌then◌else◌}
 use Rattle.tlb_syntax.specs.Tree.{ExprView, ExprList, ItemView, ItemList, TypeView, ConstructorView, SchemaView, lit}
 use Rattle.tlb_syntax.specs.Tree.{named, nat32, bits, below, up_to, plus, star, out, ref, group, no_exprs, an_expr}
 use Rattle.tlb_syntax.specs.Tree.{plain, when, when_bit, implicit, check, explicit, no_items, an_item}
-use Rattle.kind_terms.specs.declared.part.Part.{Part}
-use Rattle.kind_terms.specs.declared.part.Part.TheVariants as places
+use Rattle.field_path.specs.declared.part.Part.{Part}
+use Rattle.field_path.specs.declared.part.Part.TheVariants as places
 use Rattle.kind_terms.specs.Positions.{ItemPosition, first_position, next_position, path_at}
 use Rattle.kind_terms.specs.Words.{Word}
 use Rattle.kind_terms.specs.declared.kind.TermKind.{TermKind}

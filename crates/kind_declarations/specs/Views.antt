@@ -1,8 +1,8 @@
 -- What the program's values stand for.
 use Rattle.std.specs.Prelude.{◌≡◌, ℕ, List, [], ◌∷◌, ◌++◌, length, map, take, drop}
 use Rattle.std.specs.Borrow.{Bor}
-use Rattle.kind_terms.specs.declared.part.Part.{Part}
-use Rattle.kind_terms.specs.declared.part.Part.TheVariants as places
+use Rattle.field_path.specs.declared.part.Part.{Part}
+use Rattle.field_path.specs.declared.part.Part.TheVariants as places
 use Rattle.kind_terms.specs.Words.{Word}
 use Rattle.kind_rules.specs.ExpectedKinds.{Expected, Use}
 use Rattle.kind_terms.specs.Positions.{first_position}

@@ -7,7 +7,6 @@ mod kind;
 pub mod laws;
 mod numbers;
 mod outs;
-mod part;
 mod scope;
 mod shape;
 mod shown;
@@ -18,7 +17,6 @@ mod words;
 pub use kind::{GREATEST, TermKind, has_outputs, kind_of, kinds};
 pub use numbers::{closed, is_beyond};
 pub use outs::{add_known, sought};
-pub use part::Part;
 pub use scope::{Binding, Meaning, declares, field_name, is_among, meaning_in};
 pub use shape::{
     bare_name, is_field_of_numbers, is_literal, is_of_numbers, is_out, out_name, variable_of,
