@@ -234,7 +234,7 @@ impl<'a, 't> Scope<'a, 't> {
         ensures scope { OnOk result (scope_by self.new ≡ after (scope_by self.old) (item_view item.now)) }
     {
         add_binding(item, &mut self.bindings)?;
-        add_known(self.types, item, &mut self.known)?;
+        add_known(self.types, self.inputs, item, &mut self.known)?;
         Ok(())
     }
 
@@ -265,12 +265,15 @@ impl<'a, 't> Scope<'a, 't> {
         ensures kept { OnOk result (self.new ≡ self.old) }
     {
         let around = self.around;
+        let inputs = self.inputs;
         let bindings = self.bindings.len();
         let known = self.known.len();
         let fields = self.fields.len();
         self.around = bindings;
+        self.inputs = &[];
         self.judge_items(list)?;
         self.around = around;
+        self.inputs = inputs;
         keep_first(&mut self.bindings, bindings);
         keep_first(&mut self.known, known);
         keep_first(&mut self.fields, fields);
