@@ -11,6 +11,8 @@ use Rattle.tlb_syntax.specs.Tree.{nat32, bits, below, up_to, plus, star, out, re
 use Rattle.tlb_syntax.specs.Tree.{when_bit, implicit, check, explicit, no_items, an_item}
 use Rattle.kind_terms.specs.declared.kind.TermKind.{TermKind}
 use Rattle.kind_terms.specs.declared.kind.TermKind.TheVariants.{NumberIn, TypeIn, NumberOut, NoKind}
+use Rattle.kind_terms.specs.declared.words.Family.{Family}
+use Rattle.kind_terms.specs.declared.words.Family.TheVariants.{Uint, Int, Bits}
 use Rattle.kind_terms.specs.Words.{Word}
 use Rattle.kind_terms.specs.Params.{bare_name, kinds}
 use Rattle.kind_terms.specs.Forms.{is_field_of_numbers, out_name}
@@ -18,7 +20,7 @@ use Rattle.kind_terms.specs.Sought.{sought}
 use Rattle.kind_terms.specs.Positions.{shown, is_unnamed}
 use Rattle.core_form.specs.Core.{Ty, Args, Item, Items, Input, Parameter, Constructor, Condition, no_condition}
 use Rattle.core_form.specs.Core as core
-use Rattle.schema_core.specs.Names.{Names, Variable, a_number, a_type, other, Family, uints, ints, bit_strings, TypeName}
+use Rattle.schema_core.specs.Names.{Names, Variable, a_number, a_type, other, TypeName}
 use Rattle.schema_core.specs.Names.{no_type, type_word, anything, family, family_of, hashmap_type, hashmap_e_type, declared}
 use Rattle.schema_core.specs.Names.{declares, meaning, type_called, declared_kinds}
 use Rattle.schema_core.specs.Slots.{field_slots, next_slot, slots_in}
@@ -31,9 +33,9 @@ abbrev pub no_meaning : Ty
 no_meaning = core.whole
 
 abbrev pub of_family : Family → Expr → Ty
-of_family uints e = core.uint e
-of_family ints e = core.int e
-of_family bit_strings e = core.bit_str e
+of_family Uint e = core.uint e
+of_family Int e = core.int e
+of_family Bits e = core.bit_str e
 
 -- the name of a type, with its first argument as a number, its second as a type, and its arguments
 abbrev pub applied : TypeName → Word → Expr → Ty → Args → Ty
