@@ -3,3 +3,8 @@ pub mod Slots
 pub mod Numbers
 pub mod CoreOf
 pub mod Cores
+pub mod Declarations
+pub mod ExampleNames
+pub mod ExampleTypes
+pub mod ExampleNumbers
+pub mod ExampleResults
