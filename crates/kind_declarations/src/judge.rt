@@ -43,6 +43,13 @@ fn kinds_of(named: TypeNamed<'_>) -> &[TermKind]
     }
 }
 
+// The inputs that belong to a record inside.
+fn no_inputs<'t, 'a>() -> &'t [&'a Name]
+    ensures { result.now ≡ [] }
+{
+    &[]
+}
+
 impl<'a, 't> Scope<'a, 't> {
     // The parameters of the type that a name is, with arguments or without.
     #[tactic(auto, using(crate::proofs::ScopeViews::types_seen))]
@@ -270,7 +277,7 @@ impl<'a, 't> Scope<'a, 't> {
         let known = self.known.len();
         let fields = self.fields.len();
         self.around = bindings;
-        self.inputs = &[];
+        self.inputs = no_inputs();
         self.judge_items(list)?;
         self.around = around;
         self.inputs = inputs;

@@ -11,7 +11,7 @@ use Rattle.bit_slice.specs.declared.name.Name.{Name}
 use Rattle.tlb_syntax.specs.declared.tree.Constructor.{Constructor}
 use Rattle.tlb_syntax.specs.declared.tree.Expr.{Expr}
 use Rattle.tlb_syntax.specs.declared.tree.Item.{Item}
-use Rattle.tlb_syntax.specs.Tree.{ExprList, ItemList, named}
+use Rattle.tlb_syntax.specs.Tree.{SchemaView, ExprList, ItemList, named}
 use Rattle.tlb_syntax.specs.View.{constructor, expr, exprs, item, items}
 use Rattle.kind_terms.specs.Words.{Word}
 use Rattle.kind_terms.specs.Scopes.{field_names}

@@ -12,9 +12,14 @@ use Rattle.tlb_guard.specs.Empty.{class_in, may_be_empty, may_be_empty_name, may
 abbrev pub is_variable : List Word → Word → ExprList → Bool
 is_variable scope x es = not (has_exprs es) && is_among scope x
 
+abbrev some_if : Bool → Option (Unit {0})
+some_if among = cond among (Some tt) None
+
+abbrev variable_if : Bool → Word → NameClass (Unit {0})
+variable_if b x = cond b (of_scope tt) (of_word (word_class x))
+
 by_test : (x : Word) (has_arguments among : Bool)
-    → name_class (cond among (Some tt) None) x has_arguments
-    ≡ cond (not has_arguments && among) (of_scope tt) (of_word (word_class x))
+    → name_class (some_if among) x has_arguments ≡ variable_if (not has_arguments && among) x
 by_test x true true = refl
 by_test x true false = refl
 by_test x false true = refl
@@ -27,4 +32,4 @@ class_by_test scope x es = by_test x (has_exprs es) (is_among scope x)
 
 pub class_seen : (scope : List Word) (x : Word) (es : ExprList) (b : Bool) → is_variable scope x es ≡ b
     → class_in scope x es ≡ cond b (of_scope tt) (of_word (word_class x))
-class_seen scope x es b is = class_by_test scope x es ∙ ap (λ c. cond c (of_scope tt) (of_word (word_class x))) is
+class_seen scope x es b is = class_by_test scope x es ∙ ap (λ c. variable_if c x) is
