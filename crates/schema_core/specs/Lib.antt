@@ -3,3 +3,13 @@ pub mod Slots
 pub mod Numbers
 pub mod CoreOf
 pub mod Cores
+pub mod Same
+pub mod Laws
+pub mod SameLaws
+pub mod PlainLaws
+pub mod BoundLaws
+pub mod Declarations
+pub mod ExampleNames
+pub mod ExampleTypes
+pub mod ExampleNumbers
+pub mod ExampleResults

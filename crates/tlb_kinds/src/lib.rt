@@ -11,5 +11,5 @@ mod spot;
 
 pub use check::{Kinded, kind_check};
 pub use error::KindError;
-pub use kind_terms::Part;
-pub use spot::{FieldPath, Spot};
+pub use field_path::{FieldPath, Part};
+pub use spot::Spot;
