@@ -10,8 +10,7 @@ use Rattle.tlb_syntax.specs.declared.tree.Expr.TheVariants as exprs
 use Rattle.tlb_syntax.specs.declared.tree.FieldType.TheVariants as types
 use Rattle.tlb_syntax.specs.declared.tree.Item.{Item}
 use Rattle.tlb_syntax.specs.declared.tree.Item.TheVariants.{Implicit, Check}
-use Rattle.tlb_syntax.specs.declared.tree.Tag.{Tag}
-use Rattle.tlb_syntax.specs.declared.tree.Tag.TheVariants.{Computed, Given}
+use Rattle.tlb_syntax.specs.declared.tree.Tag.TheVariants.{Given}
 use Rattle.tlb_syntax.specs.declared.tree.Constructor.{Constructor}
 use Rattle.tlb_syntax.specs.Lexeme.{Lexeme, word, number, tag, sign}
 use Rattle.tlb_syntax.specs.Tree.{ExprView, TypeView}
