@@ -233,7 +233,8 @@ brace_same : (m : Bounds) {k left : Count} {mode : ParserState} (d : Count) (s :
 brace_same m d s below w sp =
     pause_same m d s below w at_brace ∙ spent m TooManyFields (λ left. Ok (at (modes.Brace left) d below)) s sp
 
-head_same : (m : Bounds) {k left : Count} {mode : ParserState} {h : Lexeme} {x : Option (List ℕ)} (d : Count) (s : List Lexeme)
+head_same : (m : Bounds) {k left : Count} {mode : ParserState} {h : Lexeme} {x : Option (List ℕ)} (d : Count)
+    (s : List Lexeme)
     → (below : List Frame) → Paused m k mode → Spends k left → Heads h x
     → Same m mode d below (h ∷ sign Colon ∷ s) (modes.Term (spots.Field left) d) d below s
 head_same m d s below w sp by_name =

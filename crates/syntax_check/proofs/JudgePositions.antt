@@ -124,7 +124,8 @@ finish_met may_end st place begun names met = either (may_end st)
 -- a step that fails answers the limit that was met
 pub failed_met : (st : State) (place begun : ℕ) (names : List (List ℕ)) (met : Cause × ℕ) (t : Lexeme) (o : Outcome)
     → ((why : Cause) → IsLimit why → o ≡ Err why → ⊥) → (o ≡ Err TooManyConstructors → ⊥) →
-    (further : Position → Verdict) → ((next : State) → o ≡ Ok next → further (onward (past_limit st place begun names met)
+    (further : Position → Verdict)
+    → ((next : State) → o ≡ Ok next → further (onward (past_limit st place begun names met)
     t unbounded (Some met) next) ≡ Some met) →
     go_on (after_step (past_limit st place begun names met) t o) further ≡ Some met
 failed_met st place begun names met t (Ok next) none many further h = h next refl

@@ -18,7 +18,8 @@ use Rattle.syntax_check.specs.Judge.{Position, Verdict, free, onward, freed, aft
 -- ---- after a limit
 
 -- a state without its counts stands where it stood
-onward_free : (st : State) (m n bounds : Bounds) (place begun : ℕ) (names : List (List ℕ)) (met met_then now : Verdict) (t : Lexeme) (next : State) →
+onward_free : (st : State) (m n bounds : Bounds) (place begun : ℕ) (names : List (List ℕ))
+    (met met_then now : Verdict) (t : Lexeme) (next : State) →
     onward (record { bounds = m; state = st; place = place; begun = begun; names = names; met = met }) t bounds now next ≡
     onward (record { bounds = n; state = free st; place = place; begun = begun; names = names; met = met_then }) t bounds now next
 onward_free (at Start lv below) m n bounds place begun names met met_then now t next = refl
@@ -26,7 +27,8 @@ onward_free (at Marked lv below) m n bounds place begun names met met_then now t
 onward_free (at ResultName lv below) m n bounds place begun names met met_then now t next = refl
 onward_free (at _ lv below) m n bounds place begun names met met_then now t next = refl
 
-pub beyond : (st st_then next : State) (m n : Bounds) (place begun : ℕ) (names : List (List ℕ)) (met : Verdict) (t : Lexeme) (why : Cause) (reported : Cause × ℕ) (new : Position) →
+pub beyond : (st st_then next : State) (m n : Bounds) (place begun : ℕ) (names : List (List ℕ)) (met : Verdict)
+    (t : Lexeme) (why : Cause) (reported : Cause × ℕ) (new : Position) →
     n ≡ unbounded → st_then ≡ free st → reported ≡ (why, place) → step n st_then t ≡ Ok next →
     new ≡ onward (record { bounds = n; state = st_then; place = place; begun = begun; names = names; met = Some reported }) t n (Some reported) next →
     freed (record { bounds = m; state = st; place = place; begun = begun; names = names; met = met }) t why (step unbounded (free st) t) ≡ Ok new

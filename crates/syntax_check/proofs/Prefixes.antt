@@ -157,7 +157,8 @@ module _ {X : Type 0} {G : Grammar X} (l : Language G) where
       subst C (sym k.0) (subst B (sym k.1) (s.with_it, s.too_much))
 
   -- where nothing goes on no limit is met
-  pub no_excess_at_place : (f : Switches) (m : Bounds) (ls prefix later : List Lexeme) (t : Lexeme) (st : State) (place : ℕ)
+  pub no_excess_at_place : (f : Switches) (m : Bounds) (ls prefix later : List Lexeme) (t : Lexeme) (st : State)
+      (place : ℕ)
       → run m (l.start m) prefix ≡ Ok st → ls ≡ prefix ++ t ∷ later → length prefix ≡ place → step m st t ≡ Err Syntax →
       Exceeds G (bounds_without f m) IsAny ls place → ⊥
   no_excess_at_place f m ls prefix later t st place e whole size h s = go (step_syntax m st t h).1

@@ -36,7 +36,8 @@ pub record Inside (ls prefix : List Lexeme) (place begun : ℕ) (is_mark : Bool)
       × (begun ≡ start + offset))
 
 -- the machine without bounds stands after the prefix
-pub record PrefixFacts (ls prefix rest : List Lexeme) (st : State) (place begun : ℕ) (names : List (List ℕ)) : Type 0 where
+pub record PrefixFacts (ls prefix rest : List Lexeme) (st : State) (place begun : ℕ)
+    (names : List (List ℕ)) : Type 0 where
   pub whole : ls ≡ prefix ++ rest
   pub size : length prefix ≡ place
   pub taken : run unbounded (schema_start unbounded) prefix ≡ Ok st
@@ -309,7 +310,8 @@ module _ {ls prefix ts : List Lexeme} {st : State} {place begun : ℕ} {names : 
       (next_counts t g next h room)
 
   pub facts_further : (next : State) → step unbounded st t ≡ Ok next → Room (phase_of st) (is_result st) t names
-      → PrefixFacts ls (prefix ++ t ∷ []) ts next (place + 1) (if awaits_name st then place else begun) (names ++ named st t)
+      → PrefixFacts ls (prefix ++ t ∷ []) ts next (place + 1) (if awaits_name st then place else begun)
+      (names ++ named st t)
   facts_further next h room = record {
     whole = one_further ls prefix ts t g.whole;
     size = one_longer prefix t place g.size;
@@ -447,7 +449,8 @@ module _ {ls prefix ts : List Lexeme} {st : State} {place begun : ℕ} {names : 
 -- ---- after a result
 
 -- a declaration that is one too many begins only later
-pub after_result_far : (rest ls prefix : List Lexeme) (st : State) (place begun : ℕ) (names : List (List ℕ)) (q later : ℕ)
+pub after_result_far : (rest ls prefix : List Lexeme) (st : State) (place begun : ℕ) (names : List (List ℕ))
+    (q later : ℕ)
     → PrefixFacts ls prefix rest st place begun names → phase_of st ≡ after_result →
     Exceeds Declarations unbounded WithinCounts ls later → Declares ls q later → place < q
 after_result_far [] ls prefix st place begun names q later g ph s d =
@@ -496,7 +499,8 @@ after_result_far (t ∷ ts) ls prefix st place begun names q later g ph s d =
         after {s = tree} w (inl x) (inr y) = absurd (d.begins.last (place + 1) tree x y w)
 
     go : (o : Outcome) → step unbounded st t ≡ o → ((next : State) → step unbounded st t ≡ Ok next
-        → PrefixFacts ls (prefix ++ t ∷ []) ts next (place + 1) (if awaits_name st then place else begun) (names ++ named st t)
+        → PrefixFacts ls (prefix ++ t ∷ []) ts next (place + 1) (if awaits_name st then place else begun)
+        (names ++ named st t)
         → phase_of next ≡ after_result → place + 1 < q) → place < q
     go (Err why) h ih = absurd (none_stopped t g why later h s)
     go (Ok next) h ih = turns (after_result_turn (phase_of st) (phase_of next) (is_result st) (next_turn t g next h) ph)

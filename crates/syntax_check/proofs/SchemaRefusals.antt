@@ -395,7 +395,8 @@ past_right (t ∷ ts) ls prefix st place begun names why met g ph m =
         )
 
     named_or_not : (b : Bool) → is_result st ≡ b →
-        ((next : State) → step unbounded st t ≡ Ok next → PrefixFacts ls (prefix ++ t ∷ []) ts next (place + 1) begun_next
+        ((next : State) → step unbounded st t ≡ Ok next
+        → PrefixFacts ls (prefix ++ t ∷ []) ts next (place + 1) begun_next
         (names_with a t) → phase_of next ≡ before → Met ls why met (place + 1) begun_next
         → IsRight ls (go is_schema_end (onward a t unbounded (Some (why, met)) next) ts)) →
         IsRight ls (go is_schema_end a (t ∷ ts))

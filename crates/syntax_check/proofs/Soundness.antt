@@ -338,7 +338,8 @@ params_sound m {t} None k lv below ts w h = ends t h
     ends u h = elim h [ ]
 
 -- a declaration, and those after it
-declared : (m : Bounds) (exotic : Bool) {h : Lexeme} {x : Option (List ℕ)} {g : TagView} {s mid r : List Lexeme} {is : ItemList}
+declared : (m : Bounds) (exotic : Bool) {h : Lexeme} {x : Option (List ℕ)} {g : TagView} {s mid r : List Lexeme}
+    {is : ItemList}
     → Resulted m r → Heads h x → Tagged s g mid
     → Items m m.levels m.items mid is (sign Equal ∷ r)
     → (c : ConstructorView) × (r : List Lexeme) × (cs : SchemaView) × Declared m exotic (h ∷ s) c r

@@ -135,7 +135,8 @@ first_at_end ls st place e size h = record {
 }
 
 -- where a limit is met it is answered
-met_at_place : (prefix : List Lexeme) (st : State) (place begun : ℕ) (names : List (List ℕ)) (t : Lexeme) (ts : List Lexeme)
+met_at_place : (prefix : List Lexeme) (st : State) (place begun : ℕ) (names : List (List ℕ)) (t : Lexeme)
+    (ts : List Lexeme)
     (why : Cause) (o : Outcome) → run standard (word_start standard) prefix ≡ Ok st → step unbounded (free st) t ≡ o →
     go_on (freed (within_limits st place begun names) t why o) (λ next. go is_word_end next ts) ≡ Some (why, place)
 met_at_place prefix st place begun names t ts why (Ok next) e h =

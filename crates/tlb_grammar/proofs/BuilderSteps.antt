@@ -10,8 +10,7 @@ use Rattle.tlb_syntax.specs.declared.tree.Expr.TheVariants as exprs
 use Rattle.tlb_syntax.specs.declared.tree.FieldType.TheVariants as types
 use Rattle.tlb_syntax.specs.declared.tree.Item.{Item}
 use Rattle.tlb_syntax.specs.declared.tree.Item.TheVariants.{Implicit, Check}
-use Rattle.tlb_syntax.specs.declared.tree.Tag.{Tag}
-use Rattle.tlb_syntax.specs.declared.tree.Tag.TheVariants.{Computed, Given}
+use Rattle.tlb_syntax.specs.declared.tree.Tag.TheVariants.{Given}
 use Rattle.tlb_syntax.specs.declared.tree.Constructor.{Constructor}
 use Rattle.tlb_syntax.specs.Lexeme.{Lexeme, word, number, tag, sign}
 use Rattle.tlb_syntax.specs.Tree.{ExprView, TypeView}
@@ -90,7 +89,8 @@ paren_goes other_operand s under cs = refl
 
 pub left_goes : {sum : OpenSum} {e : Expr} {mode : ParserState} {c : Sign} {op : Op} → AfterOperand sum e mode
     → Compares c op → (s : List Lexeme) (done : List Item) (under : List Frame) (cs : List Constructor)
-    → run (at mode (frames.Left done ∷ under) cs) (sign c ∷ s) ≡ run (at (modes.Apply no_sum) (frames.Right done (closed sum e) op ∷ under) cs) s
+    → run (at mode (frames.Left done ∷ under) cs) (sign c ∷ s)
+    ≡ run (at (modes.Apply no_sum) (frames.Right done (closed sum e) op ∷ under) cs) s
 unfolding step_mode applied applied_sign operated operated_sign ends_sum compared comparison left_of
 left_goes named_operand equal s done under cs = refl
 left_goes named_operand less s done under cs = refl
@@ -105,21 +105,24 @@ left_goes other_operand greater_equal s done under cs = refl
 
 pub right_goes : {sum : OpenSum} {e : Expr} {mode : ParserState} → AfterOperand sum e mode
     → (s : List Lexeme) (done : List Item) (a : Expr) (op : Op) (under : List Frame) (cs : List Constructor)
-    → run (at mode (frames.Right done a op ∷ under) cs) (sign CloseBrace ∷ s) ≡ run (at (modes.Items (with_item done (Check a op (closed sum e)))) under cs) s
+    → run (at mode (frames.Right done a op ∷ under) cs) (sign CloseBrace ∷ s)
+    ≡ run (at (modes.Items (with_item done (Check a op (closed sum e)))) under cs) s
 unfolding step_mode applied applied_sign operated operated_sign ends_sum right_of
 right_goes named_operand s done a op under cs = refl
 right_goes other_operand s done a op under cs = refl
 
 pub question_goes : {done : List Item} {name : Option (List ℕ)} {e : Expr} {mode : ParserState}
     → AfterFirstTerm done name e mode → (s : List Lexeme) (under : List Frame) (cs : List Constructor)
-    → run (at mode under cs) (sign Question ∷ s) ≡ run (at modes.Term (frames.Guarded done name (guards.Number e) ∷ under) cs) s
+    → run (at mode under cs) (sign Question ∷ s)
+    ≡ run (at modes.Term (frames.Guarded done name (guards.Number e) ∷ under) cs) s
 unfolding step_mode typed named
 question_goes first_term s under cs = refl
 question_goes first_name s under cs = refl
 
 pub dot_goes : {done : List Item} {name : Option (List ℕ)} {e : Expr} {mode : ParserState}
     → AfterFirstTerm done name e mode → (k : ℕ) (s : List Lexeme) (under : List Frame) (cs : List Constructor)
-    → run (at mode under cs) (sign Dot ∷ number (Some k) ∷ sign Question ∷ s) ≡ run (at modes.Term (frames.Guarded done name (guards.Bit e k) ∷ under) cs) s
+    → run (at mode under cs) (sign Dot ∷ number (Some k) ∷ sign Question ∷ s)
+    ≡ run (at modes.Term (frames.Guarded done name (guards.Bit e k) ∷ under) cs) s
 unfolding step_mode typed named bit_of bit_end
 dot_goes first_term k s under cs = refl
 dot_goes first_name k s under cs = refl
@@ -151,7 +154,8 @@ head_goes after_name by_blank s under cs = refl
 
 pub bracket_goes : {done : List Item} {mode : ParserState} → BetweenItems done mode
     → (s : List Lexeme) (under : List Frame) (cs : List Constructor)
-    → run (at mode (frames.Record ∷ under) cs) (sign CloseBracket ∷ s) ≡ goes (builder.given (exprs.Group done) under cs) s
+    → run (at mode (frames.Record ∷ under) cs) (sign CloseBracket ∷ s)
+    ≡ goes (builder.given (exprs.Group done) under cs) s
 unfolding step_mode typed named items items_sign is_record
 bracket_goes after_items s under cs = refl
 bracket_goes after_field s under cs = refl
@@ -159,7 +163,8 @@ bracket_goes after_name s under cs = refl
 
 pub equal_goes : {done : List Item} {mode : ParserState} → BetweenItems done mode
     → (heading : Heading) (x : List ℕ) (s : List Lexeme) (under : List Frame) (cs : List Constructor)
-    → run (at mode (frames.Declaration heading ∷ under) cs) (sign Equal ∷ word x ∷ s) ≡ run (at (modes.Params (with_result heading done x)) under cs) s
+    → run (at mode (frames.Declaration heading ∷ under) cs) (sign Equal ∷ word x ∷ s)
+    ≡ run (at (modes.Params (with_result heading done x)) under cs) s
 unfolding step_mode typed named items items_sign heading_of result_of
 equal_goes after_items heading x s under cs = refl
 equal_goes after_field heading x s under cs = refl
@@ -297,7 +302,8 @@ pub operand_given : (e : Expr) (sum : OpenSum) (under : List Frame) (cs : List C
 unfolding given after_term
 operand_given e sum under cs = refl
 
-pub argument_given : (e : Expr) (sum : OpenSum) (x : List ℕ) (es : List Expr) (under : List Frame) (cs : List Constructor)
+pub argument_given : (e : Expr) (sum : OpenSum) (x : List ℕ) (es : List Expr) (under : List Frame)
+    (cs : List Constructor)
     → builder.given e (frames.Argument sum x es ∷ under) cs ≡ Some (at (modes.Applied sum x (es ++ e ∷ [])) under cs)
 unfolding given after_term
 argument_given e sum x es under cs = refl
@@ -312,8 +318,10 @@ pub field_given : (e : Expr) (done : List Item) (name : Option (List ℕ)) (unde
 unfolding given after_term
 field_given e done name under cs = refl
 
-pub guarded_given : (e : Expr) (done : List Item) (name : Option (List ℕ)) (g : Guard) (under : List Frame) (cs : List Constructor)
-    → builder.given e (frames.Guarded done name g ∷ under) cs ≡ Some (at (modes.Items (with_field done name (builder.guarded g e))) under cs)
+pub guarded_given : (e : Expr) (done : List Item) (name : Option (List ℕ)) (g : Guard) (under : List Frame)
+    (cs : List Constructor)
+    → builder.given e (frames.Guarded done name g ∷ under) cs ≡ Some
+    (at (modes.Items (with_field done name (builder.guarded g e))) under cs)
 unfolding given after_term
 guarded_given e done name g under cs = refl
 
@@ -379,12 +387,16 @@ width_goes by_up_to r sum under cs = refl
 -- ---- implicit fields and declarations
 
 pub numbers_goes : (x : List ℕ) (r : List Lexeme) (done : List Item) (under : List Frame) (cs : List Constructor)
-    → run (at (modes.Apply no_sum) (frames.Left done ∷ under) cs) (word x ∷ sign Colon ∷ sign Hash ∷ sign CloseBrace ∷ r) ≡ run (at (modes.Items (with_item done (Implicit x Nat))) under cs) r
+    → run (at (modes.Apply no_sum) (frames.Left done ∷ under) cs)
+    (word x ∷ sign Colon ∷ sign Hash ∷ sign CloseBrace ∷ r)
+    ≡ run (at (modes.Items (with_item done (Implicit x Nat))) under cs) r
 unfolding step_mode apply applied applied_sign left_of kind kind_end
 numbers_goes x r done under cs = refl
 
 pub types_goes : (x : List ℕ) (r : List Lexeme) (done : List Item) (under : List Frame) (cs : List Constructor)
-    → run (at (modes.Apply no_sum) (frames.Left done ∷ under) cs) (word x ∷ sign Colon ∷ word (codes "Type") ∷ sign CloseBrace ∷ r) ≡ run (at (modes.Items (with_item done (Implicit x Ty))) under cs) r
+    → run (at (modes.Apply no_sum) (frames.Left done ∷ under) cs)
+    (word x ∷ sign Colon ∷ word (codes "Type") ∷ sign CloseBrace ∷ r)
+    ≡ run (at (modes.Items (with_item done (Implicit x Ty))) under cs) r
 unfolding step_mode apply applied applied_sign left_of kind kind_end
 types_goes x r done under cs = refl
 
@@ -395,7 +407,8 @@ pub data Naming : Bool → ParserState → Type 0 where
 
 pub start_goes : {exotic : Bool} {mode : ParserState} {h : Lexeme} {name : Option (List ℕ)} → Naming exotic mode
     → Heads h name → (s : List Lexeme) (under : List Frame) (cs : List Constructor)
-    → run (at mode under cs) (h ∷ s) ≡ run (at (modes.Items []) (frames.Declaration (builder.untagged exotic name) ∷ under) cs) s
+    → run (at mode under cs) (h ∷ s)
+    ≡ run (at (modes.Items []) (frames.Declaration (builder.untagged exotic name) ∷ under) cs) s
 unfolding step_mode start head
 start_goes at_start by_name s under cs = refl
 start_goes at_start by_blank s under cs = refl
@@ -407,7 +420,8 @@ pub bang_goes : (s : List Lexeme) (under : List Frame) (cs : List Constructor)
 unfolding step_mode start
 bang_goes s under cs = refl
 
-pub tag_goes : (b : List ℕ) (s : List Lexeme) (exotic : Bool) (name : Option (List ℕ)) (under : List Frame) (cs : List Constructor)
+pub tag_goes : (b : List ℕ) (s : List Lexeme) (exotic : Bool) (name : Option (List ℕ)) (under : List Frame)
+    (cs : List Constructor)
     → run (at (modes.Items []) (frames.Declaration (builder.untagged exotic name) ∷ under) cs) (tag (Some b) ∷ s)
     ≡ run (at (modes.Items []) (frames.Declaration (record { exotic = exotic; name = name; tag = Given b }) ∷ under) cs) s
 unfolding step_mode items tag_after heading_of

@@ -84,12 +84,14 @@ record TypedBuilt (done : List Item) (name : Option (List ℕ)) (from : List Fra
   same : view.field_type value ≡ t
   reach : Reaches from s (BetweenItems (with_field done name value)) r
 
-record ItemBuilt (done : List Item) (mode : ParserState) (s : List Lexeme) (i : ItemView) (r : List Lexeme) : Type 0 where
+record ItemBuilt (done : List Item) (mode : ParserState) (s : List Lexeme) (i : ItemView)
+    (r : List Lexeme) : Type 0 where
   value : Item
   same : view.item value ≡ i
   reach : Reaches (mode_of mode) s (BetweenItems (with_item done value)) r
 
-record ItemsBuilt (done : List Item) (mode : ParserState) (s : List Lexeme) (is : ItemList) (r : List Lexeme) : Type 0 where
+record ItemsBuilt (done : List Item) (mode : ParserState) (s : List Lexeme) (is : ItemList)
+    (r : List Lexeme) : Type 0 where
   values : List Item
   same : view.items values ≡ is
   reach : Reaches (mode_of mode) s (BetweenItems (done ++ values)) r
@@ -416,7 +418,8 @@ record DeclarationBuilt (mode : ParserState) (s : List Lexeme) (c : ConstructorV
   same : view.constructor value ≡ c
   runs : (cs : List Constructor) → run (at mode [] cs) s ≡ run (at modes.Start [] (cs ++ value ∷ [])) r
 
-declared_built : {m : Bounds} {exotic : Bool} {mode : ParserState} {s : List Lexeme} {c : ConstructorView} {r : List Lexeme} → Naming exotic mode → Declared m exotic s c r → DeclarationBuilt mode s c r
+declared_built : {m : Bounds} {exotic : Bool} {mode : ParserState} {s : List Lexeme} {c : ConstructorView}
+    {r : List Lexeme} → Naming exotic mode → Declared m exotic s c r → DeclarationBuilt mode s c r
 declared_built {exotic = exotic} n (a_declaration {s = s} {after_items = rest} {r = r} {x = x} {y = y} h t is ps) =
     let mark = tag_built t in
     let items = items_built is [] (modes.Items []) after_items in

@@ -1,5 +1,5 @@
 -- From the layers below to what a text writes, or is refused for.
-use Rattle.std.proofs.Common.{◌≡◌, ◌≢◌, ◌⊎◌, inl, inr, ◌∙◌, ap, sym, subst, ℕ, zero, suc, List, [], ◌∷◌, length, Option, Some, None, Result, Ok, Err, refl, ◌<◌, ◌≤◌, get_or, arith}
+use Rattle.std.proofs.Common.{◌≡◌, ◌⊎◌, inl, inr, ◌∙◌, ap, sym, subst, ℕ, zero, suc, List, [], ◌∷◌, length, Result, Ok, Err, refl, ◌<◌, ◌≤◌, get_or, arith}
 use Rattle.std.specs.Prelude.{⊤}
 use Rattle.syntax_check.specs.declared.machine.Cause.{Cause as Checked}
 use Rattle.syntax_check.specs.declared.machine.Cause.TheVariants as checked

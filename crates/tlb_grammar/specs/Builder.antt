@@ -19,7 +19,6 @@ use Rattle.tlb_syntax.specs.declared.tree.FieldType.{FieldType}
 use Rattle.tlb_syntax.specs.declared.tree.FieldType.TheVariants as types
 use Rattle.tlb_syntax.specs.declared.tree.Item.{Item}
 use Rattle.tlb_syntax.specs.declared.tree.Item.TheVariants.{Implicit, Check, Explicit}
-use Rattle.tlb_syntax.specs.declared.tree.Tag.{Tag}
 use Rattle.tlb_syntax.specs.declared.tree.Tag.TheVariants.{Computed, Given}
 use Rattle.tlb_syntax.specs.declared.tree.Constructor.{Constructor}
 use Rattle.tlb_syntax.specs.Lexeme.{Lexeme, word, blank, number, tag, sign, other}

@@ -99,7 +99,8 @@ abbrev four_bits : ℕ → List ℕ
 four_bits v = v / 8 ∷ (v / 4) % 2 ∷ (v / 2) % 2 ∷ v % 2 ∷ []
 
 before-zeros : (v : ℕ) (zs : List ℕ) → without_completion zs ≡ None
-    → without_completion (four_bits v ++ zs) ≡ before_completion (v / 8) (before_completion ((v / 4) % 2) (before_completion ((v / 2) % 2) (before_completion (v % 2) None)))
+    → without_completion (four_bits v ++ zs) ≡ before_completion (v / 8)
+    (before_completion ((v / 4) % 2) (before_completion ((v / 2) % 2) (before_completion (v % 2) None)))
 before-zeros v zs n = ap (λ o. before_completion (v / 8) (before_completion ((v / 4) % 2) (before_completion ((v / 2) % 2) (before_completion (v % 2) o)))) n
 
 -- a digit other than 0, before bits that are all 0
@@ -144,7 +145,8 @@ split-at : (ds : List ℕ) (i : ℕ) → i < length ds → ds ≡ take i ds ++ (
 split-at ds i h = sym (take-append-drop i ds) ∙ at_drop_more (λ x. take i ds ++ x) ds i 0 h
 
 hex_bits-split : (ds : List ℕ) (i : ℕ) → i < length ds
-    → flat_map hex_bits ds ≡ flat_map hex_bits (take i ds) ++ (hex_bits (get_or ds i 0) ++ flat_map hex_bits (drop (i + 1) ds))
+    → flat_map hex_bits ds ≡ flat_map hex_bits (take i ds) ++
+    (hex_bits (get_or ds i 0) ++ flat_map hex_bits (drop (i + 1) ds))
 hex_bits-split ds i h = ap (flat_map hex_bits) (split-at ds i h) ∙ flat_map-append hex_bits (take i ds) (get_or ds i 0 ∷ drop (i + 1) ds)
 
 -- the first bits are those of whole digits and of a part of the next one
@@ -158,7 +160,8 @@ take-hex_bits ds i m h short =
     ∙ take-append-add prefix later m ∙ ap (λ x. prefix ++ x) (take-append-le m (hex_bits (get_or ds i 0)) (flat_map hex_bits (drop (i + 1) ds)) short)
 
 pub completion : (ds : List ℕ) (i : ℕ) → IsLastNonzero ds i → list_all is_hex_digit ds ≡ true
-    → without_completion (flat_map hex_bits ds) ≡ Some (take (4 * i + 3 - count_trailing_zeros 8 (hex_value (get_or ds i 0))) (flat_map hex_bits ds))
+    → without_completion (flat_map hex_bits ds) ≡ Some
+    (take (4 * i + 3 - count_trailing_zeros 8 (hex_value (get_or ds i 0))) (flat_map hex_bits ds))
 completion ds i l all =
     let d = get_or ds i 0 in
     let digit = AllPass-from_list_all is_hex_digit ds all i 0 l.within in

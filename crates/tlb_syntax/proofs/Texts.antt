@@ -70,7 +70,8 @@ plus-text : (t u : ExprView) → codes "(" ++ expr_text t ++ addend_text u ≡ e
 plus-text t u = simp append_assoc refl
 
 -- the first term after the parentheses, and then each further one
-pub sum-written : {E : Type 0} (r : Result (Unit {0}) E) (old opened paren first second whole : List ℕ) (t u : Expr) (ts : List Expr)
+pub sum-written : {E : Type 0} (r : Result (Unit {0}) E) (old opened paren first second whole : List ℕ) (t u : Expr)
+    (ts : List Expr)
     → opened ≡ old ++ replicate (length ts) 40 → paren ≡ opened ++ codes "(" → first ≡ paren ++ expr_text (expr t)
     → second ≡ first ++ addend_text (expr u) → OnOk r (whole ≡ second ++ addends_text (map expr ts))
     → OnOk r (whole ≡ old ++ expr_text (sum_of (expr t) (expr u) (map expr ts)))
