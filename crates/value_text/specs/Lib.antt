@@ -2,5 +2,9 @@ pub mod Tokens
 pub mod Text
 pub mod TextLaws
 pub mod Writes
+pub mod BitsTextLaws
 pub mod PathText
+pub mod PathPoints
+pub mod PathAnswer
+pub mod PathLaws
 pub mod WritesLaws

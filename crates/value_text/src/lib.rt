@@ -2,7 +2,11 @@
 #![tactic(auto)]
 
 mod cells;
+pub mod laws;
 mod marks;
+mod path;
+mod point;
 mod printer;
 
+pub use path::{PathError, parse_path};
 pub use printer::print;
