@@ -1,0 +1,5 @@
+pub mod Kinded
+pub mod CleanLaws
+pub mod CoverLaws
+pub mod NumberLaws
+pub mod TypeLaws
