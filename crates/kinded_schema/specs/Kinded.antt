@@ -8,18 +8,21 @@ use Rattle.tlb_syntax.specs.Tree.{when_bit, implicit, check, explicit, no_items,
 use Rattle.kind_terms.specs.Words.{Word, is_among}
 use Rattle.kind_terms.specs.declared.kind.TermKind.{TermKind}
 use Rattle.kind_terms.specs.declared.kind.TermKind.TheVariants.{NumberIn, TypeIn, NumberOut, NoKind}
-use Rattle.kind_terms.specs.Params.{bare_name, has_outputs}
+use Rattle.kind_terms.specs.Params.{bare_name, has_kind, has_outputs, inputs, is_same_kind, kind_of, kinds, variable_of}
 use Rattle.kind_terms.specs.Types.{TypeNamed, no_type, basic, declared, has_exprs}
 use Rattle.kind_terms.specs.Forms.{out_name}
 use Rattle.kind_terms.specs.Closed.{closed}
 use Rattle.kind_terms.specs.Sought.{sought}
 use Rattle.kind_terms.specs.Scopes.{Scope, given_out, after, at_end, inside, in_scope, is_number_variable, is_type_variable}
-use Rattle.kind_terms.specs.Scopes.{is_known, is_own_unknown}
+use Rattle.kind_terms.specs.Scopes.{is_known, is_own_unknown, made_known}
 use Rattle.kind_rules.specs.declared.expected.TypePosition.{TypePosition}
 use Rattle.kind_rules.specs.declared.expected.TypePosition.TheVariants.{Whole, Conditional, Inner}
 use Rattle.kind_rules.specs.ExpectedKinds.{as_type, under}
 use Rattle.kind_rules.specs.Records.{takes_no_record}
-use Rattle.kind_declarations.specs.Nodes.{first}
+use Rattle.kind_declarations.specs.Headings.{Heading, fixed, is_constructor_twice, is_reserved, is_variable_among}
+use Rattle.kind_declarations.specs.Nodes.{first, joined}
+use Rattle.tlb_guard.specs.Cycles.{first_unguarded}
+use Rattle.tlb_kinds.specs.Spots.{heading}
 
 -- ---- numbers
 
@@ -149,7 +152,91 @@ AreOutputs (an_expr (star a b) es) s = AreOutputs es s
 AreOutputs (an_expr (ref e) es) s = AreOutputs es s
 AreOutputs (an_expr (group is) es) s = AreOutputs es s
 
+-- ---- implicit fields
+
+-- each implicit field of a record is one of these variables, and each of a record in it is known by its own items
+abbrev mutual
+  pub AreKnown : ItemList → SchemaView → List Word → Type 0
+  AreKnown no_items types known = Unit {0}
+  AreKnown (an_item i is) types known = IsItemKnown i types known × AreKnown is types known
+
+  pub IsItemKnown : ItemView → SchemaView → List Word → Type 0
+  IsItemKnown (implicit x k) types known = is_among known x ≡ true
+  IsItemKnown (check a op b) types known = Unit {0}
+  IsItemKnown (explicit x t) types known = IsFieldKnown t types
+
+  pub IsFieldKnown : TypeView → SchemaView → Type 0
+  IsFieldKnown (plain e) types = IsExprKnown e types
+  IsFieldKnown (when c e) types = IsExprKnown c types × IsExprKnown e types
+  IsFieldKnown (when_bit c k e) types = IsExprKnown c types × IsExprKnown e types
+
+  -- of the records in an expression
+  pub IsExprKnown : ExprView → SchemaView → Type 0
+  IsExprKnown (lit n) types = Unit {0}
+  IsExprKnown (named x es) types = AreExprsKnown es types
+  IsExprKnown nat32 types = Unit {0}
+  IsExprKnown (bits es) types = AreExprsKnown es types
+  IsExprKnown (below es) types = AreExprsKnown es types
+  IsExprKnown (up_to es) types = AreExprsKnown es types
+  IsExprKnown (plus a b) types = IsExprKnown a types × IsExprKnown b types
+  IsExprKnown (star a b) types = IsExprKnown a types × IsExprKnown b types
+  IsExprKnown (out e) types = IsExprKnown e types
+  IsExprKnown (ref e) types = IsExprKnown e types
+  IsExprKnown (group is) types = AreKnown is types (made_known types [] is)
+
+  pub AreExprsKnown : ExprList → SchemaView → Type 0
+  AreExprsKnown no_exprs types = Unit {0}
+  AreExprsKnown (an_expr e es) types = IsExprKnown e types × AreExprsKnown es types
+
+-- ---- declarations
+
 -- the contents of a declaration, by the declarations of types
 pub record IsContent (types : SchemaView) (c : ConstructorView) : Type 0 where
   pub items : AreItems c.items (first types c).scope
   pub outputs : AreOutputs c.params (at_end (first types c).scope c.items)
+  pub known : AreKnown c.items types (made_known types (inputs c.params) c.items)
+
+-- each parameter is an output, an input number or an input type
+abbrev pub HaveKinds : ItemList → ExprList → Type 0
+HaveKinds is no_exprs = Unit {0}
+HaveKinds is (an_expr e es) = (has_kind (kind_of is e) ≡ true) × HaveKinds is es
+
+-- the same kinds, place by place
+abbrev pub AreSameKinds : List TermKind → List TermKind → Type 0
+AreSameKinds [] [] = Unit {0}
+AreSameKinds [] (j ∷ js) = ⊥
+AreSameKinds (k ∷ ks) [] = ⊥
+AreSameKinds (k ∷ ks) (j ∷ js) = (is_same_kind k j ≡ true) × AreSameKinds ks js
+
+-- where an earlier declaration of the type fixes the kinds of its parameters
+abbrev pub Agree : Option (List TermKind) → List TermKind → Type 0
+Agree None js = Unit {0}
+Agree (Some ks) js = AreSameKinds ks js
+
+-- the variables of inputs after these are none of them, and none is that of two
+abbrev pub AreOnce : ExprList → ExprList → Type 0
+AreOnce before no_exprs = Unit {0}
+AreOnce before (an_expr e es) =
+    (is_variable_among (variable_of e) (inputs before) ≡ false) × AreOnce (joined before e) es
+
+-- the names and the result of a declaration, after those of its type before it
+pub record IsHeading (r : Heading) : Type 0 where
+  pub free : is_reserved r ≡ false
+  pub new : is_constructor_twice r ≡ false
+  pub parameters : HaveKinds r.this.items r.this.params
+  pub agree : Agree (fixed r) (kinds r.this)
+  pub once : AreOnce no_exprs r.this.params
+
+pub record IsDeclaration (types before : SchemaView) (c : ConstructorView) : Type 0 where
+  pub heading : IsHeading (heading before c)
+  pub content : IsContent types c
+
+-- each declaration after those before it
+abbrev pub AreDeclarations : SchemaView → SchemaView → SchemaView → Type 0
+AreDeclarations types before [] = Unit {0}
+AreDeclarations types before (c ∷ cs) = IsDeclaration types before c × AreDeclarations types (before ++ c ∷ []) cs
+
+-- each declaration is in order, and no type leads back to itself before anything is taken
+pub record IsInOrder (s : SchemaView) : Type 0 where
+  pub declarations : AreDeclarations s [] s
+  pub guarded : first_unguarded s ≡ None
