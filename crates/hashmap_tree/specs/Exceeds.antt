@@ -2,6 +2,7 @@
 -- each edge the left part, the right part, and then the edge itself, its label before its references.
 use Rattle.std.specs.Prelude.{◌≡◌, ◌≢◌, ◌⊎◌, ℕ, suc, ◌+◌, ◌<◌, ◌≤◌, List, [], ◌∷◌, ◌++◌, length}
 use Rattle.bit_slice.specs.Bits.{bit_length}
+use Rattle.cell_nodes.specs.BytesLaws.{AreBytes}
 use Rattle.cell_nodes.specs.Good.{IsGood, AllGood}
 use Rattle.cell_nodes.specs.HeldLaws.{AreBelow}
 use Rattle.cell_nodes.specs.Tree.{deepest}
@@ -30,6 +31,12 @@ label_size n bits = size (required_form n bits) (bit_length n) (length bits)
 abbrev pub first_key : Entries → List ℕ
 first_key [] = []
 first_key (e ∷ es) = e.0
+
+-- a hash of 32 bytes and a depth that a cell may have
+pub record CanHide (h : Hidden) : Type 0 where
+  pub whole : length h.hash ≡ 32
+  pub bytes : AreBytes h.hash
+  pub low : h.depth ≤ 1024
 
 -- the cell of the part below a fork was built
 abbrev pub IsBuilt : ℕ → Entries → Tree → Type 0

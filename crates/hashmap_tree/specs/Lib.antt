@@ -4,6 +4,7 @@ pub mod CompleteLaws
 pub mod Dict
 pub mod Entries
 pub mod Exceeds
+pub mod ExceedsLaws
 pub mod First
 pub mod FirstLaws
 pub mod Halts
@@ -14,9 +15,12 @@ pub mod Merged
 pub mod OnceLaws
 pub mod Order
 pub mod OrderLaws
+pub mod OrderedLaws
 pub mod OutcomeLaws
 pub mod Placed
+pub mod PlacedLaws
 pub mod Plants
+pub mod PrunedLaws
 pub mod RefusedLaws
 pub mod SoundLaws
 pub mod StandsLaws

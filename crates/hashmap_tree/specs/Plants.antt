@@ -52,6 +52,11 @@ abbrev pub zeros_before : ℕ → Entries → ℕ
 zeros_before place [] = 0
 zeros_before place (e ∷ es) = if is_one (bit_value place e.0) then 0 else suc (zeros_before place es)
 
+-- a hidden part stands at a prefix of so many bits
+abbrev pub HidesAt : ℕ → List ℕ → Part → Option Hidden → Type 0
+HidesAt start k x (Some h) = (x ≡ hidden h) × (length k ≡ start)
+HidesAt start k x None = (h : Hidden) → x ≡ hidden h → length k ≡ start → ⊥
+
 -- the first entry is a hidden part whose prefix has so many bits
 abbrev pub Hides : ℕ → Entries → Option Hidden → Type 0
 Hides start es (Some h) = (k : List ℕ) × (fs : Entries) × (es ≡ (k, hidden h) ∷ fs) × (length k ≡ start)
@@ -92,10 +97,13 @@ BuildsBranch p n es (Err errors.TooDeep) = ExceedsBranch n es deep
 BuildsBranch p n es (Err errors.NoMemory) = Unit {0}
 
 abbrev pub BuildsEdge : ℕ → ℕ → Entries → Result Held PlantError → Type 0
-BuildsEdge start n all r = (p : List ℕ) (es : Entries) → AreBelowBits start n all p es → Builds p n es r
+BuildsEdge start n all r =
+    (p : List ℕ) (es : Entries) → AreBelowBits start n all p es → AllPlaced es → Builds p n es r
 
 abbrev pub BuildsPart : ℕ → ℕ → Entries → Result Tree PlantError → Type 0
-BuildsPart start n all r = (p : List ℕ) (es : Entries) → AreBelowBits start n all p es → BuildsBranch p n es r
+BuildsPart start n all r =
+    (p : List ℕ) (es : Entries) → AreBelowBits start n all p es → IsHiddenAlone es ⊎ AllPlaced es
+    → BuildsBranch p n es r
 
 -- ---- parts of an edge
 

@@ -1,5 +1,6 @@
 //! Contents by key and hidden parts by prefix, as one list in the order of bits.
-ghost use Rattle.std.specs.Prelude.{◌≡◌, ◌≤◌, ◌++◌, ◌∷◌, [], IsTrue, ◌↔◌, length, take, map, IfOk};
+ghost use Rattle.std.specs.Prelude.{◌≡◌, ◌≤◌, ◌++◌, ◌∷◌, [], IsTrue, ◌↔◌, length, take, map, IfOk, OnOk};
+ghost use Rattle.bit_slice.specs.Bits.{AreBits};
 ghost use Rattle.hashmap_tree.specs.Keys.{Shares, MayFollow};
 ghost use Rattle.hashmap_tree.specs.Merged as plain;
 ghost use Rattle.hashmap_tree.specs.Order.{AreInOrder, MayStand};
@@ -44,7 +45,13 @@ pub(crate) fn is_before(a: &BitSlice<'_>, b: &BitSlice<'_>) -> bool
     ensures { result ≡ plain.is_before a.now b.now }
 {
     let place = shared(a, b, 0);
-    place < a.len() && place < b.len() && !a.known_bit(place)
+    if place >= a.len() {
+        return false;
+    }
+    if place >= b.len() {
+        return false;
+    }
+    !a.known_bit(place)
 }
 
 /// Adds the hidden parts before the key, and gives the rest.
@@ -53,7 +60,7 @@ fn add_before<'a>(
     unknown: &'a [(BitString, Hidden)],
     key: &BitSlice<'_>,
 ) -> Result<&'a [(BitString, Hidden)], AllocError>
-    ensures added { IfOk result (λ rest. entries_of entries.new.items
+    ensures added { OnOk result (entries_of entries.new.items
         ≡ entries_of entries.old.items ++ plain.hidden_parts (plain.those_before key.now unknown.now)) }
     ensures rest { IfOk result (λ rest. rest.now ≡ plain.those_after key.now unknown.now) }
 {
@@ -72,13 +79,27 @@ fn add_hidden<'a>(
     entries: &mut Vec<Entry<'a>>,
     part: &'a (BitString, Hidden),
 ) -> Result<(), AllocError>
-    ensures { IfOk result (λ u. entries_of entries.new.items
+    ensures { OnOk result (entries_of entries.new.items
         ≡ entries_of entries.old.items ++ plain.hidden_parts (part.now ∷ [])) }
 {
     entries.push(Entry {
         key: part.0.slice(),
         part: Part::Hidden(part.1),
     })?;
+    Ok(())
+}
+
+/// Adds hidden parts.
+fn add_all<'a>(
+    entries: &mut Vec<Entry<'a>>,
+    parts: &'a [(BitString, Hidden)],
+) -> Result<(), AllocError>
+    ensures { OnOk result (entries_of entries.new.items
+        ≡ entries_of entries.old.items ++ plain.hidden_parts parts.now) }
+{
+    'parts: for part in parts {
+        add_hidden(entries, part)?;
+    }
     Ok(())
 }
 
@@ -100,15 +121,14 @@ pub(crate) fn merged<'a>(
             part: Part::Leaf(&leaf.1),
         })?;
     }
-    'parts: for part in rest {
-        add_hidden(&mut entries, part)?;
-    }
+    add_all(&mut entries, rest)?;
     Ok(entries)
 }
 
 /// Whether the part may stand at its key.
 fn may_stand(entry: &Entry<'_>, n: u32) -> bool
-    ensures { IsTrue result ↔ MayStand n entry.now.key (part_of entry.now.part) }
+    ensures stands { IsTrue result ↔ MayStand n entry.now.key (part_of entry.now.part) }
+    ensures bits { AreBits entry.now.key }
 {
     match entry.part {
         Part::Leaf(_) => entry.key.len() == n,

@@ -26,14 +26,16 @@ fn is_fork_child(before: &[Entry<'_>], key: &BitSlice<'_>, after: &[Entry<'_>]) 
     if len == 0 {
         return false;
     }
-    let neighbor = if key.known_bit(len - 1) {
-        before.last()
+    if key.known_bit(len - 1) {
+        match before.split_last() {
+            None => false,
+            Some((entry, _)) => begin_together(&entry.key, key, len - 1),
+        }
     } else {
-        after.first()
-    };
-    match neighbor {
-        None => false,
-        Some(entry) => begin_together(key, &entry.key, len - 1),
+        match after.split_first() {
+            None => false,
+            Some((entry, _)) => begin_together(key, &entry.key, len - 1),
+        }
     }
 }
 

@@ -1,10 +1,10 @@
 //! Builds the tree of a dictionary from its entries.
-ghost use Rattle.std.specs.Prelude.{◌≡◌, ◌≤◌, ◌<◌, ◌+◌, ◌++◌, ℕ, IsTrue, ◌↔◌, length, take, drop, map, IfOk, OnOk};
+ghost use Rattle.std.specs.Prelude.{◌≡◌, ◌≤◌, ◌<◌, ◌+◌, ◌++◌, ◌∷◌, [], IsTrue, ◌↔◌, length, take, drop, map, IfOk, OnOk};
 ghost use Rattle.cell_nodes.specs.HeldLaws.{AreBelow};
-ghost use Rattle.cell_nodes.specs.Good.{IsGood};
+ghost use Rattle.cell_nodes.specs.Tree.{deepest};
 ghost use Rattle.hashmap_tree.specs.Merged.{merged as merge};
 ghost use Rattle.hashmap_tree.specs.Order.{AreInOrder};
-ghost use Rattle.hashmap_tree.specs.Plants.{BuildsEdge, BuildsFork, BuildsLeaf, BuildsPart, Hides, IsFullAt, IsReady, IsReadyBelow, Plants, IsFormAt, Labeled, OutOfMemory, Prunes, entries_of, is_one, leaf_of, zeros_before};
+ghost use Rattle.hashmap_tree.specs.Plants.{BuildsEdge, BuildsFork, BuildsLeaf, BuildsPart, Hides, HidesAt, IsFormAt, IsFullAt, IsReady, IsReadyBelow, Labeled, OutOfMemory, Plants, Prunes, entries_of, is_one, leaf_of, part_of, zeros_before};
 ghost use Rattle.bit_slice.specs.Bits.{bit_value};
 
 use crate::entries::{Entry, Part, in_order, merged, shared};
@@ -57,6 +57,16 @@ fn labeled(
     }
 }
 
+/// Adds a reference, for which there is room.
+fn push_child(cell: &mut CellBuilder, child: Cell)
+    requires room { length cell.old.refs < 4 }
+    requires below { deepest child < 1024 }
+    ensures bits { cell.new.bits ≡ cell.old.bits }
+    ensures refs { cell.new.refs ≡ cell.old.refs ++ child ∷ [] }
+{
+    let _ = cell.push_ref(child);
+}
+
 /// Adds the references, for which there is room.
 fn push_refs(cell: &mut CellBuilder, refs: RefSlice<'_>) -> Result<(), PlantError>
     requires room { length cell.old.refs + length refs ≤ 4 }
@@ -69,7 +79,7 @@ fn push_refs(cell: &mut CellBuilder, refs: RefSlice<'_>) -> Result<(), PlantErro
         let Ok(child) = child.share() else {
             return Err(PlantError::NoMemory);
         };
-        let _ = cell.push_ref(child);
+        push_child(cell, child);
         rest = more;
     }
     Ok(())
@@ -160,23 +170,37 @@ fn zeros(entries: &[Entry<'_>], place: u32) -> usize
     entries.len()
 }
 
+/// The hidden part at a prefix of as many bits, where one stands there.
+fn hidden_of(entry: &Entry<'_>, start: u32) -> Option<Hidden>
+    ensures { HidesAt start entry.now.key (part_of entry.now.part) result }
+{
+    match entry.part {
+        Part::Leaf(_) => None,
+        Part::Hidden(hidden) => {
+            if entry.key.len() == start {
+                Some(hidden)
+            } else {
+                None
+            }
+        }
+    }
+}
+
 /// The hidden part whose prefix ends at `start`, where it is the first entry.
 fn hidden_at(entries: &[Entry<'_>], start: u32) -> Option<Hidden>
     ensures { Hides start (entries_of entries.now) result }
 {
-    let entry = entries.first()?;
-    match entry.part {
-        Part::Leaf(_) => None,
-        Part::Hidden(hidden) if entry.key.len() == start => Some(hidden),
-        Part::Hidden(_) => None,
+    match entries.split_first() {
+        None => None,
+        Some((entry, _)) => hidden_of(entry, start),
     }
 }
 
 /// The pruned branch of a hidden part.
-fn pruned(alloc: Global, hidden: Hidden) -> Result<Cell, PlantError>
-    ensures { Prunes hidden result }
+fn pruned(alloc: Global, hash: &[u8; 32], depth: u16) -> Result<Cell, PlantError>
+    ensures { Prunes (record { hash = hash.now; depth = depth }) result }
 {
-    match Cell::pruned(alloc, &hidden.hash, hidden.depth) {
+    match Cell::pruned(alloc, hash, depth) {
         Ok(cell) => {
             cell.good();
             Ok(cell)
@@ -219,7 +243,7 @@ fn branch(alloc: Global, entries: &[Entry<'_>], start: u32, n: u32) -> Result<Ce
     ensures { BuildsPart start n (entries_of entries.now) result }
 {
     if let Some(hidden) = hidden_at(entries, start) {
-        return pruned(alloc, hidden);
+        return pruned(alloc, &hidden.hash, hidden.depth);
     }
     let content = edge(alloc, entries, start, n)?;
     match content.finish(alloc) {
