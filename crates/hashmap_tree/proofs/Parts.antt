@@ -28,7 +28,7 @@ form-before Same k l s rest e = (
   e.0,
   e.1,
   ap (λ (t : List ℕ). t ++ rest) e.2
-  ∙ ap (λ (t : List ℕ). 1 ∷ (1 ∷ (bit_number e.0 ∷ (t ++ rest)))) (append-nil (spelled k (length l))),
+      ∙ ap (λ (t : List ℕ). 1 ∷ (1 ∷ (bit_number e.0 ∷ (t ++ rest)))) (append-nil (spelled k (length l))),
 )
 
 -- a label before whatever follows it

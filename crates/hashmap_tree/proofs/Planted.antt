@@ -15,10 +15,11 @@ use Rattle.hashmap_tree.specs.Entries.{Slice, cell_of, Part, leaf, hidden, Entri
 use Rattle.hashmap_tree.specs.Exceeds.{full, deep, label_size, first_key, Exceeds, leaf_full, in_zeros, in_ones, fork_full, fork_deep, ExceedsBranch, in_edge, hidden_deep}
 use Rattle.hashmap_tree.specs.Keys.{Shares}
 use Rattle.hashmap_tree.specs.Order.{Before, MayStand, AreInOrder}
+use Rattle.hashmap_tree.specs.OrderLaws.{under-nil}
 use Rattle.hashmap_tree.specs.OrderedLaws.{prefix-not_before, before-prefix, before-before, order-stand, order-rest, last_of, last_key, first-under, last-under, length-under, under-fork, Forks, fork-at, IsEnd}
-use Rattle.hashmap_tree.specs.Placed.{AllPlaced}
+use Rattle.hashmap_tree.specs.Placed.{AllPlaced, IsFirstMisplaced}
 use Rattle.hashmap_tree.specs.PlacedLaws.{HasPlaces, fork-places, alone-misplaced}
-use Rattle.hashmap_tree.specs.Plants.{AreBelowBits, Builds, BuildsBranch, BuildsLeaf, BuildsFork, Prunes, Hides, HidesAt, entries_of, entry_of, part_of, held_of, is_one, zeros_before}
+use Rattle.hashmap_tree.specs.Plants.{Plants, IsFormAt, AreBelowBits, Builds, BuildsBranch, BuildsLeaf, BuildsFork, Prunes, Hides, HidesAt, entries_of, entry_of, part_of, held_of, is_one, zeros_before}
 use Rattle.hashmap_tree.specs.declared.entries.Entry.{Entry}
 use Rattle.hashmap_tree.specs.declared.planting.PlantError.{PlantError}
 use Rattle.hashmap_tree.specs.declared.planting.PlantError.TheVariants as errors
@@ -189,7 +190,7 @@ never-alone start n p es label fk h a all =
 parted : (p a b : List ℕ) (start r : ℕ) → length p ≡ start → start ≤ r → Shares (p ++ a) (p ++ b) r
     → r < length (p ++ a) → r < length (p ++ b)
     → (x : ℕ) × (y : ℕ) × (u : List ℕ) × (v : List ℕ) × (a ≡ drop start (take r (p ++ a)) ++ x ∷ u)
-      × (b ≡ drop start (take r (p ++ a)) ++ y ∷ v) × (x ≢ y) × (length (drop start (take r (p ++ a))) + start ≡ r)
+    × (b ≡ drop start (take r (p ++ a)) ++ y ∷ v) × (x ≢ y) × (length (drop start (take r (p ++ a))) + start ≡ r)
 parted p a b start r l le s la lb =
     let d = r - start in
     let w : start + d ≡ r = omega (arith, le) in
@@ -432,3 +433,21 @@ hides-first start E F f None e a = λ h k fs g l.
     first_part : Part → Entries → Part
     first_part d [] = d
     first_part d (x ∷ xs) = x.1
+
+-- ---- the call
+
+pub whole : (n : ℕ) (all : Entries) → AreInOrder n all → 0 < length all → AreBelowBits 0 n all [] all
+whole n all o l = record { below = sym (under-nil all); long = refl; order = o; some = l }
+
+pub form-plants : (n : ℕ) (all : Entries) (q : List ℕ) (e : PlantError) → IsFirstMisplaced q all → IsFormAt q e
+    → Plants n all (Err e)
+form-plants n all q (errors.Form k) m h = let P : List ℕ → Type 0 = λ a. IsFirstMisplaced a all in subst P (sym h) m
+form-plants n all q errors.NoMemory m h = tt
+form-plants n all q (errors.Full k) m h = absurd h
+form-plants n all q errors.TooDeep m h = absurd h
+
+pub plants : (n : ℕ) (all : Entries) (e : PlantError) → AllPlaced all → Builds [] n all (Err e) → Plants n all (Err e)
+plants n all (errors.Form q) a h = absurd h
+plants n all (errors.Full q) a h = let P : List ℕ → Type 0 = λ k. Exceeds n all (full k) in (a, subst P (sym h.1) h.2)
+plants n all errors.TooDeep a h = (a, h)
+plants n all errors.NoMemory a h = tt

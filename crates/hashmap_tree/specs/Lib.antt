@@ -9,9 +9,11 @@ pub mod First
 pub mod FirstLaws
 pub mod Halts
 pub mod HiddenLaws
+pub mod KeyLaws
 pub mod Keys
 pub mod Laws
 pub mod Merged
+pub mod MergedLaws
 pub mod OnceLaws
 pub mod Order
 pub mod OrderLaws

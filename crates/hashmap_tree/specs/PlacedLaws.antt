@@ -198,7 +198,7 @@ last-bit (x ∷ p) b c k e = inr (p, ap (λ (y : ℕ). y ∷ p) (sym (head e)), 
     head e = cc
 
 -- keys of both kinds after the same bits
-apart : (p k j : List ℕ) (b c : ℕ) → b ≢ c → p ++ b ∷ [] ++ k ≡ p ++ c ∷ [] ++ j → ⊥
+pub apart : (p k j : List ℕ) (b c : ℕ) → b ≢ c → p ++ b ∷ [] ++ k ≡ p ++ c ∷ [] ++ j → ⊥
 apart p k j b c ne e = ne (head (cancel p (b ∷ k) (c ∷ j) (sym (append_assoc p (b ∷ []) k) ∙ e ∙ append_assoc p (c ∷ []) j)))
   where
     head : b ∷ k ≡ c ∷ j → b ≡ c

@@ -13,7 +13,7 @@ use Rattle.hashmap_tree.specs.Dict.{unseen, DictTree, Branch}
 use Rattle.hashmap_tree.specs.Entries.{Slice, Part, leaf, hidden, Entries, under}
 use Rattle.hashmap_tree.specs.Exceeds.{full, deep, label_size, Exceeds, ExceedsBranch, IsWithin}
 use Rattle.hashmap_tree.specs.Order.{AreInOrder}
-use Rattle.hashmap_tree.specs.Placed.{AllPlaced, IsFirstMisplaced}
+use Rattle.hashmap_tree.specs.Placed.{AllPlaced, IsFirstMisplaced, IsForkChild}
 use Rattle.hashmap_tree.specs.declared.entries.Entry.{Entry}
 use Rattle.hashmap_tree.specs.declared.entries.Part as parts
 use Rattle.hashmap_tree.specs.declared.entries.Part.TheVariants as the
@@ -36,9 +36,11 @@ entry_of e = (e.key, part_of e.part)
 abbrev pub entries_of : List Entry → Entries
 entries_of es = map entry_of es
 
-abbrev pub IsHiddenPart : Part → Type 0
-IsHiddenPart (leaf c) = ⊥
-IsHiddenPart (hidden h) = Unit {0}
+-- what stands at place i, if it is a hidden part, is a child of a fork
+abbrev pub IsPlacedAt : ℕ → Entries → Type 0
+IsPlacedAt i es =
+    (ds : Entries) (q : List ℕ) (h : Hidden) (fs : Entries) → es ≡ ds ++ (q, hidden h) ∷ fs → length ds ≡ i
+    → IsForkChild q es
 
 -- ---- the entries of an edge
 

@@ -1,5 +1,5 @@
 //! What follows from the definitions alone. Each function states one law; its body is empty.
-ghost use Rattle.hashmap_tree.specs.Laws.{ForkIsTree, HasTree, LeafIsTree, NoFaultInTree, NoHaltAtEdge, OneEdge, OneExcess, OneFault, OneHalt, OneList, OneTree, TreeFits, TreeIsPlaced, TreeOrFault};
+ghost use Rattle.hashmap_tree.specs.Laws.{ForkIsTree, HasTree, LeafIsTree, MergedHasParts, NoFaultInTree, NoHaltAtEdge, OneEdge, OneExcess, OneFault, OneHalt, OneList, OneTree, OrderedIsMerged, TreeFits, TreeIsPlaced, TreeOrFault};
 
 /// In modes Whole and Partial entries have one content.
 pub fn one_tree()
@@ -69,4 +69,14 @@ pub fn tree_fits()
 /// Entries that exceed the limits have one first fault.
 pub fn one_excess()
     ensures { OneExcess }
+{}
+
+/// Contents and hidden parts as one list are the parts of it.
+pub fn merged_has_parts()
+    ensures { MergedHasParts }
+{}
+
+/// Entries in order are what their contents and hidden parts make.
+pub fn ordered_is_merged()
+    ensures { OrderedIsMerged }
 {}

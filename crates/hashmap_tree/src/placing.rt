@@ -1,10 +1,10 @@
 //! Judges where hidden parts have a place.
-ghost use Rattle.std.specs.Prelude.{◌≡◌, ◌≤◌, ◌++◌, ◌∷◌, ℕ, IsTrue, ◌↔◌, length, take, MatchOption};
+ghost use Rattle.std.specs.Prelude.{◌<◌, ◌++◌, ◌∷◌, ℕ, IsTrue, ◌↔◌, length, MatchOption};
 ghost use Rattle.hashmap_tree.specs.Entries as spec;
 ghost use Rattle.hashmap_tree.specs.Keys.{BeginTogether};
 ghost use Rattle.hashmap_tree.specs.Order.{AreInOrder};
 ghost use Rattle.hashmap_tree.specs.Placed.{AllPlaced, IsFirstMisplaced, IsForkChild};
-ghost use Rattle.hashmap_tree.specs.Plants.{entries_of, IsHiddenPart, part_of};
+ghost use Rattle.hashmap_tree.specs.Plants.{entries_of, IsPlacedAt};
 
 use crate::entries::{Entry, Part, shared};
 use bit_slice::BitSlice;
@@ -39,27 +39,29 @@ fn is_fork_child(before: &[Entry<'_>], key: &BitSlice<'_>, after: &[Entry<'_>]) 
     }
 }
 
-/// Whether a hidden part stands there.
-fn is_hidden(entry: &Entry<'_>) -> bool
-    ensures { IsTrue result ↔ IsHiddenPart (part_of entry.now.part) }
+/// Whether the entry at that place is a leaf or a child of a fork.
+fn is_placed(entries: &[Entry<'_>], i: usize) -> bool
+    requires { i < length entries.now }
+    ensures { (n : ℕ) → AreInOrder n (entries_of entries.now) → IsTrue result ↔ IsPlacedAt i (entries_of entries.now) }
 {
-    match entry.part {
-        Part::Leaf(_) => false,
-        Part::Hidden(_) => true,
+    let (before, rest) = entries.split_at(i);
+    match rest.split_first() {
+        None => true,
+        Some((entry, after)) => match entry.part {
+            Part::Leaf(_) => true,
+            Part::Hidden(_) => is_fork_child(before, &entry.key, after),
+        },
     }
 }
 
-/// The first hidden part that is no child of a fork.
+/// The prefix of the first hidden part that is no child of a fork.
 pub(crate) fn misplaced<'a>(entries: &[Entry<'a>]) -> Option<BitSlice<'a>>
     requires order { (n : ℕ) × AreInOrder n (entries_of entries.now) }
     ensures { MatchOption result (AllPlaced (entries_of entries.now)) (λ q. IsFirstMisplaced q (entries_of entries.now)) }
 {
     'entries: for i in 0..entries.len() {
-        let (before, rest) = entries.split_at(i);
-        if let Some((entry, after)) = rest.split_first() {
-            if is_hidden(entry) && !is_fork_child(before, &entry.key, after) {
-                return Some(entry.key.again());
-            }
+        if !is_placed(entries, i) {
+            return Some(entries[i].key.again());
         }
     }
     None

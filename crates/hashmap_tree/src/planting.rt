@@ -255,6 +255,33 @@ fn branch(alloc: Global, entries: &[Entry<'_>], start: u32, n: u32) -> Result<Ce
     }
 }
 
+/// The hidden part at this prefix has no place.
+fn misplaced_at(alloc: Global, prefix: &BitSlice<'_>) -> PlantError
+    ensures { IsFormAt prefix.now result }
+{
+    match BitString::from_slice(alloc, prefix.again()) {
+        Ok(prefix) => PlantError::Form(prefix),
+        Err(_) => PlantError::NoMemory,
+    }
+}
+
+/// The content of the first edge, whose hidden parts are judged before it is built.
+fn first_edge(alloc: Global, n: u32, entries: &[Entry<'_>]) -> Result<CellBuilder, PlantError>
+    requires short { n ≤ 1023 }
+    requires order { AreInOrder n (entries_of entries.now) }
+    requires some { 0 < length entries.now }
+    ensures { Plants n (entries_of entries.now) result }
+{
+    match misplaced(entries) {
+        Some(prefix) => Err(misplaced_at(alloc, &prefix)),
+        None => {
+            let cell = edge(alloc, entries, 0, n)?;
+            cell.within();
+            Ok(cell)
+        }
+    }
+}
+
 /// Whether these are keys of `n` bits and prefixes of such keys, each in order, and none begins another.
 pub fn are_entries(
     alloc: Global,
@@ -284,24 +311,8 @@ pub fn plant(
     requires some { 0 < length leaves.items + length unknown.now }
     ensures { Plants n (merge (map leaf_of leaves.items) unknown.now) result }
 {
-    let Ok(entries) = merged(alloc, leaves.as_slice(), unknown) else {
-        return Err(PlantError::NoMemory);
-    };
-    match misplaced(entries.as_slice()) {
-        Some(prefix) => return Err(misplaced_at(alloc, &prefix)),
-        None => {}
-    }
-    let cell = edge(alloc, entries.as_slice(), 0, n)?;
-    cell.within();
-    Ok(cell)
-}
-
-/// The hidden part at this prefix has no place.
-fn misplaced_at(alloc: Global, prefix: &BitSlice<'_>) -> PlantError
-    ensures { IsFormAt prefix.now result }
-{
-    match BitString::from_slice(alloc, prefix.again()) {
-        Ok(prefix) => PlantError::Form(prefix),
-        Err(_) => PlantError::NoMemory,
+    match merged(alloc, leaves.as_slice(), unknown) {
+        Ok(entries) => first_edge(alloc, n, entries.as_slice()),
+        Err(_) => Err(PlantError::NoMemory),
     }
 }
