@@ -3,8 +3,12 @@ pub mod Text
 pub mod TextLaws
 pub mod Writes
 pub mod BitsTextLaws
+pub mod Walks
 pub mod PathText
 pub mod PathPoints
 pub mod PathAnswer
 pub mod PathLaws
+pub mod Lexemes
+pub mod LexemePoints
+pub mod LexemeLaws
 pub mod WritesLaws
