@@ -1,5 +1,5 @@
 -- The digits of a hash, two for each byte.
-use Rattle.std.proofs.Common.{◌≡◌, ℕ, zero, suc, ◌+◌, ◌-◌, ◌*◌, ◌/◌, ◌%◌, ◌<◌, ◌≤◌, Bool, true, false, nat_lt, if◌then◌else◌, List, [], ◌∷◌, ◌++◌, length, slice_index, refl, sym, ap, ◌∙◌, arith, subst, Ok}
+use Rattle.std.proofs.Common.{◌≡◌, ℕ, zero, suc, ◌+◌, ◌-◌, ◌*◌, ◌/◌, ◌%◌, ◌<◌, true, nat_lt, if◌then◌else◌, List, [], ◌∷◌, length, slice_index, refl, ap, ◌∙◌, arith, Ok}
 use Rattle.std.proofs.lemmas.Bool.Decides.{nat_tests}
 use Rattle.hex.specs.Hex.{encode_lower, encode_with, lower_digits, IsBytes, decode_sized}
 use Rattle.hex.proofs.HexLemmas.{decode_sized-encode_lower, length-encode_with}

@@ -1,25 +1,23 @@
 -- The parts of a hidden part's bytes.
-use Rattle.std.proofs.Common.{◌≡◌, ◌≢◌, ◌⊎◌, ⊎_elim, ℕ, zero, suc, ◌+◌, ◌-◌, ◌*◌, ◌^◌, ◌<◌, ◌≤◌, Bool, true, false, List, [], ◌∷◌, ◌++◌, length, take, drop, get_or, decimal, Some, refl, sym, ap, ◌∙◌, subst, arith, append_assoc, Ok, if◌then◌else◌, nat_eq, ◌==◌}
+use Rattle.std.proofs.Common.{◌≡◌, ◌≢◌, ℕ, ◌+◌, ◌^◌, ◌<◌, ◌≤◌, Bool, true, false, List, [], ◌∷◌, ◌++◌, length, take, drop, get_or, decimal, Some, refl, sym, ap, ◌∙◌, subst, arith, append_assoc, Ok, if◌then◌else◌, ◌==◌}
 use Rattle.std.specs.Char.{is_ascii_digit}
 use Rattle.std.specs.List.{list_all}
 use Rattle.std.specs.Str.Parse.{digits_value}
 use Rattle.std.proofs.lemmas.Bool.{ne_eqb}
 use Rattle.std.proofs.lemmas.Bool.Decides.{nat_tests}
-use Rattle.std.proofs.lemmas.List.{drop_at, length-append, take_at, take_all, take_more}
+use Rattle.std.proofs.lemmas.List.{drop_at, length-append, take_at, take_more}
 use Rattle.hex.specs.Hex.{decode_sized, encode_lower}
-use Rattle.hex.proofs.HexLemmas.{decode_of-same, decode_sized-twice}
 use Rattle.value_text.specs.declared.lexeme.Form.TheVariants as forms
-use Rattle.value_text.specs.declared.lexeme.Lexeme.TheVariants.{Hidden, Number, Beyond}
+use Rattle.value_text.specs.declared.lexeme.Lexeme.TheVariants.{Hidden, Number}
 use Rattle.value_text.specs.declared.spot.Spot.{Spot}
 use Rattle.value_text.specs.declared.spot.Spot.TheVariants.{Start}
 use Rattle.value_text.specs.Lexemes.{Spells, SpellsBeyond}
-use Rattle.value_text.specs.Tokens.{number, spelling}
 use Rattle.value_text.specs.Writes.{AreBytes}
-use Rattle.value_text.specs.LexemePoints.{IsDeep, IsDepth, IsHashText, IsHashThen, IsNumber, IsZero, Leads, deep_digits, deep_zero, next, signed, walk}
+use Rattle.value_text.specs.LexemePoints.{IsDeep, IsHashText, IsHashThen, IsNumber, IsZero, deep_digits, deep_zero, next, signed, walk}
 use Rattle.value_text.specs.Walks.{walk-one, walk-then}
 use Rattle.value_text.proofs.Decimals.{count_digits, decimal_count}
 use Rattle.value_text.proofs.HashDigits.{decoded, length-encode}
-use Rattle.value_text.proofs.LexemeKept.{hidden_beyond, hidden_within, number_beyond, number_spelling, number_within}
+use Rattle.value_text.proofs.LexemeKept.{hidden_beyond, hidden_within, number_spelling, number_within}
 use Rattle.value_text.proofs.PathKept.{zero_text}
 
 pub record DeepParts (bytes : List ℕ) : Type 0 where

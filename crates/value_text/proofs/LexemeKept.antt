@@ -1,14 +1,11 @@
 -- What a spot says of a lexeme's bytes is kept by one more byte; where a lexeme may end, its bytes spell one.
-use Rattle.std.proofs.Common.{◌≡◌, ◌≢◌, ◌⊎◌, inl, inr, ⊎_elim, ℕ, zero, suc, ◌+◌, ◌-◌, ◌*◌, ◌/◌, ◌%◌, ◌^◌, ◌<◌, ◌≤◌, ◌==◌, Bool, true, false, ◌&&◌, ◌||◌, not, nat_lt, nat_le, List, [], ◌∷◌, ◌++◌, length, decimal, Option, Some, None, is_some, if◌then◌else◌, refl, sym, ap, ◌∙◌, subst, arith, append_assoc, append-nil, IsTrue}
+use Rattle.std.proofs.Common.{◌≡◌, ⊎_elim, ℕ, ◌+◌, ◌-◌, ◌*◌, ◌^◌, ◌<◌, ◌≤◌, ◌==◌, Bool, true, false, ◌&&◌, not, nat_lt, List, [], ◌∷◌, ◌++◌, length, decimal, Option, Some, None, is_some, if◌then◌else◌, refl, sym, ap, ◌∙◌, subst, arith, append_assoc}
 use Rattle.std.specs.Char.{is_ascii_alphabetic, is_ascii_digit}
 use Rattle.std.specs.Str.Parse.{digits_value}
-use Rattle.std.proofs.lemmas.Bool.{eqb-true, ltb-true, ltb-false, and_parts, cases_lt, or_cases}
-use Rattle.std.proofs.lemmas.Bool.Decides.{nat_tests}
-use Rattle.std.proofs.lemmas.Fmt.{decimal_digit}
-use Rattle.std.proofs.lemmas.List.{length-append, length_push}
+use Rattle.std.proofs.lemmas.Bool.{eqb-true, ltb-true, ltb-false, cases_lt}
+use Rattle.std.proofs.lemmas.List.{length_push}
 use Rattle.hex.specs.Hex.{encode_lower}
-use Rattle.bit_slice.specs.Bits.{hex_text}
-use Rattle.bit_slice.specs.HexLists.{AreDigits, is_hex_digit}
+use Rattle.bit_slice.specs.HexLists.{is_hex_digit}
 use Rattle.bit_slice.specs.Names.{IsName, is_count, is_name_byte}
 use Rattle.value_text.specs.declared.lexeme.Sign.{Sign}
 use Rattle.value_text.specs.declared.lexeme.Sign.TheVariants.{OpenBrace, CloseBrace, OpenBracket, CloseBracket, OpenParen, CloseParen, Less, Greater, Comma, Colon, Tilde, Caret, Bang, Percent}
@@ -17,12 +14,11 @@ use Rattle.value_text.specs.declared.lexeme.Lexeme.{Lexeme}
 use Rattle.value_text.specs.declared.lexeme.Lexeme.TheVariants.{Sign as ASign, Number, Bits, Name, Hidden, Beyond}
 use Rattle.value_text.specs.declared.spot.Spot.{Spot}
 use Rattle.value_text.specs.declared.spot.Spot.TheVariants.{Start, Minus, Zero, Digits, X, Letters, Blank, Count, BitDigits, Marked, Closed, Hash, Dot, DepthZero, DepthDigits, Signed}
-use Rattle.value_text.specs.Tokens.{bits, number, hidden, spelling}
-use Rattle.value_text.specs.Writes.{AreBytes, AreFew}
-use Rattle.value_text.specs.BitsTextLaws.{WritesUpTo, is_markable, last_digit, last_digit-push, marked-up_to, plain-up_to}
+use Rattle.value_text.specs.Tokens.{number, spelling}
+use Rattle.value_text.specs.BitsTextLaws.{WritesUpTo, is_markable, last_digit-push, marked-up_to, plain-up_to}
 use Rattle.value_text.specs.Lexemes.{Spells, sign_byte}
 use Rattle.value_text.specs.LexemePoints.{AreLower, Holds, IsBitDigits, IsBits, IsDepth, IsHash, IsHashThen, IsMarkedBits, IsNumber, IsSign, IsZero, begun, deep, in_bits, in_hash, is_end, is_lower_digit, next, numbered, sign_at, signed}
-use Rattle.value_text.specs.PathPoints.{IsCounted, IsLetters}
+use Rattle.value_text.specs.PathPoints.{IsLetters}
 use Rattle.value_text.proofs.Decimals.{decimal_count}
 use Rattle.value_text.proofs.HashDigits.{are_bytes-bytes_of, bytes_of, encode-bytes_of, length-bytes_of}
 use Rattle.value_text.proofs.PathKept.{blank_counted, blank_name, choice, choice_none, count_first, count_push, counted_name, counted_push, digits_push, letters_name, letters_push, x_letters, zero_text}

@@ -1,14 +1,14 @@
 -- The spelling of a lexeme leads to where it may end.
-use Rattle.std.proofs.Common.{◌≡◌, ◌≢◌, ◌⊎◌, inl, inr, ⊎_elim, ℕ, zero, suc, ◌+◌, ◌-◌, ◌*◌, ◌/◌, ◌%◌, ◌^◌, ◌<◌, ◌≤◌, ◌==◌, Bool, true, false, ◌&&◌, ◌||◌, not, nat_lt, List, [], ◌∷◌, ◌++◌, length, decimal, Option, Some, None, is_some, if◌then◌else◌, refl, sym, ap, ◌∙◌, subst, arith, append_assoc, append-nil, IsTrue}
+use Rattle.std.proofs.Common.{◌≡◌, ◌≢◌, ⊎_elim, ℕ, suc, ◌+◌, ◌*◌, ◌/◌, ◌%◌, ◌^◌, ◌<◌, ◌≤◌, ◌==◌, Bool, true, false, ◌&&◌, not, nat_lt, List, [], ◌∷◌, ◌++◌, length, decimal, Option, Some, None, if◌then◌else◌, refl, sym, ap, ◌∙◌, subst, arith}
 use Rattle.std.specs.Char.{is_ascii_alphabetic, is_ascii_digit}
 use Rattle.std.specs.List.{list_all}
-use Rattle.std.proofs.lemmas.Bool.{eqb-true, and_parts, or_cases, cases_eq, ne_eqb, lt-ltb, le-ltb}
+use Rattle.std.proofs.lemmas.Bool.{eqb-true, and_parts, or_cases, cases_eq, ne_eqb, lt-ltb}
 use Rattle.std.proofs.lemmas.Bool.Decides.{nat_tests}
 use Rattle.std.proofs.lemmas.Fmt.{decimal_by_steps_wide}
 use Rattle.hex.specs.Hex.{encode_lower}
 use Rattle.bit_slice.specs.Bits.{AreBits, hex_text}
 use Rattle.bit_slice.specs.HexLists.{AreDigits, is_hex_digit}
-use Rattle.bit_slice.specs.Names.{IsName, is_count, is_name, is_name_byte}
+use Rattle.bit_slice.specs.Names.{IsName, is_count, is_name_byte}
 use Rattle.value_text.specs.declared.lexeme.Sign.{Sign}
 use Rattle.value_text.specs.declared.lexeme.Sign.TheVariants.{OpenBrace, CloseBrace, OpenBracket, CloseBracket, OpenParen, CloseParen, Less, Greater, Comma, Colon, Tilde, Caret, Bang, Percent}
 use Rattle.value_text.specs.declared.lexeme.Form.{Form}
@@ -17,14 +17,13 @@ use Rattle.value_text.specs.declared.lexeme.Lexeme.{Lexeme}
 use Rattle.value_text.specs.declared.lexeme.Lexeme.TheVariants.{Sign as ASign, Number, Bits, Name, Hidden, Beyond}
 use Rattle.value_text.specs.declared.spot.Spot.{Spot}
 use Rattle.value_text.specs.declared.spot.Spot.TheVariants.{Start, Minus, Zero, Digits, X, Letters, Blank, Count, BitDigits, Marked, Closed, Hash, Dot, DepthZero, DepthDigits, Signed}
-use Rattle.value_text.specs.Tokens.{bits, number, hidden, spelling}
-use Rattle.value_text.specs.Writes.{AreBytes, AreFew}
+use Rattle.value_text.specs.Tokens.{bits, number, spelling}
+use Rattle.value_text.specs.Writes.{AreBytes}
 use Rattle.value_text.specs.BitsTextLaws.{DigitsForm, digits-form, is_markable, last_digit, marked_digits, plain_digits}
-use Rattle.value_text.specs.Lexemes.{AreDigitsFrom, AreLongBits, IsDeepHidden, IsLongNumber, Spells, SpellsBeyond, sign_byte}
-use Rattle.value_text.specs.LexemePoints.{AreLower, begun, deep, in_bits, in_hash, is_end, is_lower_digit, next, numbered, sign_at, signed, walk}
-use Rattle.value_text.specs.Walks.{onward, walk-more, walk-one, walk-then}
+use Rattle.value_text.specs.Lexemes.{IsLongNumber, Spells, SpellsBeyond, sign_byte}
+use Rattle.value_text.specs.LexemePoints.{AreLower, begun, is_end, is_lower_digit, next, walk}
+use Rattle.value_text.specs.Walks.{walk-more, walk-one, walk-then}
 use Rattle.value_text.proofs.HashDigits.{length-encode, lower-encode}
-use Rattle.value_text.proofs.LexemeKept.{sign_at-byte}
 
 -- the bytes lead to a spot at which a lexeme may end
 pub record Ends (p : Spot) (bytes : List ℕ) : Type 0 where

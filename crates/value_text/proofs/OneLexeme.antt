@@ -1,26 +1,26 @@
 -- At most one lexeme stands at the beginning of a text.
-use Rattle.std.proofs.Common.{◌≡◌, ◌≢◌, ◌⊎◌, inl, inr, ⊎_elim, ℕ, zero, suc, ◌+◌, ◌-◌, ◌*◌, ◌^◌, ◌<◌, ◌≤◌, ◌==◌, Bool, true, false, ◌&&◌, ◌||◌, not, List, [], ◌∷◌, ◌++◌, length, take, drop, decimal, Option, Some, None, is_some, if◌then◌else◌, refl, sym, ap, ◌∙◌, subst, arith, append_assoc, IsTrue, Result, Ok, Err}
+use Rattle.std.proofs.Common.{◌≡◌, ◌≢◌, ⊎_elim, ℕ, ◌^◌, ◌<◌, ◌≤◌, ◌==◌, Bool, true, false, ◌&&◌, ◌||◌, not, List, [], ◌∷◌, ◌++◌, length, take, drop, decimal, Some, is_some, if◌then◌else◌, refl, sym, ap, ◌∙◌, subst, arith, IsTrue, Result, Ok}
 use Rattle.std.specs.Char.{is_ascii_alphabetic, is_ascii_digit}
 use Rattle.std.specs.List.{list_all}
 use Rattle.std.specs.Str.Parse.{digits_value}
-use Rattle.std.proofs.lemmas.Bool.{and_parts, cases_lt, eqb-true, or_cases, cases_Bool}
+use Rattle.std.proofs.lemmas.Bool.{and_parts, cases_lt, eqb-true, or_cases}
 use Rattle.std.proofs.lemmas.Bool.Decides.{nat_tests}
 use Rattle.std.proofs.lemmas.Fmt.{decimal_is_IsNumeral_wide}
-use Rattle.std.proofs.lemmas.List.{append_cancel_right, drop_at, length-take-le, take_at}
+use Rattle.std.proofs.lemmas.List.{append_cancel_right, drop_at, take_at}
 use Rattle.hex.specs.Hex.{decode_sized, encode_lower}
 use Rattle.hex.specs.declared.error.FromHexError.{FromHexError}
 use Rattle.bit_slice.specs.Bits.{AreBits, hex_text}
 use Rattle.bit_slice.specs.HexTexts.{hex_text-injective}
-use Rattle.bit_slice.specs.Names.{IsName, is_count, is_name, is_name_byte}
+use Rattle.bit_slice.specs.Names.{IsName, is_count, is_name_byte}
 use Rattle.value_text.specs.declared.lexeme.Sign.{Sign}
 use Rattle.value_text.specs.declared.lexeme.Sign.TheVariants.{OpenBrace, CloseBrace, OpenBracket, CloseBracket, OpenParen, CloseParen, Less, Greater, Comma, Colon, Tilde, Caret, Bang, Percent}
 use Rattle.value_text.specs.declared.lexeme.Form.{Form}
 use Rattle.value_text.specs.declared.lexeme.Form.TheVariants as forms
 use Rattle.value_text.specs.declared.lexeme.Lexeme.{Lexeme}
 use Rattle.value_text.specs.declared.lexeme.Lexeme.TheVariants.{Sign as ASign, Number, Bits, Name, Hidden, Beyond}
-use Rattle.value_text.specs.Tokens.{bits, number, hidden, spelling}
-use Rattle.value_text.specs.Writes.{AreBytes, AreFew, IsHidden}
-use Rattle.value_text.specs.Lexemes.{AreLongBits, BeginsBits, IsDeepHidden, IsLongNumber, NothingStands, Spells, SpellsBeyond, Stands, sign_byte}
+use Rattle.value_text.specs.Tokens.{bits, number, spelling}
+use Rattle.value_text.specs.Writes.{AreBytes, AreFew}
+use Rattle.value_text.specs.Lexemes.{AreLongBits, IsDeepHidden, IsLongNumber, Spells, SpellsBeyond, Stands, sign_byte}
 use Rattle.value_text.specs.LexemePoints.{sign_at}
 use Rattle.value_text.proofs.HashDigits.{decoded}
 use Rattle.value_text.proofs.HiddenParts.{hash_length}

@@ -1,20 +1,18 @@
 -- How far the bytes of a text lead, and what stands there.
-use Rattle.std.proofs.Common.{◌≡◌, ◌≢◌, ◌⊎◌, inl, inr, ⊎_elim, ℕ, zero, suc, ◌+◌, ◌-◌, ◌^◌, ◌<◌, ◌≤◌, ◌==◌, Bool, true, false, ◌&&◌, not, List, [], ◌∷◌, ◌++◌, length, take, drop, get_or, decimal, Option, Some, None, is_some, if◌then◌else◌, refl, sym, ap, ◌∙◌, subst, arith, append_assoc, append-nil, codes, IsTrue}
+use Rattle.std.proofs.Common.{◌≡◌, ⊎_elim, ℕ, zero, suc, ◌+◌, ◌<◌, ◌≤◌, ◌==◌, Bool, true, false, ◌&&◌, not, List, [], ◌∷◌, ◌++◌, length, take, drop, get_or, decimal, Option, Some, None, if◌then◌else◌, refl, sym, ap, ◌∙◌, subst, arith, append_assoc, append-nil}
 use Rattle.std.specs.Char.{is_ascii_digit}
 use Rattle.std.proofs.lemmas.Bool.{eqb-true, and_parts, cases_Bool, cases_lt}
-use Rattle.std.proofs.lemmas.Bool.Decides.{nat_tests}
-use Rattle.std.proofs.lemmas.List.{length-take-le, take-append-drop, take-take, take_all, take_more}
-use Rattle.bit_slice.specs.Names.{IsName, is_count, is_name_byte}
-use Rattle.value_text.specs.declared.lexeme.Sign.{Sign}
+use Rattle.std.proofs.lemmas.List.{take-append-drop, take-take, take_more}
+use Rattle.bit_slice.specs.Names.{IsName, is_name_byte}
 use Rattle.value_text.specs.declared.lexeme.Form.{Form}
 use Rattle.value_text.specs.declared.lexeme.Form.TheVariants as forms
 use Rattle.value_text.specs.declared.lexeme.Lexeme.{Lexeme}
 use Rattle.value_text.specs.declared.lexeme.Lexeme.TheVariants.{Sign as ASign, Number, Bits, Name, Hidden, Beyond}
 use Rattle.value_text.specs.declared.spot.Spot.{Spot}
 use Rattle.value_text.specs.declared.spot.Spot.TheVariants.{Start, Minus, Zero, Digits, X, Letters, Blank, Count, BitDigits, Marked, Closed, Hash, Dot, DepthZero, DepthDigits, Signed}
-use Rattle.value_text.specs.Lexemes.{BeginsBits, IsOfBits, NothingStands, Spells, SpellsBeyond, Stands, sign_byte}
-use Rattle.value_text.specs.LexemePoints.{Holds, Leads, in_hash, is_end, next, walk}
-use Rattle.value_text.specs.Walks.{onward, walk-one, walk-then}
+use Rattle.value_text.specs.Lexemes.{BeginsBits, IsOfBits, NothingStands, Spells, SpellsBeyond, Stands}
+use Rattle.value_text.specs.LexemePoints.{Holds, Leads, is_end, next, walk}
+use Rattle.value_text.specs.Walks.{onward, walk-then}
 use Rattle.value_text.proofs.LexemeKept.{kept}
 use Rattle.value_text.proofs.LexemeWalks.{DecimalForm, counted, decimal_form, is_zero, lexeme_ends}
 use Rattle.value_text.proofs.PathKept.{choice_none}
@@ -260,3 +258,16 @@ nothing text n p h f l m s = ⊎_elim
     (λ (k : n < m). no_longer text n p h m l k s.within s.spelled)
     (λ (k : m ≤ n). shorter text n p h f l m s k)
     (cases_lt n m)
+
+-- a lexeme has some bytes
+empty_not : (l : Lexeme) → Spells l [] → ⊥
+empty_not l s =
+    let e = lexeme_ends l [] s in
+    let begins : Some Start ≡ Some e.spot = e.leads in
+    let start : Start ≡ e.spot = cc in
+    let no : false ≡ true = ap is_end start ∙ e.whole in
+    absurd (cc)
+
+pub some_bytes : (text : List ℕ) (l : Lexeme) (n : ℕ) → Stands l n text → 0 < n
+some_bytes text l zero s = absurd (empty_not l s.spelled)
+some_bytes text l (suc n) s = omega arith

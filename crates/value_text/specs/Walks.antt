@@ -1,6 +1,6 @@
 -- Where bytes lead to, one after another, from a point that one byte leads on from, if it leads anywhere.
 use Rattle.std.specs.Prelude.{◌≡◌, ℕ, List, [], ◌∷◌, ◌++◌, Option, Some, None}
-use Rattle.std.proofs.Common.{refl, sym, ap, ◌∙◌}
+use Rattle.std.proofs.Common.{refl, ap, ◌∙◌}
 
 abbrev pub onward : {S : Type 0} → Option S → (S → Option S) → Option S
 onward (Some p) further = further p

@@ -136,7 +136,8 @@ fn lexeme_of(alloc: Global, spot: Spot, bytes: &[u8]) -> Result<Lexeme, NoMemory
 
 /// What stands at the beginning of a text, and how many bytes of it: the longest spelling. None: nothing does.
 pub fn lexeme_at(alloc: Global, text: &[u8]) -> Result<Option<(Lexeme, usize)>, NoMemory>
-    ensures stands { IfOk result (λ found. MatchOption found (NothingStands text.now) (λ l. Stands l.0 l.1 text.now)) }
+    ensures stands { IfOk result (λ found. MatchOption found (NothingStands text.now)
+        (λ l. Stands l.0 l.1 text.now)) }
     ensures some { IfOk result (λ found. IfSome found (λ l. (0 < l.1) × (l.1 ≤ length text.now))) }
 {
     let (len, spot) = longest(text);

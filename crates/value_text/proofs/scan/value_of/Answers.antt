@@ -1,5 +1,4 @@
-use Rattle.std.proofs.Common.{◌≡◌, ◌≤◌, ◌+◌, ◌*◌, ◌-◌, ◌^◌, ℕ, ap, sym, ◌∙◌, arith, get_or, take, length, subst}
-use Rattle.std.proofs.lemmas.List.{take_all}
+use Rattle.std.proofs.Common.{◌≡◌, ◌≤◌, ◌+◌, ◌*◌, ◌-◌, ◌^◌, ℕ, ap, sym, ◌∙◌, arith, get_or, take}
 use Rattle.std.specs.Str.Parse.{digits_value}
 use Rattle.value_text.proofs.Decimals.{digit_bounds_at, value_more, value_most}
 use Rattle.value_text.proofs.scan.value_of.Goals as goal
