@@ -1,14 +1,6 @@
 mod CellSteps
 mod Orders
 mod Lists
-mod PathKept
-mod Decimals
-mod HashDigits
-mod LexemeKept
-mod LexemeWalks
-mod Scans
-mod HiddenParts
-mod OneLexeme
 mod PathWalks
 mod PathStands
 mod PathUnique

@@ -10,5 +10,16 @@ pub mod PathAnswer
 pub mod PathLaws
 pub mod Lexemes
 pub mod LexemePoints
+pub mod Division
 pub mod LexemeLaws
+pub mod PathKeptLaws
+pub mod DecimalsLaws
+pub mod HashDigitsLaws
+pub mod LexemeKeptLaws
+pub mod LexemeWalksLaws
+pub mod HiddenPartsLaws
+pub mod OneLexemeLaws
+pub mod ScansLaws
+pub mod SeparateLaws
+pub mod DivisionLaws
 pub mod WritesLaws

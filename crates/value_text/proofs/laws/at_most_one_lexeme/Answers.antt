@@ -1,4 +1,5 @@
-use Rattle.value_text.proofs.OneLexeme.{one_stands}
+use Rattle.value_text.specs.OneLexemeLaws.{one_stands}
+use Rattle.value_text.specs.DivisionLaws.{divided_spaced}
 use Rattle.value_text.proofs.laws.at_most_one_lexeme.Goals as goal
 
 pub returns : goal.returns

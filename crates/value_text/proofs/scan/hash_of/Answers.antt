@@ -2,7 +2,7 @@ use Rattle.std.proofs.Common.{◌≡◌, List, ℕ, Result, Ok, Err, MatchResult
 use Rattle.hex.specs.Hex.{encode_lower}
 use Rattle.hex.specs.declared.error.FromHexError.{FromHexError}
 use Rattle.value_text.specs.Writes.{AreBytes}
-use Rattle.value_text.proofs.HiddenParts.{hash_decoded}
+use Rattle.value_text.specs.HiddenPartsLaws.{hash_decoded}
 use Rattle.value_text.proofs.scan.hash_of.Goals as goal
 
 pub returns-clause-text : goal.returns-clause-text

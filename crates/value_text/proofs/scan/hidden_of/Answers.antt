@@ -3,7 +3,7 @@ use Rattle.std.specs.Char.{is_ascii_digit}
 use Rattle.std.specs.List.{list_all}
 use Rattle.std.specs.Str.Parse.{digits_value}
 use Rattle.std.proofs.lemmas.List.{take_rest}
-use Rattle.value_text.proofs.HiddenParts.{deep_parts, digits_range, hash_text, part_within}
+use Rattle.value_text.specs.HiddenPartsLaws.{deep_parts, digits_range, hash_text, part_within}
 use Rattle.value_text.proofs.scan.hidden_of.Goals as goal
 use Rattle.value_text.proofs.scan.hidden_of.Goals.{in_default-via-in-Some+else-depth-from, in_default-via-in_default}
 

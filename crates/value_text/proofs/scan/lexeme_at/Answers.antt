@@ -1,5 +1,5 @@
 use Rattle.std.proofs.Common.{sym, take, ◌∙◌}
-use Rattle.value_text.proofs.Scans.{holds, nothing, some_bytes, stands}
+use Rattle.value_text.specs.ScansLaws.{holds, nothing, some_bytes, stands}
 use Rattle.value_text.proofs.scan.lexeme_at.Goals as goal
 
 pub returns-then-not-is_end-clause-stands : goal.returns-then-not-is_end-clause-stands

@@ -2,7 +2,7 @@ use Rattle.std.proofs.Common.{◌≡◌, subst, ⊎_elim}
 use Rattle.value_text.specs.declared.spot.Spot.{Spot}
 use Rattle.value_text.specs.declared.spot.Spot.TheVariants.{DepthZero, DepthDigits}
 use Rattle.value_text.specs.LexemePoints.{Holds, deep_zero, deep_digits}
-use Rattle.value_text.proofs.HiddenParts.{length_deep, zero_spells}
+use Rattle.value_text.specs.HiddenPartsLaws.{length_deep, zero_spells}
 use Rattle.value_text.proofs.scan.lexeme_of.Goals as goal
 
 pub returns-in-Zero : goal.returns-in-Zero

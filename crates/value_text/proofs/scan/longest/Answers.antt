@@ -1,5 +1,5 @@
 use Rattle.std.proofs.Common.{arith, get_or, refl, sym, ◌∙◌}
-use Rattle.value_text.proofs.HiddenParts.{walk_more}
+use Rattle.value_text.specs.HiddenPartsLaws.{walk_more}
 use Rattle.value_text.proofs.scan.longest.Goals as goal
 
 pub bytes-preserved : goal.bytes-preserved

@@ -1,7 +1,7 @@
 use Rattle.std.proofs.Common.{◌≡◌, List, ℕ, ap, ◌∙◌, Bor}
 use Rattle.std.specs.Str.Parse.{digits_value}
 use Rattle.std.proofs.lemmas.List.{take_rest}
-use Rattle.value_text.proofs.HiddenParts.{number_spells, told_negative, told_positive}
+use Rattle.value_text.specs.HiddenPartsLaws.{number_spells, told_negative, told_positive}
 use Rattle.value_text.proofs.scan.number_of.Goals as goal
 use Rattle.value_text.proofs.scan.number_of.Goals.{then-negative, else-negative}
 

@@ -1,6 +1,6 @@
 use Rattle.std.proofs.Common.{◌≡◌, ◌≤◌, ◌+◌, ◌*◌, ◌-◌, ◌^◌, ℕ, ap, sym, ◌∙◌, arith, get_or, take}
 use Rattle.std.specs.Str.Parse.{digits_value}
-use Rattle.value_text.proofs.Decimals.{digit_bounds_at, value_more, value_most}
+use Rattle.value_text.specs.DecimalsLaws.{digit_bounds_at, value_more, value_most}
 use Rattle.value_text.proofs.scan.value_of.Goals as goal
 
 pub with_digit-requires-clause-low : goal.with_digit-requires-clause-low

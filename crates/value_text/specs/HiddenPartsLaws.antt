@@ -15,10 +15,10 @@ use Rattle.value_text.specs.Lexemes.{Spells, SpellsBeyond}
 use Rattle.value_text.specs.Writes.{AreBytes}
 use Rattle.value_text.specs.LexemePoints.{IsDeep, IsHashText, IsHashThen, IsNumber, IsZero, deep_digits, deep_zero, next, signed, walk}
 use Rattle.value_text.specs.Walks.{walk-one, walk-then}
-use Rattle.value_text.proofs.Decimals.{count_digits, decimal_count}
-use Rattle.value_text.proofs.HashDigits.{decoded, length-encode}
-use Rattle.value_text.proofs.LexemeKept.{hidden_beyond, hidden_within, number_spelling, number_within}
-use Rattle.value_text.proofs.PathKept.{zero_text}
+use Rattle.value_text.specs.DecimalsLaws.{count_digits, decimal_count}
+use Rattle.value_text.specs.HashDigitsLaws.{decoded, length-encode}
+use Rattle.value_text.specs.LexemeKeptLaws.{hidden_beyond, hidden_within, number_spelling, number_within}
+use Rattle.value_text.specs.PathKeptLaws.{zero_text}
 
 pub record DeepParts (bytes : List ℕ) : Type 0 where
   pub digits : List ℕ

@@ -22,10 +22,10 @@ use Rattle.value_text.specs.Tokens.{bits, number, spelling}
 use Rattle.value_text.specs.Writes.{AreBytes, AreFew}
 use Rattle.value_text.specs.Lexemes.{AreLongBits, IsDeepHidden, IsLongNumber, Spells, SpellsBeyond, Stands, sign_byte}
 use Rattle.value_text.specs.LexemePoints.{sign_at}
-use Rattle.value_text.proofs.HashDigits.{decoded}
-use Rattle.value_text.proofs.HiddenParts.{hash_length}
-use Rattle.value_text.proofs.LexemeKept.{sign_at-byte}
-use Rattle.value_text.proofs.LexemeWalks.{DecimalForm, counted, decimal_form, is_zero}
+use Rattle.value_text.specs.HashDigitsLaws.{decoded}
+use Rattle.value_text.specs.HiddenPartsLaws.{hash_length}
+use Rattle.value_text.specs.LexemeKeptLaws.{sign_at-byte}
+use Rattle.value_text.specs.LexemeWalksLaws.{DecimalForm, counted, decimal_form, is_zero}
 
 -- ---- the kind of a lexeme is told by its first bytes
 

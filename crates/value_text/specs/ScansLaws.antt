@@ -13,9 +13,9 @@ use Rattle.value_text.specs.declared.spot.Spot.TheVariants.{Start, Minus, Zero, 
 use Rattle.value_text.specs.Lexemes.{BeginsBits, IsOfBits, NothingStands, Spells, SpellsBeyond, Stands}
 use Rattle.value_text.specs.LexemePoints.{Holds, Leads, is_end, next, walk}
 use Rattle.value_text.specs.Walks.{onward, walk-then}
-use Rattle.value_text.proofs.LexemeKept.{kept}
-use Rattle.value_text.proofs.LexemeWalks.{DecimalForm, counted, decimal_form, is_zero, lexeme_ends}
-use Rattle.value_text.proofs.PathKept.{choice_none}
+use Rattle.value_text.specs.LexemeKeptLaws.{kept}
+use Rattle.value_text.specs.LexemeWalksLaws.{DecimalForm, counted, decimal_form, is_zero, lexeme_ends}
+use Rattle.value_text.specs.PathKeptLaws.{choice_none}
 
 -- ---- what is known of the bytes
 

@@ -23,7 +23,7 @@ use Rattle.value_text.specs.BitsTextLaws.{DigitsForm, digits-form, is_markable, 
 use Rattle.value_text.specs.Lexemes.{IsLongNumber, Spells, SpellsBeyond, sign_byte}
 use Rattle.value_text.specs.LexemePoints.{AreLower, begun, is_end, is_lower_digit, next, walk}
 use Rattle.value_text.specs.Walks.{walk-more, walk-one, walk-then}
-use Rattle.value_text.proofs.HashDigits.{length-encode, lower-encode}
+use Rattle.value_text.specs.HashDigitsLaws.{length-encode, lower-encode}
 
 -- the bytes lead to a spot at which a lexeme may end
 pub record Ends (p : Spot) (bytes : List ℕ) : Type 0 where

@@ -19,9 +19,9 @@ use Rattle.value_text.specs.BitsTextLaws.{WritesUpTo, is_markable, last_digit-pu
 use Rattle.value_text.specs.Lexemes.{Spells, sign_byte}
 use Rattle.value_text.specs.LexemePoints.{AreLower, Holds, IsBitDigits, IsBits, IsDepth, IsHash, IsHashThen, IsMarkedBits, IsNumber, IsSign, IsZero, begun, deep, in_bits, in_hash, is_end, is_lower_digit, next, numbered, sign_at, signed}
 use Rattle.value_text.specs.PathPoints.{IsLetters}
-use Rattle.value_text.proofs.Decimals.{decimal_count}
-use Rattle.value_text.proofs.HashDigits.{are_bytes-bytes_of, bytes_of, encode-bytes_of, length-bytes_of}
-use Rattle.value_text.proofs.PathKept.{blank_counted, blank_name, choice, choice_none, count_first, count_push, counted_name, counted_push, digits_push, letters_name, letters_push, x_letters, zero_text}
+use Rattle.value_text.specs.DecimalsLaws.{decimal_count}
+use Rattle.value_text.specs.HashDigitsLaws.{are_bytes-bytes_of, bytes_of, encode-bytes_of, length-bytes_of}
+use Rattle.value_text.specs.PathKeptLaws.{blank_counted, blank_name, choice, choice_none, count_first, count_push, counted_name, counted_push, digits_push, letters_name, letters_push, x_letters, zero_text}
 
 led : (p q : Spot) (bytes : List ℕ) → Some p ≡ Some q → Holds p bytes → Holds q bytes
 led p q bytes e h = let same : p ≡ q = cc in let P : Spot → Type 0 = λ r. Holds r bytes in subst P same h
