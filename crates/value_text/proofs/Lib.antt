@@ -1,7 +1,6 @@
 mod CellSteps
 mod Orders
 mod Lists
-mod PathKept
 mod PathWalks
 mod PathStands
 mod PathUnique

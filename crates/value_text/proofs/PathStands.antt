@@ -7,7 +7,7 @@ use Rattle.value_text.specs.declared.point.Point.{Point}
 use Rattle.value_text.specs.declared.point.Point.TheVariants.{Root, First, Due, X, Name, Blank, Count, Zero, Number, Key, Marked, Closed}
 use Rattle.value_text.specs.PathText.{AreSteps, GoesOn, IsBadPath, IsStep, PathWrites, path_text, step_text, steps_text}
 use Rattle.value_text.specs.PathPoints.{Holds, is_step, may_end, next, onward, walk}
-use Rattle.value_text.proofs.PathKept.{begins_step, kept, whole_step}
+use Rattle.value_text.specs.PathKeptLaws.{begins_step, kept, whole_step}
 use Rattle.value_text.proofs.PathWalks.{walk-one, walk-then, written_leads}
 
 -- ---- whole steps, and the bytes of one more from `start` on

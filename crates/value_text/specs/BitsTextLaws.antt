@@ -92,22 +92,25 @@ marks v h = ⊎_elim
 
 -- ---- from digits to bits
 
--- the text is that of at most 1023 bits
-abbrev pub WritesBits : List ℕ → Type 0
-WritesBits text = (key : List ℕ) × AreFew key × (text ≡ hex_text key)
+-- the text is that of bits, at most so many
+pub record WritesUpTo (most : ℕ) (text : List ℕ) : Type 0 where
+  pub contents : List ℕ
+  pub are_bits : AreBits contents
+  pub size : length contents ≤ most
+  pub whole : text ≡ hex_text contents
 
-pub writes-plain : (ds : List ℕ) → AreDigits ds → length ds ≤ 255 → WritesBits ds
-writes-plain ds h l =
+pub plain-up_to : (ds : List ℕ) → AreDigits ds → WritesUpTo (4 * length ds) ds
+plain-up_to ds h =
     let t : HexText ds (spelling_bits ds 0) = HexText-spelling ds ds 0 (plain-spelling ds h) in
     let n : length (spelling_bits ds 0) ≡ 4 * length ds - 0 = length-spelling_bits ds 0 in
-    (spelling_bits ds 0, (t.0, omega arith), t.1)
+    record { contents = spelling_bits ds 0; are_bits = t.0; size = omega arith; whole = t.1 }
 
-pub writes-marked : (ds : List ℕ) → AreDigits ds → length ds ≤ 256 → is_markable (last_digit ds) ≡ true → WritesBits (ds ++ 95 ∷ [])
-writes-marked [] h l m = absurd (true_is_not m)
-  where
-    true_is_not : false ≡ true → ⊥
-    true_is_not e = cc
-writes-marked (d ∷ ds) h l m =
+none_marked : is_markable (last_digit []) ≡ true → ⊥
+none_marked e = cc
+
+pub marked-up_to : (ds : List ℕ) → AreDigits ds → is_markable (last_digit ds) ≡ true → WritesUpTo (4 * length ds - 1) (ds ++ 95 ∷ [])
+marked-up_to [] h m = absurd (none_marked m)
+marked-up_to (d ∷ ds) h m =
     let at : slice_index (d ∷ ds) (length (d ∷ ds) - 1) ≡ last_digit (d ∷ ds) = last_digit-index (d ∷ ds) (omega arith) in
     let hex : is_hex_digit (last_digit (d ∷ ds)) ≡ true =
     ap (λ (c : ℕ). is_hex_digit c) (sym at) ∙ h (length (d ∷ ds) - 1) (omega arith) in
@@ -125,9 +128,27 @@ writes-marked (d ∷ ds) h l m =
     } in
     let t : HexText ((d ∷ ds) ++ 95 ∷ []) (spelling_bits (d ∷ ds) k.dropped) = HexText-spelling ((d ∷ ds) ++ 95 ∷ []) (d ∷ ds) k.dropped s in
     let n : length (spelling_bits (d ∷ ds) k.dropped) ≡ 4 * length (d ∷ ds) - k.dropped = length-spelling_bits (d ∷ ds) k.dropped in
-    (spelling_bits (d ∷ ds) k.dropped, (t.0, omega arith), t.1)
+    record { contents = spelling_bits (d ∷ ds) k.dropped; are_bits = t.0; size = omega arith; whole = t.1 }
+
+-- the text is that of at most 1023 bits
+abbrev pub WritesBits : List ℕ → Type 0
+WritesBits text = (key : List ℕ) × AreFew key × (text ≡ hex_text key)
+
+few_of : (most : ℕ) (text : List ℕ) → most ≤ 1023 → WritesUpTo most text → WritesBits text
+few_of most text l w = let size = w.size in (w.contents, (w.are_bits, omega arith), w.whole)
+
+pub writes-plain : (ds : List ℕ) → AreDigits ds → length ds ≤ 255 → WritesBits ds
+writes-plain ds h l = few_of (4 * length ds) ds (omega arith) (plain-up_to ds h)
+
+pub writes-marked : (ds : List ℕ) → AreDigits ds → length ds ≤ 256 → is_markable (last_digit ds) ≡ true → WritesBits (ds ++ 95 ∷ [])
+writes-marked ds h l m = few_of (4 * length ds - 1) (ds ++ 95 ∷ []) (omega arith) (marked-up_to ds h m)
 
 -- ---- from bits to digits
+
+-- the form of the text of so many bits
+pub data DigitsForm (size : ℕ) (text : List ℕ) : Type 0 where
+  plain_digits : AreDigits text → 4 * length text ≤ size → DigitsForm size text
+  marked_digits : (ds : List ℕ) → text ≡ ds ++ 95 ∷ [] → AreDigits ds → 4 * length ds ≤ size + 3 → is_markable (last_digit ds) ≡ true → DigitsForm size text
 
 pub data BitsForm (text : List ℕ) : Type 0 where
   plain : AreDigits text → length text ≤ 255 → BitsForm text
@@ -159,17 +180,23 @@ last-markable bs ds h some e =
     markable-bit (last_digit ds) m.place m.few (ap (λ (c : ℕ). bit_at (digit_number c) m.place) (sym at) ∙ m.one))
     (bytes-of_text text bs (length ds) (h, e) (omega arith))
 
-pub bits-form : (bs : List ℕ) → AreFew bs → BitsForm (hex_text bs)
-bits-form bs h =
+pub digits-form : (bs : List ℕ) → AreBits bs → DigitsForm (length bs) (hex_text bs)
+digits-form bs h =
     let n : ℕ = (length bs + 3) / 4 in
     let size : length (digits_in bs n) ≡ n = length-map-range_with_len (λ k. hex_digit (completed_digit bs k)) 0 n in
-    let few : length bs ≤ 1023 = h.1 in
     ⊎_elim
     (λ (e : length bs % 4 ≡ 0).
     let w : digits_in bs n ≡ hex_text bs = hex_text-whole bs n e refl in
-    let P : List ℕ → Type 0 = λ t. BitsForm t in
-    subst P w (plain (are_digits-in bs n h.0) (omega arith)))
+    let P : List ℕ → Type 0 = λ t. DigitsForm (length bs) t in
+    subst P w (plain_digits (are_digits-in bs n h) (omega arith)))
     (λ (e : length bs % 4 ≢ 0).
     let w : digits_in bs n ++ 95 ∷ [] ≡ hex_text bs = hex_text-part bs n e refl in
-    marked (digits_in bs n) (sym w) (are_digits-in bs n h.0) (omega arith) (last-markable bs (digits_in bs n) h.0 (omega arith) w))
+    marked_digits (digits_in bs n) (sym w) (are_digits-in bs n h) (omega arith) (last-markable bs (digits_in bs n) h (omega arith) w))
     (cases_eq (length bs % 4) 0)
+
+few-form : (size : ℕ) (text : List ℕ) → size ≤ 1023 → DigitsForm size text → BitsForm text
+few-form size text l (plain_digits h few) = plain h (omega arith)
+few-form size text l (marked_digits ds e h few m) = marked ds e h (omega arith) m
+
+pub bits-form : (bs : List ℕ) → AreFew bs → BitsForm (hex_text bs)
+bits-form bs h = few-form (length bs) (hex_text bs) h.1 (digits-form bs h.0)

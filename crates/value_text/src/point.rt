@@ -34,19 +34,19 @@ pub(crate) enum Point {
     Closed,
 }
 
-fn is_hex_digit(byte: u8) -> bool
+pub(crate) fn is_hex_digit(byte: u8) -> bool
     ensures { result ≡ is_hex_digit byte }
 {
     (b'0' <= byte && byte <= b'9') || (b'A' <= byte && byte <= b'F')
 }
 
-fn is_name_byte(byte: u8) -> bool
+pub(crate) fn is_name_byte(byte: u8) -> bool
     ensures { result ≡ is_name_byte byte }
 {
     byte.is_ascii_alphanumeric() || byte == b'_'
 }
 
-fn is_markable(digit: u8) -> bool
+pub(crate) fn is_markable(digit: u8) -> bool
     ensures { result ≡ is_markable digit }
 {
     !(digit == b'0' || digit == b'8')

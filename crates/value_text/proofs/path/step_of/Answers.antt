@@ -1,7 +1,7 @@
 use Rattle.std.proofs.Common.{arith, subst, ◌∙◌}
 use Rattle.value_text.specs.declared.point.Point.{Point}
 use Rattle.value_text.specs.PathPoints.{Holds}
-use Rattle.value_text.proofs.PathKept.{zero_text}
+use Rattle.value_text.specs.PathKeptLaws.{zero_text}
 use Rattle.value_text.proofs.path.step_of.Goals as goal
 
 pub returns-in-Zero : goal.returns-in-Zero

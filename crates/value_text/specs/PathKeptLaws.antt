@@ -32,16 +32,16 @@ reached p q step e h = let same : p ≡ q = cc in let P : Point → Type 0 = λ 
 not_ended : (c : ℕ) (q : Point) (step : List ℕ) → c ≢ 47 → ended c ≡ Some q → Holds q step
 not_ended c q step n e = choice_none (c == 47) (Some Due) q e (λ t _. absurd (n (eqb-true c 47 t)))
 
-digit_text : (c : ℕ) → is_ascii_digit c ≡ true → c ∷ [] ≡ decimal (c - 48)
+pub digit_text : (c : ℕ) → is_ascii_digit c ≡ true → c ∷ [] ≡ decimal (c - 48)
 digit_text c h =
     let low : c - 48 < 10 = grind (arith, nat_tests) in
     let same : 48 + (c - 48) ≡ c = grind (arith, nat_tests) in
     sym (decimal_digit (c - 48) low ∙ ap (λ (n : ℕ). n ∷ []) same)
 
-digit_bounds : (c : ℕ) → is_ascii_digit c ≡ true → (48 ≤ c) × (c ≤ 57)
+pub digit_bounds : (c : ℕ) → is_ascii_digit c ≡ true → (48 ≤ c) × (c ≤ 57)
 digit_bounds c h = (grind (arith, nat_tests), grind (arith, nat_tests))
 
-not_zero : (c : ℕ) → (c == 48) ≡ false → c ≢ 48
+pub not_zero : (c : ℕ) → (c == 48) ≡ false → c ≢ 48
 not_zero c h e = grind (arith, nat_tests)
 
 begun_holds : (c : ℕ) (q : Point) → begun c ≡ Some q → Holds q (c ∷ [])
@@ -61,13 +61,13 @@ begun_holds c q e =
 
 -- ---- names
 
-all_push : (f : ℕ → Bool) (xs : List ℕ) (c : ℕ) → list_all f xs ≡ true → f c ≡ true → list_all f (xs ++ c ∷ []) ≡ true
+pub all_push : (f : ℕ → Bool) (xs : List ℕ) (c : ℕ) → list_all f xs ≡ true → f c ≡ true → list_all f (xs ++ c ∷ []) ≡ true
 all_push f [] c h t = and_from (f c) true t refl
 all_push f (x ∷ xs) c h t =
     let parts = and_parts (f x) (list_all f xs) h in
     and_from (f x) (list_all f (xs ++ c ∷ [])) parts.0 (all_push f xs c parts.1 t)
 
-letters_push : (step : List ℕ) (c : ℕ) → IsLetters step → is_name_byte c ≡ true → IsLetters (step ++ c ∷ [])
+pub letters_push : (step : List ℕ) (c : ℕ) → IsLetters step → is_name_byte c ≡ true → IsLetters (step ++ c ∷ [])
 letters_push step c h t = record {
   first = h.first;
   later = h.later ++ c ∷ [];
@@ -76,7 +76,7 @@ letters_push step c h t = record {
   are_name_bytes = all_push is_name_byte h.later c h.are_name_bytes t;
 }
 
-x_letters : (step : List ℕ) → step ≡ 120 ∷ [] → IsLetters step
+pub x_letters : (step : List ℕ) → step ≡ 120 ∷ [] → IsLetters step
 x_letters step e = record { first = 120; later = []; whole = e; letter = refl; are_name_bytes = refl }
 
 in_name_holds : (step : List ℕ) (c : ℕ) (q : Point) → c ≢ 47 → IsLetters step → in_name c ≡ Some q → Holds q (step ++ c ∷ [])
@@ -87,20 +87,20 @@ in_name_holds step c q n h e =
 
 -- ---- numbers after '_'
 
-count_push : (ds : List ℕ) (c : ℕ) → is_count ds ≡ true → 0 < length ds → is_ascii_digit c ≡ true → is_count (ds ++ c ∷ []) ≡ true
+pub count_push : (ds : List ℕ) (c : ℕ) → is_count ds ≡ true → 0 < length ds → is_ascii_digit c ≡ true → is_count (ds ++ c ∷ []) ≡ true
 count_push [] c h s t = absurd (omega arith)
 count_push (d ∷ ds) c h s t =
     let parts = and_parts (is_ascii_digit d && not (d == 48)) (list_all is_ascii_digit ds) h in
     and_from (is_ascii_digit d && not (d == 48)) (list_all is_ascii_digit (ds ++ c ∷ [])) parts.0 (all_push is_ascii_digit ds c parts.1 t)
 
-count_first : (c : ℕ) → (is_ascii_digit c && not (c == 48)) ≡ true → is_count (c ∷ []) ≡ true
+pub count_first : (c : ℕ) → (is_ascii_digit c && not (c == 48)) ≡ true → is_count (c ∷ []) ≡ true
 count_first c t = and_from (is_ascii_digit c && not (c == 48)) true t refl
 
-blank_counted : (step : List ℕ) (c : ℕ) → step ≡ 95 ∷ [] → (is_ascii_digit c && not (c == 48)) ≡ true → IsCounted (step ++ c ∷ [])
+pub blank_counted : (step : List ℕ) (c : ℕ) → step ≡ 95 ∷ [] → (is_ascii_digit c && not (c == 48)) ≡ true → IsCounted (step ++ c ∷ [])
 blank_counted step c e t =
     record { digits = c ∷ []; whole = ap (λ (l : List ℕ). l ++ c ∷ []) e; is_count = count_first c t; some = omega arith }
 
-counted_push : (step : List ℕ) (c : ℕ) → IsCounted step → is_ascii_digit c ≡ true → IsCounted (step ++ c ∷ [])
+pub counted_push : (step : List ℕ) (c : ℕ) → IsCounted step → is_ascii_digit c ≡ true → IsCounted (step ++ c ∷ [])
 counted_push step c h t =
     let some = h.some in
     record {
@@ -132,7 +132,7 @@ longer_holds n c step q h t e =
 
 -- ---- keys
 
-digits_push : (ds : List ℕ) (c : ℕ) → AreDigits ds → is_hex_digit c ≡ true → AreDigits (ds ++ c ∷ [])
+pub digits_push : (ds : List ℕ) (c : ℕ) → AreDigits ds → is_hex_digit c ≡ true → AreDigits (ds ++ c ∷ [])
 digits_push ds c h t i l = ⊎_elim
     (λ (b : i < length ds). ap (λ (x : ℕ). is_hex_digit x) (get_or_append_left ds (c ∷ []) 0 i b) ∙ h i b)
     (λ (b : length ds ≤ i).
@@ -260,13 +260,13 @@ pub record WholeStep (step : List ℕ) : Type 0 where
 as_name : (step : List ℕ) → IsName step → WholeStep step
 as_name step h = record { what = named step; is_step = h; text = refl }
 
-letters_name : (step : List ℕ) → IsLetters step → IsName step
+pub letters_name : (step : List ℕ) → IsLetters step → IsName step
 letters_name step h =
     let P : List ℕ → Type 0 = λ t. IsName t in
     let both = and_from (is_ascii_alphabetic h.first) (list_all is_name_byte h.later) h.letter h.are_name_bytes in
     subst P (sym h.whole) (or_left (is_ascii_alphabetic h.first && list_all is_name_byte h.later) ((h.first == 95) && is_count h.later) both)
 
-counted_name : (step : List ℕ) → IsCounted step → IsName step
+pub counted_name : (step : List ℕ) → IsCounted step → IsName step
 counted_name step h =
     let P : List ℕ → Type 0 = λ t. IsName t in
     subst P (sym h.whole) (or_right (is_ascii_alphabetic 95 && list_all is_name_byte h.digits) ((95 == 95) && is_count h.digits) h.is_count)
@@ -274,7 +274,7 @@ counted_name step h =
 closed_step : (step : List ℕ) → IsClosed step → WholeStep step
 closed_step step h = record { what = keyed h.key; is_step = h.are_few; text = h.whole }
 
-blank_name : (step : List ℕ) → step ≡ 95 ∷ [] → IsName step
+pub blank_name : (step : List ℕ) → step ≡ 95 ∷ [] → IsName step
 blank_name step h = let P : List ℕ → Type 0 = λ t. IsName t in subst P (sym h) refl
 
 number_step : (n : ℕ) (step : List ℕ) → n < 2 ^ 32 → step ≡ decimal n → WholeStep step
