@@ -1,0 +1,2 @@
+//! What holds of what a type spells.
+#![tactic(auto)]
