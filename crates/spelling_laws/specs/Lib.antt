@@ -1,7 +1,9 @@
+pub mod CompleteLaws
 pub mod EnterLaws
 pub mod FitLaws
 pub mod LeadsLaws
 pub mod ProperLaws
 pub mod RowLaws
+pub mod SolvingLaws
 pub mod SoundLaws
 pub mod StepLaws
