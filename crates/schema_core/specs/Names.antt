@@ -8,7 +8,7 @@ use Rattle.tlb_syntax.specs.Tree.{ItemView, SchemaView, implicit, check, explici
 use Rattle.kind_terms.specs.declared.kind.TermKind.{TermKind}
 use Rattle.kind_terms.specs.Words.{Word, is_among, width_in}
 use Rattle.kind_terms.specs.Words as words
-use Rattle.kind_terms.specs.Dictionaries.{hashmap, hashmap_e, of_type}
+use Rattle.kind_terms.specs.Dictionaries.{hashmap, hashmap_e, hashmap_node, of_type}
 use Rattle.kind_terms.specs.Params.{kinds}
 use Rattle.kind_terms.specs.Forms.{is_field_of_numbers}
 
@@ -98,6 +98,7 @@ type_called types x =
     (by_width (width_in words.bits x) bit_strings
     (if bytes_eq x hashmap then hashmap_type
     else if bytes_eq x hashmap_e then hashmap_e_type
+    else if bytes_eq x hashmap_node then no_type
     else declared_by (of_type types x))))
 
 -- the kinds of the parameters of a declared type
