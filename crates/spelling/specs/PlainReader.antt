@@ -3,8 +3,9 @@
 -- Source: as for what spells a value; the order of causes is this project's own.
 use Rattle.std.specs.Prelude.{ℕ, zero, suc, ◌+◌, ◌-◌, ◌*◌, ◌/◌, Bool, true, false, ◌&&◌, if◌then◌else◌, nat_lt, nat_eq, bytes_eq, ℤ, pos, negsuc, List, [], ◌∷◌, ◌++◌, length, take, drop, Option, Some, None, Result, Ok, Err}
 use Rattle.bit_slice.specs.Bits.{number_of, signed_number_of}
-use Rattle.nat_solver.specs.Number.{Expr, lit, var, sought, plus, times, Numbers, number_at, comparison, first_lacking, put, value}
-use Rattle.nat_solver.specs.Number as numbers
+use Rattle.nat_solver.specs.Number.{Expr, Numbers, comparison, solution}
+use Rattle.nat_solver.specs.declared.evaluate.NatError.{NatError}
+use Rattle.nat_solver.specs.declared.evaluate.NatError.TheVariants as why_not
 use Rattle.cell_nodes.specs.declared.tree.Tree.{Tree, out-Tree}
 use Rattle.cell_nodes.specs.declared.tree.Kind.{Kind}
 use Rattle.cell_nodes.specs.declared.tree.Kind.TheVariants.{Ordinary}
@@ -194,45 +195,19 @@ repeat R h (suc k) t q s = do
 
 -- ---- equations
 
-abbrev pub number_or_0 : Option ℕ → ℕ
-number_or_0 (Some n) = n
-number_or_0 None = 0
+-- a part without the unknown that has no value, exceeds 2^32 - 1; in an accepted schema every variable is set
+abbrev pub why_unsolved : NatError → Cause
+why_unsolved why_not.NoSolution = NoSolution
+why_unsolved why_not.Overflow = Overflow
+why_unsolved (why_not.Unknown v) = Overflow
 
--- the unknown's factor in a side, and what else the side adds up to, of any size
-abbrev pub factor : Expr → ℕ
-factor (lit n) = 0
-factor (var v) = 0
-factor (sought v) = 1
-factor (plus a b) = factor a + factor b
-factor (times k a) = k * factor a
+abbrev pub sought_or : Result ℕ NatError → Result ℕ Cause
+sought_or (Ok x) = Ok x
+sought_or (Err e) = Err (why_unsolved e)
 
-abbrev pub others : Expr → Numbers → ℕ
-others (lit n) env = n
-others (var v) env = number_or_0 (number_at env v)
-others (sought v) env = 0
-others (plus a b) env = others a env + others b env
-others (times k a) env = k * others a env
-
--- the one number that may solve the equation, whose unknown stands on one side
-abbrev pub proposed : Expr → Expr → Numbers → ℕ
-proposed a b env =
-    if nat_eq (factor a) 0 then (others a env - others b env) / factor b else (others b env - others a env) / factor a
-
-abbrev pub same_values : Option ℕ → Option ℕ → Bool
-same_values (Some m) (Some n) = nat_eq m n
-same_values (Some m) None = false
-same_values None n = false
-
-abbrev pub solving : Expr → Expr → Numbers → ℕ → Result ℕ Cause
-solving a b env x = if same_values (value (put x a) env) (value (put x b) env) then Ok x else Err NoSolution
-
--- the number that solves the equation; Overflow where a part without the unknown has no value
-abbrev pub solved : Option Expr → Expr → Expr → Numbers → Result ℕ Cause
-solved (Some e) a b env = Err Overflow
-solved None a b env = solving a b env (proposed a b env)
-
-abbrev pub solution : Expr → Expr → Numbers → Result ℕ Cause
-solution a b env = solved (first_lacking (numbers.parts a ++ numbers.parts b) env) a b env
+-- the number that solves an equation, or why there is none
+abbrev pub sought_number : Expr → Expr → Numbers → Result ℕ Cause
+sought_number a b env = sought_or (solution a b env)
 
 -- ---- records
 
@@ -251,7 +226,7 @@ step R h (check a op b i) scope q s = do
   if comparison op m n then Ok (record { gives = []; scope = scope; begun = q; left = s })
       else Err (stuck (item_of h i) Constraint)
 step R h (solve v a b i) scope q s = do
-  x ← told (item_of h i) (solution a b scope.numbers)
+  x ← told (item_of h i) (sought_number a b scope.numbers)
   Ok (record { gives = []; scope = with_number v x scope; begun = q; left = s })
 step R h (field x slot c t) scope q s = do
   v ← R (field_of h x) (at_field c t scope) q s

@@ -32,7 +32,7 @@ use Rattle.spelling.specs.Slices.{nothing, only_bits, only_ref, is_nothing, took
 use Rattle.spelling.specs.Goals.{Row, row, Goal, at_type, at_field, at_cell, Shape, typed, fields_here, fields_behind, left_out, as_cell, at_fields, behind, is_ref, shape_of}
 use Rattle.spelling.specs.Spells.{Spells, SpellsShape, Each, EachPair, Repeats, Fields, Meets, SpellsNumber, SpellsString, AtRow, SpellsRecord, SpellsDeclared, SpellsInner, SpellsAbsent, SpellsList, Holds, SpellsChild, SpellsRef, SpellsPruned, SpellsUnknown, SpellsRaw, SpellsRest, Contents, SpellsDict, SpellsDictE, no_entries, some_entries, next_bit, SpellsMap, free, IsRootOf, RootUnknown}
 use Rattle.spelling.specs.Places.{Spot, Place, start, item_of, field_of, result_of, at_root}
-use Rattle.spelling.specs.PlainReader.{◌>>=◌, Found, Reader, known, told, read_row, whole_of, ordinary_of, held, child_of, read_ref, read_cell, walked, leaf_values, read_dict, walk_cell, by_bit, turn, repeat, solution, Step, step, Got, read_fields, candidate, Choice, first, choose, after_tag, read_declared, read_type, read_shape, read_goal, reading, root_of, read_within}
+use Rattle.spelling.specs.PlainReader.{◌>>=◌, Found, Reader, known, told, read_row, whole_of, ordinary_of, held, child_of, read_ref, read_cell, walked, leaf_values, read_dict, walk_cell, by_bit, turn, repeat, sought_number, Step, step, Got, read_fields, candidate, Choice, first, choose, after_tag, read_declared, read_type, read_shape, read_goal, reading, root_of, read_within}
 use Rattle.spelling.specs.Acceptable.{IsAcceptable, Seeks}
 use Rattle.spelling.specs.Stuck.{Enters}
 use Rattle.spelling_laws.specs.StepLaws.{bind_on, known_on, told_on, walked_on, when_true, when_false, both_on}
@@ -41,7 +41,7 @@ use Rattle.spelling_laws.specs.LeadsLaws.{leads_hold}
 use Rattle.spelling_laws.specs.EnterLaws.{one_constructor}
 use Rattle.spelling_laws.specs.ProperLaws.{Proper, ProperShape, proper_behind, proper_shape}
 use Rattle.spelling_laws.specs.RowLaws.{row_fits, number_complete, string_complete}
-use Rattle.spelling_laws.specs.SolvingLaws.{solution_complete}
+use Rattle.spelling_laws.specs.SolvingLaws.{sought_complete}
 use Rattle.spelling_laws.specs.SoundLaws.{candidate_enters}
 
 -- a value is read where it is spelled so
@@ -99,7 +99,7 @@ fields_complete most mode schema R h (an_item (check a op b i) is) seeks vs done
 fields_complete most mode schema R h (an_item (solve v a b i) is) seeks vs done scope q s end after le f =
     let x : Step = record { gives = []; scope = with_number v f.0 scope; begun = q; left = s } in
     let one : step R h (solve v a b i) scope q s ≡ Ok x =
-    bind_on (told (item_of h i) (solution a b scope.numbers)) _ f.0 (Ok x) (told_on (item_of h i) (solution a b scope.numbers) f.0 (solution_complete a b scope.numbers v f.0 seeks.0 f.1)) refl in
+    bind_on (told (item_of h i) (sought_number a b scope.numbers)) _ f.0 (Ok x) (told_on (item_of h i) (sought_number a b scope.numbers) f.0 (sought_complete a b scope.numbers v f.0 seeks.0 f.1)) refl in
     bind_on (step R h (solve v a b i) scope q s) _ x (Ok (vs, end, after)) one
     (bind_on (read_fields R h is x.scope q s) _ (vs, end, after) (Ok (vs, end, after)) (fields_complete most mode schema R h is seeks.1 vs done x.scope q s end after le f.2) refl)
 fields_complete most mode schema R h (an_item (field y slot c t) is) seeks no_vals done scope q s end after le f = absurd f

@@ -36,12 +36,13 @@ use Rattle.spelling.specs.Slices.{nothing, only_bits, only_ref, is_nothing, took
 use Rattle.spelling.specs.Goals.{Row, natural, integer, string, no_row, row, Goal, at_type, at_field, at_cell, Shape, typed, fields_here, fields_behind, left_out, as_cell, at_fields, behind, is_ref, shape_of}
 use Rattle.spelling.specs.Spells.{SpellsNumber, SpellsString, Spells, SpellsShape, SpellsChild, SpellsPruned, Holds, IsRootOf, free, Each, EachPair, Contents, Repeats, Fields, no_entries, some_entries, next_bit}
 use Rattle.spelling.specs.Places.{Spot, start, item_of, field_of, result_of, at_root}
-use Rattle.spelling.specs.PlainReader.{prepend, Found, Reader, known, told, take_bits, number_value, natural_of, integer_of, read_row, whole_of, ordinary_of, held, child_of, read_ref, read_cell, walked, leaf_values, at_edge, read_dict, walk_cell, read_root, by_bit, turn, repeat, same_values, solving, solved, solution, proposed, Step, step, Got, read_fields, candidate, Choice, first, choose, after_tag, read_declared, read_type, read_shape, read_goal, reading, root_of, read_within}
+use Rattle.spelling.specs.PlainReader.{prepend, Found, Reader, known, told, take_bits, number_value, natural_of, integer_of, read_row, whole_of, ordinary_of, held, child_of, read_ref, read_cell, walked, leaf_values, at_edge, read_dict, walk_cell, read_root, by_bit, turn, repeat, sought_number, Step, step, Got, read_fields, candidate, Choice, first, choose, after_tag, read_declared, read_type, read_shape, read_goal, reading, root_of, read_within}
 use Rattle.spelling.specs.Stuck.{Enters}
 use Rattle.spelling.specs.declared.Cause.{Cause}
 use Rattle.spelling.specs.declared.Cause.TheVariants.{NoSolution}
 use Rattle.spelling_laws.specs.StepLaws.{bind_ok, guard_ok, only_ok, known_ok, told_ok, walked_ok, ok_one, both}
 use Rattle.spelling_laws.specs.FitLaws.{fit_sound}
+use Rattle.spelling_laws.specs.SolvingLaws.{sought_sound}
 
 -- ---- basic types
 
@@ -111,25 +112,6 @@ compares Le m n e = leb-true m n e
 compares Gt m n e = ltb-true n m e
 compares Ge m n e = leb-true n m e
 
-same_is : (l r : Option ℕ) → same_values l r ≡ true → (n : ℕ) × (l ≡ Some n) × (r ≡ Some n)
-same_is (Some m) (Some n) e = (m, refl, ap Some (sym (eqb-true m n e)))
-same_is (Some m) None e = cc
-same_is None r e = cc
-
-solving_sound : (a b : Expr) (env : Numbers) (y x : ℕ) → solving a b env y ≡ Ok x → Solves a b env x
-solving_sound a b env y x e = go (same_values (value (put y a) env) (value (put y b) env)) refl e
-  where
-    go : (t : Bool) → same_values (value (put y a) env) (value (put y b) env) ≡ t → (cond {A = Result ℕ Cause} t (Ok y) (Err NoSolution)) ≡ Ok x → Solves a b env x
-    go true h e = let same : y ≡ x = one y x e in subst (λ z. Solves a b env z) same (same_is (value (put y a) env) (value (put y b) env) h)
-      where
-        one : (m n : ℕ) → (◌≡◌ {A = Result ℕ Cause} (Ok m) (Ok n)) → m ≡ n
-        one m n e = cc
-    go false h e = cc
-
-solution_sound : (a b : Expr) (env : Numbers) (o : Option Expr) (x : ℕ) → solved o a b env ≡ Ok x → Solves a b env x
-solution_sound a b env (Some f) x e = cc
-solution_sound a b env None x e = solving_sound a b env (proposed a b env) x e
-
 -- ---- lists and records
 
 abbrev pub IsSound : Mode → CoreSchema → Reader → Type 0
@@ -163,10 +145,10 @@ step_sound mode schema R sound h (check a op b i) is scope q s x e =
     subst P (ok_one _ _ (Ok x) g.1) (λ vs end after more.
     (m.0, n.0, known_ok (item_of h i) (value_in a scope) m.0 m.1, known_ok (item_of h i) (value_in b scope) n.0 n.1, compares op m.0 n.0 g.0, more))
 step_sound mode schema R sound h (solve v a b i) is scope q s x e =
-    let y = bind_ok (told (item_of h i) (solution a b scope.numbers)) _ x e in
+    let y = bind_ok (told (item_of h i) (sought_number a b scope.numbers)) _ x e in
     let P : Step → Type 0 = Takes mode schema is (solve v a b i) scope s in
     subst P (ok_one _ _ (Ok x) y.2) (λ vs end after more.
-    (y.0, solution_sound a b scope.numbers (first_lacking (numbers.parts a ++ numbers.parts b) scope.numbers) y.0 (told_ok (item_of h i) (solution a b scope.numbers) y.0 y.1), more))
+    (y.0, sought_sound a b scope.numbers y.0 (told_ok (item_of h i) (sought_number a b scope.numbers) y.0 y.1), more))
 step_sound mode schema R sound h (field y slot c t) is scope q s x e =
     let v = bind_ok (R (field_of h y) (at_field c t scope) q s) _ x e in
     let P : Step → Type 0 = Takes mode schema is (field y slot c t) scope s in
