@@ -1,4 +1,5 @@
 pub mod CompleteLaws
+pub mod CountLaws
 pub mod EnterLaws
 pub mod FitLaws
 pub mod LeadsLaws
