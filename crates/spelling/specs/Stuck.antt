@@ -222,9 +222,12 @@ StuckWithin (suc n) most mode schema h g q s p =
 -- ---- the root
 
 -- a hidden root at a type that is itself a reference, or a root that isn't hidden and stops as the cell of a reference
-pub data Stuck (mode : Mode) (schema : CoreSchema) (t : Closed) (c : Tree) (p : Place) : Type 0 where
-  hidden_root : unseen mode c ≢ None → is_ref t ≡ true → p ≡ stuck at_root Exotic → Stuck mode schema t c p
+pub data StuckRoot (n most : ℕ) (mode : Mode) (schema : CoreSchema) (t : Closed) (c : Tree) (p : Place) : Type 0 where
+  hidden_root : unseen mode c ≢ None → is_ref t ≡ true → p ≡ stuck at_root Exotic
+      → StuckRoot n most mode schema t c p
   open_root : unseen mode c ≡ None
-      → StopsHeld (StuckWithin most_levels most_parts mode schema) (Within most_levels most_parts mode schema) at_root
-      (behind t) 0 c p
-      → Stuck mode schema t c p
+      → StopsHeld (StuckWithin n most mode schema) (Within n most mode schema) at_root (behind t) 0 c p
+      → StuckRoot n most mode schema t c p
+
+abbrev pub Stuck : Mode → CoreSchema → Closed → Tree → Place → Type 0
+Stuck mode schema t c p = StuckRoot most_levels most_parts mode schema t c p

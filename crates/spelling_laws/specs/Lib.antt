@@ -4,7 +4,9 @@ pub mod EnterLaws
 pub mod FitLaws
 pub mod LeadsLaws
 pub mod ProperLaws
+pub mod RefusedLaws
 pub mod RowLaws
 pub mod SolvingLaws
 pub mod SoundLaws
+pub mod StandsLaws
 pub mod StepLaws

@@ -105,7 +105,7 @@ basic_sound mode schema h t s x e = of_row mode schema t x.0 s x.1 x.2 (row_soun
 
 -- ---- equations and comparisons
 
-compares : (op : Op) (m n : ℕ) → comparison op m n ≡ true → Compares op m n
+pub compares : (op : Op) (m n : ℕ) → comparison op m n ≡ true → Compares op m n
 compares Eq m n e = eqb-true m n e
 compares Lt m n e = ltb-true m n e
 compares Le m n e = leb-true m n e
