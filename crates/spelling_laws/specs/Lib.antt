@@ -2,7 +2,9 @@ pub mod CompleteLaws
 pub mod CountLaws
 pub mod EnterLaws
 pub mod FitLaws
+pub mod Laws
 pub mod LeadsLaws
+pub mod OutcomeLaws
 pub mod ProperLaws
 pub mod RefusedLaws
 pub mod RowLaws

@@ -1,2 +1,4 @@
-//! What holds of what a type spells.
+//! What holds of spelling: the plain reader is exact, and each root has one reading or is stuck at one place.
 #![tactic(auto)]
+
+pub mod laws;
