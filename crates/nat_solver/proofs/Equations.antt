@@ -1,66 +1,55 @@
 -- Equations: which side holds the unknown, and what solves them.
-use Rattle.std.proofs.Common.{◌≡◌, ◌↔◌, ℕ, List, [], ◌∷◌, ◌++◌, Option, Some, None, Result, Ok, Err, Bool, true, false, refl, sym, ap, ◌∙◌, subst}
+use Rattle.std.proofs.Common.{◌≡◌, ◌↔◌, ℕ, List, [], ◌∷◌, ◌++◌, Option, Some, None, Result, Ok, Err, false, refl, sym, ap, ◌∙◌, subst}
 use Rattle.std.specs.Option.{ok_or}
-use Rattle.nat_solver.specs.Number.{Expr, lit, var, sought, plus, times, Numbers, value, parts, unknowns, cancelled, is_empty, lacks, first_lacking, put, Solves, OneUnknown}
+use Rattle.nat_solver.specs.Number.{Expr, Numbers, value, parts, unknowns, cancelled, is_empty, first_lacking, put, Solves, OneUnknown, solution}
 use Rattle.nat_solver.specs.Plain.{known_number}
 use Rattle.nat_solver.specs.declared.evaluate.NatError.{NatError}
 use Rattle.nat_solver.specs.declared.evaluate.NatError.TheVariants.{NoSolution}
-use Rattle.nat_solver.proofs.Values.{sum_parts, times_parts, none_append, alone_has, valued_has, unknown_has, Refused, refused_left, refused_right, refused_not_unsolved, Judged, judged_as, judged_none, Tells, tells_given, tells_unsolved, tells_refused}
-use Rattle.nat_solver.proofs.Solving.{put_known, empty_is, Holder, none_refused, append_nil, nil_left, nil_right}
-
--- where some number for the unknown gives a value, no part without the unknown lacks one
-part_has : (x : ℕ) (e : Expr) (env : Numbers) (n : ℕ) → value (put x e) env ≡ Some n → lacks env e ≡ false
-part_has x e env n v = cases (is_empty (unknowns e)) refl
-  where
-    cases : (b : Bool) → is_empty (unknowns e) ≡ b → lacks env e ≡ false
-    cases true is = valued_has e env n (sym (ap (λ f. value f env) (put_known x e (empty_is (unknowns e) is))) ∙ v)
-    cases false is = unknown_has e env is
-
-none_from_put : (x : ℕ) (e : Expr) (env : Numbers) (n : ℕ) → value (put x e) env ≡ Some n → first_lacking (parts e) env ≡ None
-none_from_put x (lit m) env n v = alone_has (lit m) env (part_has x (lit m) env n v)
-none_from_put x (var w) env n v = alone_has (var w) env (part_has x (var w) env n v)
-none_from_put x (sought w) env n v = alone_has (sought w) env (part_has x (sought w) env n v)
-none_from_put x (plus a b) env n v =
-    let p = sum_parts (value (put x a) env) (value (put x b) env) n v in
-    none_append (parts a) (parts b ++ (plus a b ∷ [])) env (none_from_put x a env p.left p.left_is)
-    ∙ none_append (parts b) (plus a b ∷ []) env (none_from_put x b env p.right p.right_is)
-    ∙ alone_has (plus a b) env (part_has x (plus a b) env n v)
-none_from_put x (times k a) env n v =
-    let p = times_parts k (value (put x a) env) n v in
-    none_append (parts a) (times k a ∷ []) env (none_from_put x a env p.factor p.factor_is)
-    ∙ alone_has (times k a) env (part_has x (times k a) env n v)
-
-none_from_solved : (left right : Expr) (env : Numbers) (x : ℕ) → Solves left right env x → first_lacking (parts left ++ parts right) env ≡ None
-none_from_solved left right env x s =
-    none_append (parts left) (parts right) env (none_from_put x left env s.0 s.1) ∙ none_from_put x right env s.0 s.2
+use Rattle.nat_solver.proofs.Values.{none_append, Refused, refused_left, refused_right, refused_not_unsolved, Judged, judged_as, judged_none, Tells, tells_given, tells_unsolved, tells_refused, refusal_is}
+use Rattle.nat_solver.specs.SolutionLaws.{none_from_solved, solution_complete, solution_none, solution_first}
+use Rattle.nat_solver.proofs.Solving.{put_known, Holder, none_refused, append_nil, nil_left, nil_right}
 
 -- the clauses of `solve`
 pub record SolvedBy (left right : Expr) (env : Numbers) (r : Result ℕ NatError) : Type 0 where
+  pub answer : r ≡ solution left right env
   pub solved : (x : ℕ) → (r ≡ Ok x) ↔ Solves left right env x
   pub tells : Tells {A = ℕ} (first_lacking (parts left ++ parts right) env) env r
   pub unsolved : (r ≡ Err NoSolution) ↔ ((first_lacking (parts left ++ parts right) env ≡ None) × ((x : ℕ) → Solves left right env x → ⊥))
+
+refused_solution : (left right : Expr) (env : Numbers) (f : NatError) → Refused (first_lacking (parts left ++ parts right) env) env f
+    → solution left right env ≡ Err f
+refused_solution left right env f r = cases (first_lacking (parts left ++ parts right) env) refl
+  where
+    cases : (o : Option Expr) → first_lacking (parts left ++ parts right) env ≡ o → solution left right env ≡ Err f
+    cases None is = absurd (none_refused f env _ is r)
+    cases (Some e) is =
+        let P : Option Expr → Type 0 = λ o. Refused o env f in
+        solution_first left right env e is ∙ ap Err (refusal_is f (Some e) env (subst P is r))
 
 pub solved_refused : (left right : Expr) (env : Numbers) (f : NatError) → Refused (first_lacking (parts left ++ parts right) env) env f → SolvedBy left right env (Err f)
 solved_refused left right env f r =
     let first = first_lacking (parts left ++ parts right) env in
     record {
+      answer = sym (refused_solution left right env f r);
       solved = λ x. (λ e. cc, λ s. absurd (none_refused f env first (none_from_solved left right env x s) r));
       tells = tells_refused {A = ℕ} first env f r;
       unsolved = (λ e. absurd (refused_not_unsolved {A = ℕ} f first env r e), λ h. absurd (none_refused f env first h.0 r));
     }
 
-pub solved_found : (left right : Expr) (env : Numbers) (found : Option ℕ) (r : Result ℕ NatError) → first_lacking (parts left ++ parts right) env ≡ None → ((x : ℕ) → (found ≡ Some x) ↔ Solves left right env x)
+pub solved_found : (left right : Expr) (env : Numbers) (v : ℕ) → OneUnknown left right v → (found : Option ℕ) (r : Result ℕ NatError) → first_lacking (parts left ++ parts right) env ≡ None → ((x : ℕ) → (found ≡ Some x) ↔ Solves left right env x)
     → r ≡ ok_or found NoSolution → SolvedBy left right env r
-solved_found left right env (Some y) r none gives is =
+solved_found left right env v one (Some y) r none gives is =
     let P : Result ℕ NatError → Type 0 = SolvedBy left right env in
     subst P (sym is) (record {
+      answer = sym (solution_complete left right env v y one ((gives y).0 refl));
       solved = λ x. (λ e. let s : y ≡ x = cc in (gives x).0 (ap Some s), λ s. let e : Some y ≡ Some x = (gives x).1 s in let t : y ≡ x = cc in ap Ok t);
       tells = tells_given {A = ℕ} (first_lacking (parts left ++ parts right) env) env y none;
       unsolved = (λ e. cc, λ h. absurd (h.1 y ((gives y).0 refl)));
     })
-solved_found left right env None r none gives is =
+solved_found left right env v one None r none gives is =
     let P : Result ℕ NatError → Type 0 = SolvedBy left right env in
     subst P (sym is) (record {
+      answer = sym (solution_none left right env none (λ x s. let t : None ≡ Some x = (gives x).1 s in cc));
       solved = λ x. (λ e. cc, λ s. let e : None ≡ Some x = (gives x).1 s in cc);
       tells = tells_unsolved {A = ℕ} (first_lacking (parts left ++ parts right) env) env none;
       unsolved = (λ e. (none, λ x s. let t : None ≡ Some x = (gives x).1 s in cc), λ h. refl);

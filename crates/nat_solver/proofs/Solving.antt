@@ -3,14 +3,15 @@ use Rattle.std.proofs.Common.{rules, ◌≡◌, ◌↔◌, ℕ, ◌+◌, ◌-◌
 use Rattle.std.proofs.lemmas.List.{at_drop_more}
 use Rattle.std.proofs.lemmas.Bool.{cases_lt, eq-eqb}
 use Rattle.std.proofs.Math.Nat.{mul-div_cancel_left, mul-mod_right}
-use Rattle.nat_solver.specs.Number.{Expr, lit, var, sought, plus, times, nested, sum_of, Numbers, number_at, within, within_any, sum_within, times_within, value, exact_sum, parts, unknowns, cancelled, is_empty, lacks, first_lacking, put}
-use Rattle.nat_solver.specs.Plain.{Known, known_number, unknowns_in, cancelled_in, AllValued, number_or_0, known_total, holder}
+use Rattle.nat_solver.specs.Number.{Expr, lit, var, sought, plus, times, nested, sum_of, Numbers, number_at, within, within_any, sum_within, times_within, value, exact_sum, parts, unknowns, cancelled, is_empty, lacks, first_lacking, put, number_or_0}
+use Rattle.nat_solver.specs.Plain.{Known, known_number, unknowns_in, cancelled_in, AllValued, known_total, holder}
 use Rattle.nat_solver.specs.declared.evaluate.NatError.{NatError}
 use Rattle.nat_solver.specs.declared.evaluate.NatError.TheVariants.{Overflow, Unknown, NoSolution}
 use Rattle.nat_solver.specs.Laws.{total}
 use Rattle.nat_solver.specs.View.{expr, exprs}
 use Rattle.nat_solver.specs.declared.expr.NatExpr.{NatExpr, Sum, Times}
 use Rattle.nat_solver.specs.declared.expr.NatExpr.TheFolds.{the_lemmas}
+pub use Rattle.nat_solver.specs.SolutionLaws.{nil_left, nil_right, append_nil, one_left, one_right, empty_is, put_known, counted}
 use Rattle.nat_solver.proofs.Values.{within_fits, within_over, within_some, sum_parts, times_parts, no_unknown_from_value, or_else, first_append, Judged, judged, judged_as, Refused}
 
 -- v occurs once, not under a factor 0, and the parts without it have values
@@ -25,33 +26,6 @@ pub record Holders (ts : List Expr) (env : Numbers) (v : ℕ) : Type 0 where
   pub counts : cancelled_in ts ≡ []
   pub valued : AllValued ts env
 
-pub nil_left : (xs ys : List ℕ) → xs ++ ys ≡ [] → xs ≡ []
-nil_left [] ys e = refl
-nil_left (x ∷ xs) ys e = cc
-
-pub nil_right : (xs ys : List ℕ) → xs ++ ys ≡ [] → ys ≡ []
-nil_right [] ys e = e
-nil_right (x ∷ xs) ys e = cc
-
-pub append_nil : (xs : List ℕ) → xs ++ [] ≡ xs
-append_nil [] = refl
-append_nil (x ∷ xs) = ap (λ ys. x ∷ ys) (append_nil xs)
-
--- a list of one is the first or the second part
-pub one_left : (xs ys : List ℕ) (v : ℕ) → xs ++ ys ≡ v ∷ [] → is_empty xs ≡ false → (xs ≡ v ∷ []) × (ys ≡ [])
-one_left [] ys v e f = cc
-one_left (x ∷ xs) ys v e f =
-    let t : xs ++ ys ≡ [] = cc in
-    let h : x ≡ v = cc in
-    (λ i. h i ∷ nil_left xs ys t i, nil_right xs ys t)
-
-pub one_right : (xs ys : List ℕ) (v : ℕ) → xs ++ ys ≡ v ∷ [] → xs ≡ [] → ys ≡ v ∷ []
-one_right xs ys v e n = sym (ap (λ zs. zs ++ ys) n) ∙ e
-
-pub empty_is : (xs : List ℕ) → is_empty xs ≡ true → xs ≡ []
-empty_is [] e = refl
-empty_is (x ∷ xs) e = cc
-
 none_left : (xs ys : List Expr) (env : Numbers) → first_lacking (xs ++ ys) env ≡ None → first_lacking xs env ≡ None
 none_left xs ys env e = cases (first_lacking xs env) (first_lacking ys env) (sym (first_append (lacks env) xs ys) ∙ e)
   where
@@ -65,14 +39,6 @@ none_right xs ys env e = cases (first_lacking xs env) (first_lacking ys env) (sy
     cases : (o p : Option Expr) → or_else o p ≡ None → p ≡ None
     cases None p h = h
     cases (Some x) p h = cc
-
--- without an unknown there is nothing to put
-pub put_known : (x : ℕ) (e : Expr) → unknowns e ≡ [] → put x e ≡ e
-put_known x (lit n) u = refl
-put_known x (var v) u = refl
-put_known x (sought v) u = cc
-put_known x (plus a b) u = λ i. plus (put_known x a (nil_left (unknowns a) (unknowns b) u) i) (put_known x b (nil_right (unknowns a) (unknowns b) u) i)
-put_known x (times k a) u = ap (times k) (put_known x a u)
 
 pub value_small : (e : Expr) (env : Numbers) (n : ℕ) → value e env ≡ Some n → n < 2 ^ 32
 value_small (lit m) env n v = let p = within_some m n v in omega (arith, p.0, p.1)
@@ -238,10 +204,6 @@ holder_first t ts env v some h = record {
 }
 
 -- a multiple
-pub counted : (b : Bool) (us cs : List ℕ) (v : ℕ) → us ≡ v ∷ [] → cond b us cs ≡ [] → (b ≡ false) × (cs ≡ [])
-counted true us cs v u c = cc
-counted false us cs v u c = (refl, c)
-
 pub holder_times : (k : ℕ) (a : Expr) (env : Numbers) (v : ℕ) → Holder (times k a) env v → Holder a env v
 holder_times k a env v h = record {
   only = h.only;

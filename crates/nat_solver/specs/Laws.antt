@@ -1,12 +1,26 @@
 -- What the laws say: facts about the definitions alone.
-use Rattle.std.specs.Prelude.{ℕ, ◌≡◌, ◌≢◌, ◌^◌, ◌<◌, ◌↔◌, List, [], ◌∷◌, Option, Some, length, slice_set}
+use Rattle.std.specs.Prelude.{ℕ, ◌≡◌, ◌≢◌, ◌^◌, ◌<◌, ◌↔◌, List, [], ◌∷◌, Option, Some, Ok, Err, length, slice_set}
 use Rattle.nat_solver.specs.Number.{Expr, Numbers, OneUnknown, Solves, value, number, number_at, parts, sum_of, exact_sum, within_any}
+use Rattle.nat_solver.specs.Number.{solution}
+use Rattle.nat_solver.specs.declared.evaluate.NatError.{NatError}
 use Rattle.nat_solver.specs.Pattern.{Fits}
 use Rattle.nat_solver.specs.declared.pattern.Pattern.{Pattern}
 
 -- two numbers that solve an equation are one
 abbrev pub OneSolution : Type 0
 OneSolution = (left right : Expr) (env : Numbers) (v x y : ℕ) → OneUnknown left right v → Solves left right env x → Solves left right env y → x ≡ y
+
+-- the solution of an equation with one unknown is what solves it
+abbrev pub SolutionSolves : Type 0
+SolutionSolves =
+    (left right : Expr) (env : Numbers) (v x : ℕ) → OneUnknown left right v
+    → (solution left right env ≡ Ok x) ↔ Solves left right env x
+
+-- and where it is refused, nothing does
+abbrev pub RefusedUnsolved : Type 0
+RefusedUnsolved =
+    (left right : Expr) (env : Numbers) (v x : ℕ) (f : NatError) → OneUnknown left right v
+    → solution left right env ≡ Err f → Solves left right env x → ⊥
 
 -- a pattern gives at most one number
 abbrev pub OneFit : Type 0

@@ -1,8 +1,8 @@
 -- Number expressions of a schema: what value they have, and which number solves an equation.
 -- Source: the TON documentation on the TL-B language (naturals in types, `{a = b}` and `~`).
-use Rattle.std.specs.Prelude.{ℕ, ◌≡◌, ◌+◌, ◌*◌, ◌^◌, ◌≤◌, ◌<◌, List, [], ◌∷◌, ◌++◌, Option, Some, None, Bool, true, false, ◌&&◌, if◌then◌else◌, nat_lt, nat_eq, nat_le, ◌↔◌, Result, Ok, Err, slice_get}
+use Rattle.std.specs.Prelude.{ℕ, ◌≡◌, ◌+◌, ◌-◌, ◌*◌, ◌/◌, ◌^◌, ◌≤◌, ◌<◌, List, [], ◌∷◌, ◌++◌, Option, Some, None, Bool, true, false, ◌&&◌, if◌then◌else◌, nat_lt, nat_eq, nat_le, ◌↔◌, Result, Ok, Err, slice_get}
 use Rattle.nat_solver.specs.declared.evaluate.NatError.{NatError}
-use Rattle.nat_solver.specs.declared.evaluate.NatError.TheVariants.{Overflow, Unknown}
+use Rattle.nat_solver.specs.declared.evaluate.NatError.TheVariants.{Overflow, Unknown, NoSolution}
 use Rattle.nat_solver.specs.declared.compare.Op.{Op}
 use Rattle.nat_solver.specs.declared.compare.Op.TheVariants.{Eq, Lt, Le, Gt, Ge}
 
@@ -190,3 +190,51 @@ put x (times k a) = times k (put x a)
 -- with x for the unknown both sides have values, and these are equal
 abbrev pub Solves : Expr → Expr → Numbers → ℕ → Type 0
 Solves left right env x = (n : ℕ) × (value (put x left) env ≡ Some n) × (value (put x right) env ≡ Some n)
+
+-- ---- the number that solves an equation
+
+abbrev pub number_or_0 : Option ℕ → ℕ
+number_or_0 (Some n) = n
+number_or_0 None = 0
+
+-- how often the unknown counts in an expression, and what its other parts add up to, however large
+abbrev pub factor : Expr → ℕ
+factor (lit n) = 0
+factor (var v) = 0
+factor (sought v) = 1
+factor (plus a b) = factor a + factor b
+factor (times k a) = k * factor a
+
+abbrev pub others : Expr → Numbers → ℕ
+others (lit n) env = n
+others (var v) env = number_or_0 (number_at env v)
+others (sought v) env = 0
+others (plus a b) env = others a env + others b env
+others (times k a) env = k * others a env
+
+-- the one number that may solve the equation, whose unknown stands on one side
+abbrev pub proposed : Expr → Expr → Numbers → ℕ
+proposed left right env =
+    if nat_eq (factor left) 0 then (others left env - others right env) / factor right
+    else (others right env - others left env) / factor left
+
+abbrev pub is_same_value : Option ℕ → Option ℕ → Bool
+is_same_value (Some m) (Some n) = nat_eq m n
+is_same_value (Some m) None = false
+is_same_value None n = false
+
+-- whether a number solves the equation
+abbrev pub is_solved_by : Expr → Expr → Numbers → ℕ → Bool
+is_solved_by left right env x = is_same_value (value (put x left) env) (value (put x right) env)
+
+abbrev pub solved_by : Expr → Expr → Numbers → ℕ → Result ℕ NatError
+solved_by left right env x = if is_solved_by left right env x then Ok x else Err NoSolution
+
+abbrev pub solved_unless : Option Expr → Expr → Expr → Numbers → Result ℕ NatError
+solved_unless None left right env = solved_by left right env (proposed left right env)
+solved_unless (Some e) left right env = Err (refusal (Some e) env)
+
+-- The number that solves an equation, or what is reported of its first part that has neither the unknown nor a value, or
+-- that no number solves it.
+abbrev pub solution : Expr → Expr → Numbers → Result ℕ NatError
+solution left right env = solved_unless (first_lacking (parts left ++ parts right) env) left right env

@@ -1,6 +1,6 @@
 -- What the program computes, part by part; proofs/ ties it to the definitions of Number.
 use Rattle.std.specs.Prelude.{ℕ, ◌≡◌, ◌+◌, ◌*◌, ◌^◌, List, [], ◌∷◌, ◌++◌, Option, Some, None, Bool, true, false, if◌then◌else◌, nat_lt, nat_eq, Result, Ok, Err}
-use Rattle.nat_solver.specs.Number.{Expr, lit, var, sought, plus, times, Numbers, number_at, value, unknowns, cancelled, first_lacking, parts, is_empty}
+use Rattle.nat_solver.specs.Number.{Expr, lit, var, sought, plus, times, Numbers, number_at, value, unknowns, cancelled, first_lacking, parts, is_empty, number_or_0}
 use Rattle.nat_solver.specs.declared.evaluate.NatError.{NatError}
 use Rattle.nat_solver.specs.declared.evaluate.NatError.TheVariants.{Overflow, Unknown}
 use Rattle.nat_solver.specs.declared.unknown.Occurrence.{Occurrence}
@@ -97,10 +97,6 @@ AllValued [] env = Unit {0}
 AllValued (t ∷ ts) env = (first_lacking (parts t) env ≡ None) × AllValued ts env
 
 -- the numbers of the terms without an unknown, added up
-abbrev pub number_or_0 : Option ℕ → ℕ
-number_or_0 (Some n) = n
-number_or_0 None = 0
-
 abbrev pub known_total : List Expr → Numbers → ℕ
 known_total [] env = 0
 known_total (t ∷ ts) env = number_or_0 (value t env) + known_total ts env

@@ -1,7 +1,7 @@
 ghost use Rattle.std.specs.Prelude.{◌≡◌, ◌↔◌, ◌++◌, ◌∷◌, [], ◌≤◌, ◌-◌, ℕ, Ok, Err, Some, None};
 ghost use Rattle.std.specs.Option.{SomeIff};
-ghost use Rattle.nat_solver.specs.Number.{cancelled, unknowns, value, put, parts, first_lacking, Exceeds, Unset, OneUnknown, Solves};
-ghost use Rattle.nat_solver.specs.Plain.{AllValued, cancelled_in, holder, known_total, number_or_0, unknowns_in};
+ghost use Rattle.nat_solver.specs.Number.{cancelled, unknowns, value, put, parts, first_lacking, Exceeds, Unset, OneUnknown, Solves, number_or_0, solution};
+ghost use Rattle.nat_solver.specs.Plain.{AllValued, cancelled_in, holder, known_total, unknowns_in};
 ghost use Rattle.nat_solver.specs.View.{expr, exprs};
 
 use crate::evaluate::{NatError, known};
@@ -14,6 +14,7 @@ use crate::unknown::has_unknown;
 /// The largest parts without the unknown are evaluated first, from left to right.
 pub fn solve(left: &NatExpr, right: &NatExpr, env: &Env) -> Result<u32, NatError>
     requires { (v : ℕ) × OneUnknown (expr left.now) (expr right.now) v }
+    ensures answer { result ≡ solution (expr left.now) (expr right.now) env.now }
     ensures solved { (x : ℕ) → (result ≡ Ok x) ↔ Solves (expr left.now) (expr right.now) env.now x }
     ensures overflow { (result ≡ Err NatError.Overflow) ↔ Exceeds (first_lacking (parts (expr left.now) ++ parts (expr right.now)) env.now) env.now }
     ensures unknown { (v : ℕ) → (result ≡ Err (NatError.Unknown v)) ↔ Unset (first_lacking (parts (expr left.now) ++ parts (expr right.now)) env.now) env.now v }

@@ -1,9 +1,20 @@
 //! What follows from the definitions alone.
 ghost use Rattle.nat_solver.specs.Laws.{OneFit, OneSolution, OthersStay, SetIsRead, SumIsTotal, ValueIsNumber};
+ghost use Rattle.nat_solver.specs.Laws.{RefusedUnsolved, SolutionSolves};
 
 /// At most one number solves an equation.
 pub fn one_solution()
     ensures { OneSolution }
+{}
+
+/// The solution of an equation with one unknown is the number that solves it.
+pub fn solution_solves()
+    ensures { SolutionSolves }
+{}
+
+/// Where the solution of such an equation is refused, no number solves it.
+pub fn refused_unsolved()
+    ensures { RefusedUnsolved }
 {}
 
 /// A pattern gives at most one number.

@@ -1,7 +1,7 @@
 ghost use Rattle.std.specs.Prelude.{◌≡◌, ◌<◌, None, Some, IfOk, length, replicate, slice_set};
 ghost use Rattle.nat_solver.specs.Number.{number_at};
 
-use std::alloc::Global;
+use std::alloc::{AllocError, Global};
 use std::marker::Model;
 use tlb_memory::NoMemory;
 
@@ -46,5 +46,23 @@ impl Env {
         ensures { self.new ≡ slice_set self.old v (Some x) }
     {
         self.slots[v as usize] = Some(x);
+    }
+
+    /// How many variables there is room for.
+    pub fn len(&self) -> usize
+        ensures { result ≡ length self.now }
+    {
+        self.slots.len()
+    }
+
+    /// The same numbers, to be set apart from these.
+    pub fn copy(&self, alloc: Global) -> Result<Env, NoMemory>
+        ensures { IfOk result (λ copied. copied ≡ self.now) }
+    {
+        let mut slots = Vec::new(alloc);
+        for slot in &self.slots {
+            slots.push(*slot).map_err(AllocError::from)?;
+        }
+        Ok(Env { slots })
     }
 }

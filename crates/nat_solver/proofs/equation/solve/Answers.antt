@@ -10,13 +10,13 @@ pub returns-in_err-left_number : goal.returns-in_err-left_number
 returns-in_err-left_number c =
     let p = err_from_is_err_and c.from_residual.result c.from_residual.ensures.1 in
     let w = refused_by_left (expr c.args.left.now) (expr c.args.right.now) c.args.env.now c.in_err-left_number.field-0.0 c.in_err-left_number.ensures in
-    rw (p.1, p.2) (record { solved = w.solved; overflow = w.tells.overflow; unknown = w.tells.unknown; unsolved = w.unsolved })
+    rw (p.1, p.2) (record { answer = w.answer; solved = w.solved; overflow = w.tells.overflow; unknown = w.tells.unknown; unsolved = w.unsolved })
 
 pub returns-in_err-right_number : goal.returns-in_err-right_number
 returns-in_err-right_number c =
     let p = err_from_is_err_and c.from_residual-in_err-right_number.result c.from_residual-in_err-right_number.ensures.1 in
     let w = refused_by_right (expr c.args.left.now) (expr c.args.right.now) c.args.env.now c.in_ok-left_number.left_number c.in_err-right_number.field-0.0 c.in_ok-left_number.ensures c.in_err-right_number.ensures in
-    rw (p.1, p.2) (record { solved = w.solved; overflow = w.tells.overflow; unknown = w.tells.unknown; unsolved = w.unsolved })
+    rw (p.1, p.2) (record { answer = w.answer; solved = w.solved; overflow = w.tells.overflow; unknown = w.tells.unknown; unsolved = w.unsolved })
 
 pub number_for-found-requires : goal.number_for-found-requires
 number_for-found-requires c =
@@ -49,6 +49,6 @@ returns c =
           (let s = solves_left left right env w.in-None-Some.n x (sym (ap Ok w.in-None-Some.is-1) ∙ c.in_ok-right_number.ensures) in
           (λ e. s.0 ((w.number_for-found-in-None-Some.ensures x).0 (sym w.found-is ∙ e)), λ h. w.found-is ∙ (w.number_for-found-in-None-Some.ensures x).1 (s.1 h)))
     ] in
-    let w = solved_found left right env c.match-left_number.found c.ok_or.result
+    let w = solved_found left right env c.requires.0 c.requires.1 c.match-left_number.found c.ok_or.result
     (none_lacks left right env c.in_ok-left_number.left_number c.in_ok-right_number.right_number c.in_ok-left_number.ensures c.in_ok-right_number.ensures) gives c.ok_or.ensures.value in
-    record { solved = w.solved; overflow = w.tells.overflow; unknown = w.tells.unknown; unsolved = w.unsolved }
+    record { answer = w.answer; solved = w.solved; overflow = w.tells.overflow; unknown = w.tells.unknown; unsolved = w.unsolved }

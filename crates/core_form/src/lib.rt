@@ -1,0 +1,2 @@
+//! The core form of a schema's constructors, in which no name is left to look up: definitions.
+#![tactic(auto)]
