@@ -1,8 +1,8 @@
-//! CRC-32C of messages whose sums RFC 3720 gives, and SHA-256 of representations by Python's hashlib.
+//! Sums that RFC 3720 and the catalogues of such sums give, and SHA-256 of representations by Python's hashlib.
 use crate::bits::bits;
 use cell_hash::{ChildMark, Content, descriptor, hash_parts};
 use std::alloc::Global;
-use tlb_sums::crc32c;
+use tlb_sums::{crc32, crc32c};
 
 /// Whether bytes have these lower-case hexadecimal digits.
 pub(crate) fn has_digits(alloc: Global, bytes: &[u8], digits: &str) -> bool {
@@ -14,7 +14,7 @@ pub(crate) fn has_digits(alloc: Global, bytes: &[u8], digits: &str) -> bool {
 
 // The check value of the catalogues of such sums, and four messages of RFC 3720, appendix B.4.
 #[test]
-fn known_messages_have_their_crc32c(rt: HostRuntime) {
+fn known_messages_have_their_sums(rt: HostRuntime) {
     let mut rising = [0u8; 32];
     let mut falling = [0u8; 32];
     for i in 0..32u8 {
@@ -22,6 +22,8 @@ fn known_messages_have_their_crc32c(rt: HostRuntime) {
         falling[i as usize] = 31 - i;
     }
     assert!(rt; crc32c(b"123456789") == 0xe306_9283 && crc32c(b"") == 0);
+    assert!(rt; crc32(b"123456789") == 0xcbf4_3926 && crc32(b"") == 0);
+    assert!(rt; crc32(b"a = A") == 0x7aae_25b9);
     assert!(rt; crc32c(&[0; 32]) == 0x8a91_36aa && crc32c(&[0xff; 32]) == 0x62a8_ab43);
     assert!(rt; crc32c(&rising) == 0x46dd_794e && crc32c(&falling) == 0x113f_db5c);
 }

@@ -38,6 +38,14 @@ crc32c_polynomial = 0x82F63B78
 unfoldable pub crc32c_of : List ℕ → ℕ
 crc32c_of message = crc_of crc32c_polynomial message
 
+-- the polynomial of CRC-32, 04C11DB7, reflected (IEEE 802.3, 3.2.9; RFC 1952, 8)
+abbrev pub crc32_polynomial : ℕ
+crc32_polynomial = 0xEDB88320
+
+-- CRC-32
+unfoldable pub crc32_of : List ℕ → ℕ
+crc32_of message = crc_of crc32_polynomial message
+
 -- what each byte, taken into an empty register, leaves there
 unfoldable pub table_of : ℕ → List ℕ
 table_of polynomial = map (λ byte. after_bits polynomial 0 (byte_bits byte)) (range_with_len 0 256)

@@ -4,4 +4,4 @@
 mod crc;
 mod tables;
 
-pub use crc::crc32c;
+pub use crc::{crc32, crc32c};
