@@ -1,7 +1,7 @@
 -- The plain reader: a value with its outputs and what is left, or the first place that is stuck.
 --
 -- Source: as for what spells a value; the order of causes is this project's own.
-use Rattle.std.specs.Prelude.{ℕ, zero, suc, ◌+◌, ◌-◌, ◌*◌, ◌/◌, Bool, true, false, ◌&&◌, if◌then◌else◌, nat_lt, nat_eq, bytes_eq, ℤ, pos, negsuc, List, [], ◌∷◌, ◌++◌, length, take, drop, Option, Some, None, Result, Ok, Err}
+use Rattle.std.specs.Prelude.{ℕ, zero, suc, ◌+◌, Bool, true, false, ◌&&◌, if◌then◌else◌, nat_lt, bytes_eq, ℤ, pos, negsuc, List, [], ◌∷◌, length, take, drop, Option, Some, None, Result, Ok, Err}
 use Rattle.bit_slice.specs.Bits.{number_of, signed_number_of}
 use Rattle.nat_solver.specs.Number.{Expr, Numbers, comparison, solution}
 use Rattle.nat_solver.specs.declared.evaluate.NatError.{NatError}

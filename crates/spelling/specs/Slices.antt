@@ -1,7 +1,7 @@
 -- Slices: what stands first in the rest of a cell, and what was taken of it.
 --
 -- Source: TVM whitepaper, section 3.1: a cell has bits and references.
-use Rattle.std.specs.Prelude.{◌≡◌, ℕ, Bool, ◌&&◌, ◌||◌, nat_lt, nat_eq, List, [], ◌∷◌, length}
+use Rattle.std.specs.Prelude.{ℕ, Bool, ◌&&◌, ◌||◌, nat_lt, nat_eq, List, [], ◌∷◌, length}
 use Rattle.cell_nodes.specs.declared.tree.Tree.{Tree}
 use Rattle.hashmap_tree.specs.Entries.{Slice}
 use Rattle.typed_value.specs.Values as values

@@ -1,7 +1,7 @@
 -- Where a reading stops: the parts before are spelled, and the place carries the first cause that holds.
 --
 -- Source: this project's own, over what spells a value.
-use Rattle.std.specs.Prelude.{ℕ, zero, suc, ◌+◌, ◌≡◌, ◌≢◌, ◌<◌, ◌≤◌, ◌⊎◌, true, false, List, [], ◌∷◌, ◌++◌, length, take, Option, Some, None, Result, Ok, Err, slice_get}
+use Rattle.std.specs.Prelude.{ℕ, zero, suc, ◌+◌, ◌≡◌, ◌≢◌, ◌<◌, ◌≤◌, ◌⊎◌, true, false, List, [], ◌∷◌, ◌++◌, length, take, Option, Some, None, Result, Ok, Err}
 use Rattle.bit_slice.specs.Bits.{number_of}
 use Rattle.nat_solver.specs.Number.{Expr, Compares, Solves, first_lacking}
 use Rattle.nat_solver.specs.Number as numbers

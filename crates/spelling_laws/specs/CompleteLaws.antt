@@ -1,22 +1,20 @@
 -- What is spelled so is read, where at most one constructor can be entered.
-use Rattle.std.proofs.Common.{◌≡◌, ℕ, zero, suc, ◌+◌, ◌<◌, ◌≤◌, max, Bool, true, false, cond, ◌&&◌, List, [], ◌∷◌, ◌++◌, length, drop, Option, Some, None, Result, Ok, Err, slice_get, refl, sym, ap, ◌∙◌, subst, arith, nat_lt, nat_eq, inl, inr}
+use Rattle.std.proofs.Common.{◌≡◌, ℕ, zero, suc, ◌+◌, ◌<◌, ◌≤◌, Bool, true, ◌&&◌, List, [], ◌∷◌, length, drop, Option, Some, None, Ok, slice_get, refl, sym, ap, ◌∙◌, arith, nat_lt, inl, inr}
 use Rattle.std.specs.Prelude.{bytes_eq}
 use Rattle.std.proofs.Math.Seq.{drop-append_seam}
 use Rattle.std.proofs.Math.Nat.{le-max_left, le-max_right}
-use Rattle.std.proofs.lemmas.Bool.{le-ltb, lt-ltb, eq-eqb, le-leb}
+use Rattle.std.proofs.lemmas.Bool.{lt-ltb, eq-eqb, le-leb}
 use Rattle.std.proofs.lemmas.Slice.Eq.{bytes_eq-Decides}
 use Rattle.nat_solver.specs.Number.{Compares, comparison}
 use Rattle.nat_solver.specs.declared.compare.Op.{Op}
 use Rattle.nat_solver.specs.declared.compare.Op.TheVariants.{Eq, Lt, Le, Gt, Ge}
 use Rattle.cell_nodes.specs.declared.tree.Tree.{Tree, out-Tree}
 use Rattle.cell_nodes.specs.declared.tree.Kind.{Kind}
-use Rattle.cell_nodes.specs.declared.tree.Kind.TheVariants.{Ordinary}
 use Rattle.cell_nodes.specs.declared.tree.Hidden.{Hidden}
 use Rattle.cell_nodes.specs.declared.tree.Mode.{Mode}
 use Rattle.hashmap_tree.specs.Entries.{Slice, content, cell_of, Then, Entries, pairs_in}
 use Rattle.hashmap_tree.specs.Dict.{unseen, Branch}
-use Rattle.hashmap_tree.specs.First.{at_leaf, at_fork, LeafEdge, Fork, first_edge}
-use Rattle.hashmap_tree.specs.Walk.{walk}
+use Rattle.hashmap_tree.specs.First.{at_leaf, at_fork, LeafEdge, first_edge}
 use Rattle.hashmap_tree.specs.CellLaws.{kind-cell_of, content-cell_of, seen-ordinary}
 use Rattle.hashmap_tree.specs.FirstLaws.{leaf_complete, fork_complete}
 use Rattle.hashmap_tree.specs.CompleteLaws.{branch_complete}
@@ -26,13 +24,12 @@ use Rattle.core_form.specs.Core.{Word, Items, no_items, an_item, check, solve, f
 use Rattle.core_form.specs.Closed.{Closed, ClosedArgs}
 use Rattle.core_form.specs.Closed as closed
 use Rattle.core_form.specs.Scope.{Scope, value_in, values_in, with_number, bind}
-use Rattle.core_form.specs.Fit.{fit}
 use Rattle.schema_leads.specs.Leads.{leads, some_begins}
-use Rattle.spelling.specs.Slices.{nothing, only_bits, only_ref, is_nothing, took, kept}
-use Rattle.spelling.specs.Goals.{Row, row, Goal, at_type, at_field, at_cell, Shape, typed, fields_here, fields_behind, left_out, as_cell, at_fields, behind, is_ref, shape_of}
-use Rattle.spelling.specs.Spells.{Spells, SpellsShape, Each, EachPair, Repeats, Fields, Meets, SpellsNumber, SpellsString, AtRow, SpellsRecord, SpellsDeclared, SpellsInner, SpellsAbsent, SpellsList, Holds, SpellsChild, SpellsRef, SpellsPruned, SpellsUnknown, SpellsRaw, SpellsRest, Contents, SpellsDict, SpellsDictE, no_entries, some_entries, next_bit, SpellsMap, free, IsRootOf, RootUnknown}
-use Rattle.spelling.specs.Places.{Spot, Place, start, item_of, field_of, result_of, at_root}
-use Rattle.spelling.specs.PlainReader.{◌>>=◌, Found, Reader, known, told, read_row, whole_of, ordinary_of, held, child_of, read_ref, read_cell, walked, leaf_values, read_dict, walk_cell, by_bit, turn, repeat, sought_number, Step, step, Got, read_fields, candidate, Choice, first, choose, after_tag, read_declared, read_type, read_shape, read_goal, reading, root_of, read_within}
+use Rattle.spelling.specs.Slices.{nothing, only_bits, only_ref, took}
+use Rattle.spelling.specs.Goals.{row, Goal, at_type, at_field, at_cell, Shape, typed, fields_here, fields_behind, left_out, as_cell, at_fields, behind, is_ref, shape_of}
+use Rattle.spelling.specs.Spells.{Spells, Each, EachPair, Repeats, Fields, SpellsNumber, SpellsString, AtRow, SpellsDeclared, SpellsInner, SpellsAbsent, SpellsList, Holds, SpellsChild, SpellsRef, SpellsPruned, SpellsUnknown, SpellsRaw, SpellsRest, Contents, SpellsDict, SpellsDictE, no_entries, some_entries, next_bit, SpellsMap, free, IsRootOf}
+use Rattle.spelling.specs.Places.{Spot, start, item_of, field_of, result_of, at_root}
+use Rattle.spelling.specs.PlainReader.{◌>>=◌, Found, Reader, known, told, whole_of, ordinary_of, held, child_of, read_ref, read_cell, walked, leaf_values, read_dict, walk_cell, by_bit, turn, repeat, sought_number, Step, step, read_fields, candidate, first, choose, after_tag, read_declared, read_type, read_shape, read_goal, reading, root_of, read_within}
 use Rattle.spelling.specs.Acceptable.{IsAcceptable, Seeks}
 use Rattle.spelling.specs.Stuck.{Enters}
 use Rattle.spelling_laws.specs.StepLaws.{bind_on, known_on, told_on, walked_on, when_true, when_false, both_on}

@@ -1,5 +1,5 @@
 -- What the laws say: facts about the definitions alone.
-use Rattle.std.specs.Prelude.{◌≡◌, ◌⊎◌, ◌↔◌, ℕ, List, true, Ok, Err, slice_get}
+use Rattle.std.specs.Prelude.{◌≡◌, ◌⊎◌, ◌↔◌, ℕ, List, true, Ok, Err}
 use Rattle.cell_nodes.specs.declared.tree.Mode.{Mode}
 use Rattle.cell_nodes.specs.declared.tree.Tree.{Tree}
 use Rattle.hashmap_tree.specs.Entries.{Slice}

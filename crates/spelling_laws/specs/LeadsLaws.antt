@@ -1,8 +1,8 @@
 -- Where a constructor spells, one of its leads begins the bits.
-use Rattle.std.proofs.Common.{◌≡◌, ℕ, zero, suc, Bool, true, false, cond, ◌&&◌, ◌||◌, List, [], ◌∷◌, ◌++◌, map, filter, length, Option, Some, None, Result, Ok, Err, slice_get, refl, sym, ap, ◌∙◌, subst, ◌⊎◌, inl, inr, nat_lt, nat_le, nat_eq}
+use Rattle.std.proofs.Common.{◌≡◌, ℕ, zero, suc, Bool, true, false, cond, ◌||◌, List, [], ◌∷◌, ◌++◌, length, Option, Some, None, Result, Ok, Err, slice_get, refl, sym, ap, ◌∙◌, subst, ◌⊎◌, inl, inr, nat_lt, nat_le, nat_eq}
 use Rattle.std.specs.Prelude.{bytes_eq}
 use Rattle.std.specs.List.{flat_map, list_any}
-use Rattle.std.proofs.lemmas.Bool.{eqb-true, eq-eqb}
+use Rattle.std.proofs.lemmas.Bool.{eq-eqb}
 use Rattle.std.proofs.lemmas.Slice.Eq.{bytes_eq-Decides}
 use Rattle.bit_slice.specs.Bits.{bit_length}
 use Rattle.hashmap_labels.specs.Labels.{IsForm, IsLabel}
@@ -19,15 +19,15 @@ use Rattle.core_form.specs.Core as core
 use Rattle.core_form.specs.Closed.{Closed, ClosedArgs, nodes}
 use Rattle.core_form.specs.Closed as closed
 use Rattle.core_form.specs.Closing.{bounded, of_args, of_both, closing, closing_args, big_type}
-use Rattle.core_form.specs.Scope.{Scope, value_in, with_number, bind}
-use Rattle.schema_leads.specs.Leads.{begins, Leads, First, anything, fixed, declared, hashmap_leads, hashmap_e_leads, first_of_type, first_of, with_lead, with_leads, at_most_64, any_bits, by_first, by_tag, of_declaration, of_type_named, together, type_count, rounds, type_leads, leads, some_begins}
-use Rattle.schema_leads.specs.FirstFields.{IsDeclared, BeginsWithType, Chain}
-use Rattle.spelling.specs.Goals.{Shape, typed, fields_here, at_field, typed_or, laid, judged, shape_of}
-use Rattle.spelling.specs.Spells.{Spells, SpellsShape, SpellsDeclared, Each, EachPair, Fields, no_entries, some_entries}
+use Rattle.core_form.specs.Scope.{Scope, value_in, with_number}
+use Rattle.schema_leads.specs.Leads.{begins, Leads, First, anything, fixed, declared, hashmap_leads, hashmap_e_leads, first_of_type, first_of, with_lead, with_leads, at_most_64, any_bits, by_first, by_tag, of_declaration, of_type_named, together, type_count, rounds, leads, some_begins}
+use Rattle.schema_leads.specs.FirstFields.{IsDeclared, Chain}
+use Rattle.spelling.specs.Goals.{Shape, typed, fields_here, typed_or, laid, judged}
+use Rattle.spelling.specs.Spells.{SpellsShape, SpellsDeclared, Each, Fields, no_entries, some_entries}
 use Rattle.spelling.specs.Acceptable.{IsAcceptable}
 use Rattle.spelling.specs.declared.Cause.{Cause}
-use Rattle.spelling.specs.declared.Cause.TheVariants.{BigType, Width}
-use Rattle.spelling_laws.specs.StepLaws.{both, both_on}
+use Rattle.spelling.specs.declared.Cause.TheVariants.{Width}
+use Rattle.spelling_laws.specs.StepLaws.{both_on}
 
 abbrev Has : Leads → List ℕ → Type 0
 Has ls bits = some_begins ls bits ≡ true

@@ -2,18 +2,16 @@
 use Rattle.std.proofs.Common.{◌≡◌, ℕ, ◌+◌, ◌≤◌, max, List, Result, Ok, Err, refl, sym, ◌∙◌, ◌⊎◌, inl, inr, arith, lit<}
 use Rattle.std.proofs.Math.Nat.{le-max_left, le-max_right}
 use Rattle.cell_nodes.specs.declared.tree.Mode.{Mode}
-use Rattle.cell_nodes.specs.declared.tree.Tree.{Tree}
 use Rattle.hashmap_tree.specs.Entries.{Slice}
 use Rattle.typed_value.specs.Values.{Plain, levels, parts, most_levels, most_parts}
 use Rattle.core_form.specs.Core.{CoreSchema}
-use Rattle.core_form.specs.Closed.{Closed}
 use Rattle.spelling.specs.Acceptable.{IsAcceptable}
 use Rattle.spelling.specs.Goals.{Goal, at_type}
 use Rattle.spelling.specs.Spells.{Spells, Reading}
 use Rattle.spelling.specs.Places.{Place, at_root}
 use Rattle.spelling.specs.PlainReader.{Found, read}
 use Rattle.spelling.specs.Stuck.{Stuck}
-use Rattle.spelling_laws.specs.Laws.{ReaderIsSound, ReaderIsComplete, ReaderStops, StuckStops, IsExact, ReadIsExact, OneSpelling, ExactlyOne, ReadOrStuck}
+use Rattle.spelling_laws.specs.Laws.{ReaderIsSound, ReaderIsComplete, ReaderStops, StuckStops, ReadIsExact, OneSpelling, ReadOrStuck}
 use Rattle.spelling_laws.specs.ProperLaws.{Proper}
 use Rattle.spelling_laws.specs.SoundLaws.{root_spelled}
 use Rattle.spelling_laws.specs.CountLaws.{root_counted_at}

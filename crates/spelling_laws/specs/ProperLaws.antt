@@ -1,12 +1,12 @@
 -- Goals whose equations, and those of the records in them, seek their one unknown.
-use Rattle.std.proofs.Common.{◌≡◌, ℕ, Bool, true, false, cond, List, [], ◌∷◌, Option, Some, None, Result, Ok, Err, refl, subst}
+use Rattle.std.proofs.Common.{◌≡◌, ℕ, Bool, true, false, cond, Option, Some, None, Result, Ok, Err, refl, subst}
 use Rattle.core_form.specs.Core.{Ty, Items, Condition}
 use Rattle.core_form.specs.Core as core
 use Rattle.core_form.specs.Closed.{Closed}
 use Rattle.core_form.specs.Closed as closed
-use Rattle.core_form.specs.Closing.{Refusal, overflow, big_type, close}
+use Rattle.core_form.specs.Closing.{Refusal, close}
 use Rattle.core_form.specs.Scope.{Scope, value_in}
-use Rattle.spelling.specs.Goals.{Goal, at_type, at_field, at_cell, Shape, typed, fields_here, fields_behind, left_out, as_cell, behind, typed_or, laid, in_table, in_width, judged, passes, tested, conditional, shape_of}
+use Rattle.spelling.specs.Goals.{Goal, at_type, at_field, at_cell, Shape, typed, fields_here, fields_behind, left_out, as_cell, behind, typed_or, laid, in_table, in_width, judged, passes, tested, shape_of}
 use Rattle.spelling.specs.Acceptable.{Seeks, SeeksIn}
 use Rattle.spelling.specs.declared.Cause.{Cause}
 use Rattle.spelling.specs.declared.Cause.TheVariants.{Width}

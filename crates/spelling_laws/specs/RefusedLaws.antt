@@ -1,17 +1,16 @@
 -- Where the plain reader stops a reading is stuck, at that very place.
-use Rattle.std.proofs.Common.{◌≡◌, ◌≢◌, ℕ, zero, suc, ◌+◌, ◌<◌, ◌^◌, Bool, true, false, cond, List, [], ◌∷◌, ◌++◌, length, take, drop, Option, Some, None, Result, Ok, Err, slice_get, refl, sym, ap, ◌∙◌, subst, ◌⊎◌, inl, inr, arith, nat_lt, nat_le}
-use Rattle.std.specs.Prelude.{ℤ}
+use Rattle.std.proofs.Common.{◌≡◌, ◌≢◌, ℕ, zero, suc, ◌+◌, ◌^◌, Bool, true, false, cond, List, [], ◌∷◌, length, take, drop, Option, Some, None, Result, Ok, Err, slice_get, refl, sym, ap, ◌∙◌, subst, inl, inr, arith, nat_lt, nat_le}
 use Rattle.std.proofs.lemmas.Bool.{ltb-true, ltb-false}
 use Rattle.bit_slice.specs.Bits.{number_of, signed_number_of}
-use Rattle.nat_solver.specs.Number.{Expr, Numbers, Compares, comparison, Solves, first_lacking, parts as number_parts}
+use Rattle.nat_solver.specs.Number.{Expr, comparison}
 use Rattle.cell_nodes.specs.declared.tree.Tree.{Tree, out-Tree}
 use Rattle.cell_nodes.specs.declared.tree.Kind.{Kind}
 use Rattle.cell_nodes.specs.declared.tree.Kind.TheVariants.{Ordinary, Pruned, Library, Proof, Update}
 use Rattle.cell_nodes.specs.declared.tree.Hidden.{Hidden}
 use Rattle.cell_nodes.specs.declared.tree.Mode.{Mode}
 use Rattle.hashmap_labels.specs.Reading.{are_bits}
-use Rattle.hashmap_tree.specs.Entries.{Slice, content, Entries, pairs_in}
-use Rattle.hashmap_tree.specs.Dict.{unseen, Branch}
+use Rattle.hashmap_tree.specs.Entries.{Slice, content, pairs_in}
+use Rattle.hashmap_tree.specs.Dict.{unseen}
 use Rattle.hashmap_tree.specs.First.{Edge, at_leaf, at_fork, IsEdge, first_edge}
 use Rattle.hashmap_tree.specs.Halts.{HaltsBranch}
 use Rattle.hashmap_tree.specs.Walk.{Fault, walk}
@@ -23,16 +22,16 @@ use Rattle.core_form.specs.Core.{Word, Items, no_items, an_item, check, solve, f
 use Rattle.core_form.specs.Closed.{Closed, ClosedArgs}
 use Rattle.core_form.specs.Closed as closed
 use Rattle.core_form.specs.Scope.{Scope, value_in, values_in, with_number, bind}
-use Rattle.spelling.specs.Slices.{nothing, only_bits, only_ref, is_nothing, took}
+use Rattle.spelling.specs.Slices.{nothing, only_ref, is_nothing, took}
 use Rattle.spelling.specs.Goals.{Row, natural, integer, string, no_row, row, Goal, at_type, at_field, at_cell, Shape, typed, fields_here, fields_behind, left_out, as_cell, at_fields, behind, is_ref, shape_of}
 use Rattle.spelling.specs.Spells.{own, next_bit}
 use Rattle.spelling.specs.Places.{Spot, Place, stuck, start, item_of, field_of, result_of, at_root}
-use Rattle.spelling.specs.PlainReader.{◌>>=◌, prepend, Found, Reader, known, told, take_bits, number_value, natural_of, integer_of, read_row, whole_of, ordinary_of, held, child_of, read_ref, read_cell, walked, leaf_values, at_edge, read_dict, walk_cell, read_root, by_bit, turn, repeat, sought_number, Step, step, Got, read_fields, candidate, Choice, first, choose, after_tag, read_declared, read_type, read_shape, read_goal, reading, root_of, read_within}
+use Rattle.spelling.specs.PlainReader.{◌>>=◌, prepend, Found, Reader, known, told, number_value, natural_of, integer_of, read_row, whole_of, ordinary_of, held, child_of, read_ref, read_cell, walked, leaf_values, at_edge, read_dict, walk_cell, read_root, by_bit, turn, repeat, sought_number, Step, step, Got, read_fields, candidate, Choice, first, choose, after_tag, read_declared, read_type, read_shape, reading, root_of, read_within}
 use Rattle.spelling.specs.Acceptable.{IsAcceptable, Seeks}
-use Rattle.spelling.specs.Stuck.{Stops, Parts, LacksBits, IsTooGreat, StopsRow, StopsWhole, within, over, StopsOrdinary, exotic, inside, StopsHeld, StopsRef, no_ref, child, StopsLeaves, StopsDict, in_edges, in_leaf, in_values, StopsDictE, no_bit, no_root, root_edges, root_values, StopsTurn, this, idle, later, StopsRepeat, StopsPair, StopsSolve, too_great, unsolved, onward, StopsField, StopsFields, Enters, NoEnd, StopsResult, StopsDeclared, none_fits, entered, StopsType, StopsShape, Within, StuckWithin, StuckRoot, hidden_root, open_root}
+use Rattle.spelling.specs.Stuck.{Stops, Parts, StopsRow, StopsWhole, within, over, StopsOrdinary, exotic, inside, StopsHeld, StopsRef, no_ref, child, StopsLeaves, StopsDict, in_edges, in_leaf, in_values, StopsDictE, no_bit, no_root, root_edges, root_values, StopsTurn, this, idle, later, StopsRepeat, StopsPair, StopsSolve, too_great, unsolved, onward, StopsFields, NoEnd, StopsResult, StopsDeclared, none_fits, entered, StopsType, StopsShape, Within, StuckWithin, StuckRoot, hidden_root, open_root}
 use Rattle.spelling.specs.declared.Cause.{Cause}
-use Rattle.spelling.specs.declared.Cause.TheVariants.{Overflow, ShortBits, ShortRefs, OutOfRange, Idle, Exotic, Leftover}
-use Rattle.spelling_laws.specs.StepLaws.{bind_ok, bind_err, guard_err, only_ok, only_err, test_err, ok_one, err_one, ok_err, known_ok, known_err, told_ok, told_err, walked_ok, walked_err, step_then}
+use Rattle.spelling.specs.declared.Cause.TheVariants.{ShortBits, ShortRefs, OutOfRange, Idle, Exotic, Leftover}
+use Rattle.spelling_laws.specs.StepLaws.{bind_ok, bind_err, only_ok, only_err, test_err, ok_one, err_one, ok_err, known_ok, known_err, told_ok, told_err, walked_ok, walked_err, step_then}
 use Rattle.spelling_laws.specs.ProperLaws.{Proper, ProperShape, proper_behind, proper_shape}
 use Rattle.spelling_laws.specs.SolvingLaws.{Unsolved, sought_sound, sought_refused}
 use Rattle.spelling_laws.specs.SolvingLaws as solving

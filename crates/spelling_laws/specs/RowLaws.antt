@@ -1,9 +1,9 @@
 -- What is spelled at a basic type is read.
-use Rattle.std.proofs.Common.{◌≡◌, ℕ, zero, suc, ◌+◌, ◌-◌, ◌<◌, ◌≤◌, ◌^◌, Bool, true, false, cond, List, [], ◌∷◌, ◌++◌, length, take, drop, length-append, Option, Some, None, Result, Ok, Err, refl, sym, ap, ◌∙◌, subst, arith, nat_lt, nat_le}
+use Rattle.std.proofs.Common.{◌≡◌, ℕ, zero, suc, ◌-◌, ◌<◌, ◌≤◌, ◌^◌, Bool, true, false, cond, List, [], ◌++◌, length, take, drop, length-append, Some, Ok, sym, ap, ◌∙◌, arith, nat_lt, nat_le}
 use Rattle.std.specs.Prelude.{ℤ, pos, negsuc}
 use Rattle.std.proofs.Math.Seq.{take-append_seam, drop-append_seam}
 use Rattle.std.proofs.lemmas.Bool.{le-ltb, lt-ltb}
-use Rattle.bit_slice.specs.Bits.{number_of, spelled, bit_length, signed_number_of, signed_spelled, InSignedRange, twos_complement}
+use Rattle.bit_slice.specs.Bits.{number_of, spelled, signed_number_of, signed_spelled, InSignedRange, twos_complement}
 use Rattle.bit_slice.specs.BitLists.{length-spelled, number_of-spelled, AreBits-spelled}
 use Rattle.bit_slice.specs.BitLengths.{bit_length-below}
 use Rattle.bit_slice.specs.SignedLists.{signed_number_of-spelled}
@@ -16,9 +16,8 @@ use Rattle.core_form.specs.Closed as closed
 use Rattle.spelling.specs.Slices.{only_bits}
 use Rattle.spelling.specs.Goals.{Row, natural, integer, string, no_row, row}
 use Rattle.spelling.specs.Spells.{own, integer_of, SpellsNumber, SpellsString}
-use Rattle.spelling.specs.Places.{Spot, Place}
-use Rattle.spelling.specs.PlainReader.{Found, take_bits, number_value, natural_of, read_row}
-use Rattle.spelling.specs.PlainReader as reader
+use Rattle.spelling.specs.Places.{Spot}
+use Rattle.spelling.specs.PlainReader.{Found, take_bits, number_value, read_row}
 use Rattle.spelling_laws.specs.StepLaws.{bind_on, when_true, when_false}
 
 -- bits that stand first are taken

@@ -3,7 +3,6 @@ use Rattle.std.proofs.Common.{◌≡◌, ℕ, ◌++◌, Option, Some, None, Resu
 use Rattle.nat_solver.specs.Number.{Expr, lit, var, sought, plus, times, Numbers, OneUnknown, Solves, first_lacking, parts, number_at, refused_variable, refusal, solution}
 use Rattle.nat_solver.specs.SolutionLaws.{solution_complete, solution_solves, solution_first, solution_none, refused_unsolved}
 use Rattle.nat_solver.specs.declared.evaluate.NatError.{NatError}
-use Rattle.nat_solver.specs.declared.evaluate.NatError.TheVariants as why_not
 use Rattle.spelling.specs.PlainReader.{why_unsolved, sought_or, sought_number}
 use Rattle.spelling.specs.declared.Cause.{Cause}
 use Rattle.spelling.specs.declared.Cause.TheVariants.{Overflow, NoSolution}

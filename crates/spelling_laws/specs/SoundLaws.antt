@@ -1,14 +1,13 @@
 -- What the plain reader reads is spelled so.
-use Rattle.std.proofs.Common.{◌≡◌, ℕ, zero, suc, ◌+◌, Bool, true, false, cond, ◌&&◌, ◌||◌, List, [], ◌∷◌, ◌++◌, length, drop, Option, Some, None, Result, Ok, Err, slice_get, refl, sym, ap, ◌∙◌, subst, ◌⊎◌, inl, inr, arith, nat_lt, nat_eq}
+use Rattle.std.proofs.Common.{◌≡◌, ℕ, zero, suc, ◌+◌, Bool, true, false, cond, ◌&&◌, ◌||◌, List, [], ◌∷◌, ◌++◌, length, drop, Option, Some, None, Ok, slice_get, refl, sym, ap, ◌∙◌, subst, ◌⊎◌, inl, inr, arith, nat_lt, nat_eq}
 use Rattle.std.specs.Prelude.{ℤ, pos, negsuc, bytes_eq}
 use Rattle.std.proofs.lemmas.List.{take-append-drop, length-take-le, nil_from_length}
 use Rattle.std.proofs.lemmas.Bool.{ltb-false, ltb-true, eqb-true, leb-true}
 use Rattle.std.proofs.lemmas.Slice.Eq.{bytes_eq-Decides}
-use Rattle.bit_slice.specs.Bits.{AreBits, number_of, spelled, signed_number_of, signed_spelled, InSignedRange}
+use Rattle.bit_slice.specs.Bits.{number_of, spelled, signed_number_of, signed_spelled, InSignedRange}
 use Rattle.bit_slice.specs.BitLists.{spelled-number_of}
 use Rattle.bit_slice.specs.SignedLists.{InSignedRange-signed_number_of, signed_spelled-signed_number_of}
-use Rattle.nat_solver.specs.Number.{Expr, Numbers, Compares, comparison, Solves, value, put, first_lacking}
-use Rattle.nat_solver.specs.Number as numbers
+use Rattle.nat_solver.specs.Number.{Compares, comparison}
 use Rattle.nat_solver.specs.declared.compare.Op.{Op}
 use Rattle.nat_solver.specs.declared.compare.Op.TheVariants.{Eq, Lt, Le, Gt, Ge}
 use Rattle.cell_nodes.specs.declared.tree.Tree.{Tree, out-Tree}
@@ -38,8 +37,6 @@ use Rattle.spelling.specs.Spells.{SpellsNumber, SpellsString, Spells, SpellsShap
 use Rattle.spelling.specs.Places.{Spot, start, item_of, field_of, result_of, at_root}
 use Rattle.spelling.specs.PlainReader.{prepend, Found, Reader, known, told, take_bits, number_value, natural_of, integer_of, read_row, whole_of, ordinary_of, held, child_of, read_ref, read_cell, walked, leaf_values, at_edge, read_dict, walk_cell, read_root, by_bit, turn, repeat, sought_number, Step, step, Got, read_fields, candidate, Choice, first, choose, after_tag, read_declared, read_type, read_shape, read_goal, reading, root_of, read_within}
 use Rattle.spelling.specs.Stuck.{Enters}
-use Rattle.spelling.specs.declared.Cause.{Cause}
-use Rattle.spelling.specs.declared.Cause.TheVariants.{NoSolution}
 use Rattle.spelling_laws.specs.StepLaws.{bind_ok, guard_ok, only_ok, known_ok, told_ok, walked_ok, ok_one, both}
 use Rattle.spelling_laws.specs.FitLaws.{fit_sound}
 use Rattle.spelling_laws.specs.SolvingLaws.{sought_sound}

@@ -1,5 +1,5 @@
 -- Where a reading is stuck the plain reader stops, at that very place.
-use Rattle.std.proofs.Common.{◌≡◌, ◌≢◌, ℕ, zero, suc, ◌+◌, ◌<◌, ◌≤◌, Bool, true, false, cond, List, [], ◌∷◌, ◌++◌, length, take, drop, Option, Some, None, Result, Ok, Err, slice_get, refl, sym, ap, ◌∙◌, ◌⊎◌, inl, inr, arith, nat_lt}
+use Rattle.std.proofs.Common.{◌≡◌, ◌≢◌, ℕ, zero, suc, ◌+◌, ◌<◌, ◌≤◌, Bool, true, false, cond, List, [], ◌∷◌, ◌++◌, length, take, drop, Option, Some, None, Result, Ok, Err, refl, sym, ap, ◌∙◌, inl, inr, arith, nat_lt}
 use Rattle.std.proofs.lemmas.Bool.{lt-ltb, le-ltb}
 use Rattle.bit_slice.specs.Bits.{number_of}
 use Rattle.nat_solver.specs.Number.{Expr, Compares, comparison, Solves, first_lacking}
@@ -10,7 +10,7 @@ use Rattle.cell_nodes.specs.declared.tree.Kind.TheVariants.{Ordinary, Pruned, Li
 use Rattle.cell_nodes.specs.declared.tree.Hidden.{Hidden}
 use Rattle.cell_nodes.specs.declared.tree.Mode.{Mode}
 use Rattle.hashmap_labels.specs.Reading.{are_bits}
-use Rattle.hashmap_tree.specs.Entries.{Slice, content, Then, Entries, pairs_in}
+use Rattle.hashmap_tree.specs.Entries.{Slice, content, pairs_in}
 use Rattle.hashmap_tree.specs.Dict.{unseen}
 use Rattle.hashmap_tree.specs.First.{at_leaf, at_fork, first_edge}
 use Rattle.hashmap_tree.specs.Halts.{HaltsBranch}
@@ -26,9 +26,9 @@ use Rattle.spelling.specs.Slices.{nothing, only_ref, is_nothing, took}
 use Rattle.spelling.specs.Goals.{Row, natural, integer, string, no_row, row, Goal, at_type, at_field, at_cell, Shape, typed, fields_here, fields_behind, left_out, as_cell, at_fields, behind, is_ref, shape_of}
 use Rattle.spelling.specs.Spells.{next_bit}
 use Rattle.spelling.specs.Places.{Spot, Place, stuck, start, item_of, field_of, result_of, at_root}
-use Rattle.spelling.specs.PlainReader.{◌>>=◌, prepend, Found, Reader, known, told, take_bits, natural_of, integer_of, read_row, whole_of, ordinary_of, held, child_of, read_ref, read_cell, walked, leaf_values, read_dict, walk_cell, by_bit, turn, repeat, sought_number, Step, step, Got, read_fields, Choice, choose, after_tag, read_declared, read_type, read_shape, reading, root_of, read_within}
+use Rattle.spelling.specs.PlainReader.{◌>>=◌, prepend, Found, Reader, known, told, take_bits, read_row, whole_of, ordinary_of, held, child_of, read_ref, read_cell, walked, leaf_values, read_dict, walk_cell, by_bit, turn, repeat, sought_number, Step, step, Got, read_fields, Choice, choose, read_declared, read_type, read_shape, reading, root_of, read_within}
 use Rattle.spelling.specs.Acceptable.{IsAcceptable, Seeks}
-use Rattle.spelling.specs.Stuck.{Stops, Parts, LacksBits, IsTooGreat, StopsRow, StopsWhole, within, over, StopsOrdinary, exotic, inside, StopsHeld, StopsRef, no_ref, child, StopsLeaves, StopsDict, in_edges, in_leaf, in_values, StopsDictE, no_bit, no_root, root_edges, root_values, this, idle, later, StopsRepeat, StopsPair, StopsSolve, too_great, unsolved, onward, StopsField, StopsFields, Enters, NoEnd, StopsResult, StopsDeclared, none_fits, entered, StopsType, StopsShape, Within, StuckWithin, StuckRoot, hidden_root, open_root}
+use Rattle.spelling.specs.Stuck.{Stops, Parts, StopsRow, StopsWhole, within, over, StopsOrdinary, exotic, inside, StopsHeld, StopsRef, no_ref, child, StopsLeaves, StopsDict, in_edges, in_leaf, in_values, StopsDictE, no_bit, no_root, root_edges, root_values, this, idle, later, StopsRepeat, StopsPair, StopsSolve, too_great, unsolved, onward, StopsField, StopsFields, Enters, NoEnd, StopsResult, StopsDeclared, none_fits, entered, StopsType, StopsShape, Within, StuckWithin, StuckRoot, hidden_root, open_root}
 use Rattle.spelling.specs.declared.Cause.{Cause}
 use Rattle.spelling.specs.declared.Cause.TheVariants.{Overflow, NoSolution, ShortBits, Exotic}
 use Rattle.spelling_laws.specs.StepLaws.{bind_on, bind_fault, when_true, when_false, walked_on, step_then}
@@ -164,7 +164,7 @@ field_stands : {C : Type 0} (S : Stops) (P : Parts) (R : Reader) → Gets P R �
     → (Later : List ℕ → ℕ → Slice → Type 0) (h : Spot) (o : Goal) (scope : Scope) (vs : List ℕ) (q : ℕ) (s : Slice)
     (g : Step → Result C Place) (p : Place) → Proper o
     → ((v : Plain) (outs : List ℕ) (middle : Slice) → Later outs (q + parts v) middle
-       → g (record { gives = v ∷ []; scope = bind vs outs scope; begun = q + parts v; left = middle }) ≡ Err p)
+    → g (record { gives = v ∷ []; scope = bind vs outs scope; begun = q + parts v; left = middle }) ≡ Err p)
     → StopsField S P Later h o q s p
     → ((R h o q s >>= λ v. Ok (let x : Step = record { gives = v.0 ∷ []; scope = bind vs v.1 scope; begun = q + parts v.0; left = v.2 } in x)) >>= g) ≡ Err p
 field_stands S P R gets stands Later h o scope vs q s g p proper more (inl e) =
