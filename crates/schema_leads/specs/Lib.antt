@@ -1,0 +1,5 @@
+pub mod Tags
+pub mod Leads
+pub mod FirstFields
+pub mod Separation
+pub mod Laws

@@ -1,0 +1,7 @@
+pub mod Acceptable
+pub mod Goals
+pub mod Places
+pub mod PlainReader
+pub mod Slices
+pub mod Spells
+pub mod Stuck
