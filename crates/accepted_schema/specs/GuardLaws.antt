@@ -36,7 +36,7 @@ refused_there before (c ∷ cs) (suc n) item less e = refused_there (before ++ c
 found_none : (s : SchemaView) (found : Option ItemIndex) → first_unguarded s ≡ found → of_place s found ≡ [] → first_unguarded s ≡ None
 unfolding first_unguarded
 found_none s None is none = is
-found_none s (Some p) is none = absurd (refused_there [] s p.constructor p.item (place_within (known s) 0 s p is) none)
+found_none s (Some p) is none = absurd (refused_there [] s p.constructor p.item (omega (arith, place_within (known s) 0 s p is)) none)
 
 -- a schema without a refusal is guarded
 pub kinded_is_guarded : (s : SchemaView) → IsKinded s → IsGuarded (kept_of s)
