@@ -1,4 +1,5 @@
 pub mod Acceptable
+pub mod Examples
 pub mod Goals
 pub mod Places
 pub mod PlainReader

@@ -336,7 +336,8 @@ string_at : (mode : Mode) (schema : CoreSchema) (R : Reader) (bits : List ℕ) (
 string_at mode schema R bits h (typed t) q s outs after e = string_read mode schema R bits h t q s outs after e
 string_at mode schema R bits h _ q s outs after e = absurd e
 
-ref_at : (most : ℕ) (mode : Mode) (schema : CoreSchema) (R : Reader) (v : Plain) → Done most mode schema R v → (h : Spot)
+ref_at : (most : ℕ) (mode : Mode) (schema : CoreSchema) (R : Reader) (v : Plain) → Done most mode schema R v
+    → (h : Spot)
     (c : Shape) (q : ℕ) (s : Slice) (outs : List ℕ) (after : Slice) → ProperShape c → q + parts v ≤ most
     → SpellsRef (free tt) mode (Spells mode schema v) c s outs after
     → read_shape mode schema R h c q s ≡ Ok (ref_to tt v, outs, after)

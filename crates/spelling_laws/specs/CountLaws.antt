@@ -85,7 +85,8 @@ pub record Grows (n most q : ℕ) (x : Step) : Type 0 where
   pub before : (vs : Plains) → Counted n most x.begun (levels_in vs) (parts_in vs)
       → Counted n most q (levels_in (prepend x.gives vs)) (parts_in (prepend x.gives vs))
 
-step_counted : (n most : ℕ) (R : Reader) → IsCounted n most R → (h : Spot) (i : Item) (scope : Scope) (q : ℕ) (s : Slice)
+step_counted : (n most : ℕ) (R : Reader) → IsCounted n most R → (h : Spot) (i : Item) (scope : Scope) (q : ℕ)
+    (s : Slice)
     (x : Step) → q ≤ most → step R h i scope q s ≡ Ok x → Grows n most q x
 step_counted n most R counted h (check a op b i) scope q s x le e =
     let k = bind_ok (known (item_of h i) (value_in a scope)) _ x e in

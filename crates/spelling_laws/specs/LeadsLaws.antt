@@ -427,7 +427,8 @@ type_lead mode schema (suc n) x args name names ws s outs after e =
       | inr chain ↦ let P : Word → Type 0 = λ z. Chain schema (suc n) z in inr (subst P e.5.of_type chain)
     ]
 
-pub leads_hold : (mode : Mode) (schema : CoreSchema) → IsAcceptable schema → (x : Word) (args : ClosedArgs) (name : Word)
+pub leads_hold : (mode : Mode) (schema : CoreSchema) → IsAcceptable schema → (x : Word) (args : ClosedArgs)
+    (name : Word)
     (names : List Word) (vs : Plains) (s : Slice) (outs : List ℕ) (after : Slice)
     (e : SpellsDeclared schema name names (Each mode schema vs) (typed (closed.named x args)) s outs after)
     → some_begins (leads schema e.1) s.bits ≡ true

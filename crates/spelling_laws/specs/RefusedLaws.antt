@@ -112,7 +112,8 @@ ordinary_refused S P R reads refuses h g q c Proof kind p proper e =
 ordinary_refused S P R reads refuses h g q c Update kind p proper e =
     exotic (λ f. let k : Update ≡ Ordinary = sym kind ∙ f in cc) (err_one _ _ e)
 
-pub held_refused : (S : Stops) (P : Parts) (R : Reader) → Reads P R → Refuses S R → (h : Spot) (g : Goal) (q : ℕ) (c : Tree)
+pub held_refused : (S : Stops) (P : Parts) (R : Reader) → Reads P R → Refuses S R → (h : Spot) (g : Goal) (q : ℕ)
+    (c : Tree)
     (p : Place) → Proper g → held R h g q c ≡ Err p → StopsHeld S P h g q c p
 held_refused S P R reads refuses h at_cell q c p proper e =
     whole_refused S P R reads refuses h at_cell q (only_ref c) p tt e
@@ -349,7 +350,8 @@ has_int n = go (nat_le n 128)
     go true = tt
     go false = tt
 
-natural_refused : (h : Spot) (width bound : ℕ) (named : Bool) (s : Slice) (p : Place) → nat_lt (length s.bits) width ≡ false
+natural_refused : (h : Spot) (width bound : ℕ) (named : Bool) (s : Slice) (p : Place)
+    → nat_lt (length s.bits) width ≡ false
     → natural_of h bound named (take width s.bits) (record { bits = drop width s.bits; refs = s.refs }) ≡ Err p
     → StopsRow h (natural width bound named) s p
 natural_refused h width bound named s p l e =
@@ -403,7 +405,8 @@ row_refused h no_row has s p e = absurd has
 
 -- ---- goals
 
-type_refused : (mode : Mode) (schema : CoreSchema) → IsAcceptable schema → (S : Stops) (P : Parts) (R : Reader) → Reads P R
+type_refused : (mode : Mode) (schema : CoreSchema) → IsAcceptable schema → (S : Stops) (P : Parts) (R : Reader)
+    → Reads P R
     → Refuses S R → (h : Spot) (t : Closed) (q : ℕ) (s : Slice) (p : Place) → read_type mode schema R h t q s ≡ Err p
     → StopsType mode schema S P h t q s p
 type_refused mode schema ok S P R reads refuses h closed.nat32 q s p e = row_refused h (row closed.nat32) tt s p e
@@ -465,6 +468,9 @@ reading_refused (suc n) most mode schema ok h g q s p proper e = elim (test_err 
 
 -- ---- the root
 
+some_none : (x : Hidden) → (◌≡◌ {A = Option Hidden} (Some x) None) → ⊥
+some_none x k = cc
+
 pub root_refused_at : (n most : ℕ) (mode : Mode) (schema : CoreSchema) → IsAcceptable schema → (t : Closed) (c : Tree)
     (p : Place) → read_within n most mode schema t c ≡ Err p → StuckRoot n most mode schema t c p
 root_refused_at n most mode schema ok t c p e = go (unseen mode c) refl e
@@ -473,12 +479,10 @@ root_refused_at n most mode schema ok t c p e = go (unseen mode c) refl e
         → StuckRoot n most mode schema t c p
     go (Some x) u e = at_ref (is_ref t) refl e
       where
-        at_ref : (b : Bool) → is_ref t ≡ b → cond {A = Result Plain Place} b (Err (stuck at_root Exotic)) (Ok (unknown x)) ≡ Err p
+        at_ref : (b : Bool) → is_ref t ≡ b
+            → cond {A = Result Plain Place} b (Err (stuck at_root Exotic)) (Ok (unknown x)) ≡ Err p
             → StuckRoot n most mode schema t c p
         at_ref true r e = hidden_root (λ none. some_none x (sym u ∙ none)) r (err_one _ _ e)
-          where
-            some_none : (x : Hidden) → (◌≡◌ {A = Option Hidden} (Some x) None) → ⊥
-            some_none x k = cc
         at_ref false r e = cc
     go None u e =
         open_root u (held_refused (StuckWithin n most mode schema) (Within n most mode schema) (reading n most mode schema) (reading_within n most mode schema) (reading_refused n most mode schema ok) at_root (behind t) 0 c p (proper_behind t) e)

@@ -86,7 +86,8 @@ exotic_stands R h g q Library s a = refl
 exotic_stands R h g q Proof s a = refl
 exotic_stands R h g q Update s a = refl
 
-ordinary_stands : (S : Stops) (P : Parts) (R : Reader) → Gets P R → Stands S R → (h : Spot) (g : Goal) (q : ℕ) (c : Tree)
+ordinary_stands : (S : Stops) (P : Parts) (R : Reader) → Gets P R → Stands S R → (h : Spot) (g : Goal) (q : ℕ)
+    (c : Tree)
     (p : Place) → Proper g → StopsOrdinary S P h g q c p
     → ordinary_of R h g q (out-Tree c).kind (content c) ≡ Err p
 ordinary_stands S P R gets stands h g q c p proper (exotic k same) =
@@ -94,7 +95,8 @@ ordinary_stands S P R gets stands h g q c p proper (exotic k same) =
 ordinary_stands S P R gets stands h g q c p proper (inside s same k) =
     ordinary_opens R h g q c s same ∙ whole_stands S P R gets stands h g q s p proper k
 
-pub held_stands : (S : Stops) (P : Parts) (R : Reader) → Gets P R → Stands S R → (h : Spot) (g : Goal) (q : ℕ) (c : Tree)
+pub held_stands : (S : Stops) (P : Parts) (R : Reader) → Gets P R → Stands S R → (h : Spot) (g : Goal) (q : ℕ)
+    (c : Tree)
     (p : Place) → Proper g → StopsHeld S P h g q c p → held R h g q c ≡ Err p
 held_stands S P R gets stands h at_cell q c p proper k =
     whole_stands S P R gets stands h at_cell q (only_ref c) p tt k
@@ -122,7 +124,8 @@ leaves_stand S P R gets stands h t q (l ∷ ls) p (inr e) =
     bind_on (whole_of R h (at_type t) q l.1) _ e.0 (Err p) (whole_complete R e.0 h (at_type t) q l.1 e.1 (gets h (at_type t) q e.0 l.1 e.1 nothing tt e.2))
     (bind_fault (leaf_values R h t (q + parts e.0) ls) _ p (leaves_stand S P R gets stands h t (q + parts e.0) ls p e.3))
 
-dict_stands : (mode : Mode) (S : Stops) (P : Parts) (R : Reader) → Gets P R → Stands S R → (h : Spot) (n : ℕ) (t : Closed)
+dict_stands : (mode : Mode) (S : Stops) (P : Parts) (R : Reader) → Gets P R → Stands S R → (h : Spot) (n : ℕ)
+    (t : Closed)
     (q : ℕ) (s : Slice) (p : Place) → StopsDict mode S P h n t q s p → read_dict mode R h n t q s ≡ Err p
 dict_stands mode S P R gets stands h n t q s p (in_edges f k same) =
     bind_fault (walked h (first_edge mode n s)) _ p (ap (walked h) (first_stands mode n s f k) ∙ ap Err (sym same))
@@ -271,7 +274,8 @@ row_stands h no_row s p e = absurd e
 
 -- ---- goals
 
-type_stands : (mode : Mode) (schema : CoreSchema) → IsAcceptable schema → (S : Stops) (P : Parts) (R : Reader) → Gets P R
+type_stands : (mode : Mode) (schema : CoreSchema) → IsAcceptable schema → (S : Stops) (P : Parts) (R : Reader)
+    → Gets P R
     → Stands S R → (h : Spot) (t : Closed) (q : ℕ) (s : Slice) (p : Place) → StopsType mode schema S P h t q s p
     → read_type mode schema R h t q s ≡ Err p
 type_stands mode schema ok S P R gets stands h closed.nat32 q s p e = row_stands h (row closed.nat32) s p e
@@ -292,7 +296,8 @@ type_stands mode schema ok S P R gets stands h (closed.dict_e n t) q s p e =
 type_stands mode schema ok S P R gets stands h (closed.named x args) q s p e =
     declared_stands mode schema ok S P R gets stands h x args q s p e
 
-shape_stands : (mode : Mode) (schema : CoreSchema) → IsAcceptable schema → (S : Stops) (P : Parts) (R : Reader) → Gets P R
+shape_stands : (mode : Mode) (schema : CoreSchema) → IsAcceptable schema → (S : Stops) (P : Parts) (R : Reader)
+    → Gets P R
     → Stands S R → (h : Spot) (o : Result Shape Cause) → ((c : Shape) → o ≡ Ok c → ProperShape c) → (q : ℕ) (s : Slice)
     (p : Place) → StopsShape mode schema S P h o q s p → (told h o >>= λ c. read_shape mode schema R h c q s) ≡ Err p
 shape_stands mode schema ok S P R gets stands h (Err why) proper q s p e = ap Err (sym e)
