@@ -92,10 +92,10 @@ in_field x f = record { holder = constructor_of x 1; path = part.Named f ∷ [] 
 abbrev c_schema : CoreSchema
 c_schema =
     alone (codes "C") (codes "c") 1 (
-      field (codes "f") (Some 0) None (core.bits (num.lit 2))
-      ∷ field (codes "v") None (Some (record { number = num.var 0; bit = None })) (core.uint (num.lit 8))
-      ∷ field (codes "w") None (Some (record { number = num.var 0; bit = Some 1 })) (core.uint (num.lit 8))
-      ∷ []
+    field (codes "f") (Some 0) None (core.bits (num.lit 2))
+    ∷ field (codes "v") None (Some (record { number = num.var 0; bit = None })) (core.uint (num.lit 8))
+    ∷ field (codes "w") None (Some (record { number = num.var 0; bit = Some 1 })) (core.uint (num.lit 8))
+    ∷ []
     ) ∷ []
 
 -- c{f:2,v:1,w:2}
@@ -117,7 +117,7 @@ abbrev maybe_schema : CoreSchema
 maybe_schema =
     a_constructor (codes "Maybe") (codes "nothing") 1 (0 ∷ []) (core.type 0 ∷ []) [] 1 []
     ∷ a_constructor (codes "Maybe") (codes "just") 2 (1 ∷ []) (core.type 0 ∷ []) [] 1
-      (plain (codes "value") (core.variable 0) ∷ []) ∷ []
+    (plain (codes "value") (core.variable 0) ∷ []) ∷ []
 
 abbrev maybe_byte : closed.Closed
 maybe_byte = closed.named (codes "Maybe") (closed.ty_arg (closed.uint 8) closed.no_args)
@@ -142,11 +142,11 @@ abbrev run_schema : CoreSchema
 run_schema =
     a_constructor (codes "Unary") (codes "unary_zero") 1 (0 ∷ []) [] (num.lit 0 ∷ []) 0 []
     ∷ a_constructor (codes "Unary") (codes "unary_succ") 2 (1 ∷ []) [] (num.plus (num.var 0) (num.lit 1) ∷ []) 1
-      (plain (codes "x") (core.named (codes "Unary") (core.out_arg 0 core.no_args)) ∷ [])
+    (plain (codes "x") (core.named (codes "Unary") (core.out_arg 0 core.no_args)) ∷ [])
     ∷ alone (codes "Bit") (codes "bit") 0 (plain (codes "_") (core.bits (num.lit 1)) ∷ [])
     ∷ alone (codes "Run") (codes "run") 1 (
-      plain (codes "len") (core.named (codes "Unary") (core.out_arg 0 core.no_args))
-      ∷ plain (codes "s") (core.repeat (num.var 0) (of_type (codes "Bit"))) ∷ []
+    plain (codes "len") (core.named (codes "Unary") (core.out_arg 0 core.no_args))
+    ∷ plain (codes "s") (core.repeat (num.var 0) (of_type (codes "Bit"))) ∷ []
     ) ∷ []
 
 abbrev succ_of : Plain → Plain
@@ -158,12 +158,12 @@ bit_of n = record_as (codes "bit") (codes "_" ∷ []) (n_of n ∷ [])
 -- run{len:unary_succ{x:unary_succ{x:unary_succ{x:unary_zero{}}}},s:[bit{_:1},bit{_:0},bit{_:1}]}
 pub outputs_bind : read Whole run_schema (type_named (codes "Run")) (leaf (1 ∷ 1 ∷ 1 ∷ 0 ∷ 1 ∷ 0 ∷ 1 ∷ []))
     ≡ Ok (record_as (codes "run") (codes "len" ∷ codes "s" ∷ [])
-      (succ_of (succ_of (succ_of (record_as (codes "unary_zero") [] [])))
-       ∷ list_of (vals (bit_of 1 ∷ bit_of 0 ∷ bit_of 1 ∷ [])) ∷ []))
+    (succ_of (succ_of (succ_of (record_as (codes "unary_zero") [] [])))
+    ∷ list_of (vals (bit_of 1 ∷ bit_of 0 ∷ bit_of 1 ∷ [])) ∷ []))
 unfolding spelled number_onto bit_length_within together rounds leads reading walk first_edge
 outputs_bind = rw (open_leaf (1 ∷ 1 ∷ 1 ∷ 0 ∷ 1 ∷ 0 ∷ 1 ∷ [])) refl
 
--- ---- constructors told apart by the leads of their first fields, and by their patterns
+-- ---- constructors separated by the leads of their first fields, and by their patterns
 
 -- std$10 w:int8 = I; none$00 = E; _ _:I = A; _ _:E = A;
 abbrev a_schema : CoreSchema
@@ -191,7 +191,7 @@ n_schema =
     a_constructor (codes "T") (codes "a") 1 [] (core.number (Lit 0) ∷ []) [] 1
     (field (codes "x") (Some 0) None core.nat32 ∷ [])
     ∷ a_constructor (codes "T") (codes "b") 2 [] (core.number (Plus 0 1) ∷ []) [] 2
-      (field (codes "y") (Some 1) None core.nat32 ∷ []) ∷ []
+    (field (codes "y") (Some 1) None core.nat32 ∷ []) ∷ []
 
 abbrev t_at : ℕ → closed.Closed
 t_at n = closed.named (codes "T") (closed.nat_arg n closed.no_args)
@@ -215,8 +215,8 @@ abbrev r_schema : CoreSchema
 r_schema =
     alone (codes "True") (codes "true") 0 []
     ∷ alone (codes "R") (codes "r") 1 (
-      field (codes "n") (Some 0) None (core.bits (num.lit 8))
-      ∷ plain (codes "s") (core.repeat (num.var 0) (of_type (codes "True"))) ∷ []
+    field (codes "n") (Some 0) None (core.bits (num.lit 8))
+    ∷ plain (codes "s") (core.repeat (num.var 0) (of_type (codes "True"))) ∷ []
     ) ∷ []
 
 -- R.r.s Idle
@@ -268,8 +268,8 @@ lax_form = rw (open_node (1 ∷ []) (short_label ∷ []), open_leaf (0 ∷ 1 ∷
 abbrev v_schema : CoreSchema
 v_schema =
     a_constructor (codes "VarUInteger") (codes "var_uint") 1 [] (core.number (Var 0) ∷ []) [] 2 (
-      field (codes "len") (Some 1) None (core.below (num.var 0))
-      ∷ plain (codes "value") (core.uint (num.times 8 (num.var 1))) ∷ []
+    field (codes "len") (Some 1) None (core.below (num.var 0))
+    ∷ plain (codes "value") (core.uint (num.times 8 (num.var 1))) ∷ []
     ) ∷ []
 
 abbrev var_uint : ℕ → closed.Closed
@@ -299,10 +299,10 @@ too_wide = rw (open_leaf []) refl
 abbrev t_schema : CoreSchema
 t_schema =
     alone (codes "T") (codes "t") 3 (
-      field (codes "n") (Some 1) None (core.bits (num.lit 4))
-      ∷ field (codes "l") (Some 2) None (core.bits (num.lit 4))
-      ∷ solve 0 (num.var 1) (num.plus (num.sought 0) (num.var 2)) 4
-      ∷ plain (codes "x") (core.uint (num.var 0)) ∷ []
+    field (codes "n") (Some 1) None (core.bits (num.lit 4))
+    ∷ field (codes "l") (Some 2) None (core.bits (num.lit 4))
+    ∷ solve 0 (num.var 1) (num.plus (num.sought 0) (num.var 2)) 4
+    ∷ plain (codes "x") (core.uint (num.var 0)) ∷ []
     ) ∷ []
 
 -- t{n:5,l:5,x:0}
@@ -321,9 +321,9 @@ no_solution = rw (open_leaf (byte 53)) refl
 abbrev o_schema : CoreSchema
 o_schema =
     alone (codes "O") (codes "o") 2 (
-      field (codes "a") (Some 0) None core.nat32
-      ∷ field (codes "b") (Some 1) None (core.bits (num.lit 1))
-      ∷ check (num.plus (num.var 0) (num.lit 1)) Ge (num.var 1) 3 ∷ []
+    field (codes "a") (Some 0) None core.nat32
+    ∷ field (codes "b") (Some 1) None (core.bits (num.lit 1))
+    ∷ check (num.plus (num.var 0) (num.lit 1)) Ge (num.var 1) 3 ∷ []
     ) ∷ []
 
 -- O.o.{3} Overflow
@@ -338,23 +338,23 @@ overflow = rw (open_leaf (spelled 32 4294967295 ++ 0 ∷ [])) refl
 abbrev i_schema : CoreSchema
 i_schema =
     alone (codes "I") (codes "i") 1 (
-      plain (codes "r") (core.group (items (
-        plain (codes "x") (core.int (num.lit 8)) ∷ field (codes "y") (Some 0) None (core.bits (num.lit 1))
-        ∷ check (num.var 0) Eq (num.lit 1) 3 ∷ []
-      ))) ∷ []
+    plain (codes "r") (core.group (items (
+    plain (codes "x") (core.int (num.lit 8)) ∷ field (codes "y") (Some 0) None (core.bits (num.lit 1))
+    ∷ check (num.var 0) Eq (num.lit 1) 3 ∷ []
+    ))) ∷ []
     ) ∷ []
 
 -- i{r:{x:-1,y:1}}
 pub minus_one : read Whole i_schema (type_named (codes "I")) (leaf (byte 255 ++ 1 ∷ []))
     ≡ Ok (record_as (codes "i") (codes "r" ∷ [])
-      (record_of None (codes "x" ∷ codes "y" ∷ []) (vals (number true 1 ∷ n_of 1 ∷ [])) ∷ []))
+    (record_of None (codes "x" ∷ codes "y" ∷ []) (vals (number true 1 ∷ n_of 1 ∷ [])) ∷ []))
 unfolding spelled number_onto bit_length_within together rounds leads reading walk first_edge
 minus_one = rw (open_leaf (byte 255 ++ 1 ∷ [])) refl
 
 -- I.i.r.{3} Constraint
 pub inner_place : read Whole i_schema (type_named (codes "I")) (leaf (byte 255 ++ 0 ∷ []))
     ≡ Err (stuck (record { holder = constructor_of (codes "I") 1; path = part.Named (codes "r") ∷ part.Check 3 ∷ [] })
-      Constraint)
+    Constraint)
 unfolding spelled number_onto bit_length_within together rounds leads reading walk first_edge
 inner_place = rw (open_leaf (byte 255 ++ 0 ∷ [])) refl
 
@@ -369,7 +369,7 @@ outer_schema =
 -- outer{inner:^inner{v:5}}
 pub a_reference : read Whole outer_schema (type_named (codes "Outer")) (node [] (leaf (byte 5) ∷ []))
     ≡ Ok (record_as (codes "outer") (codes "inner" ∷ [])
-      (ref_to tt (record_as (codes "inner") (codes "v" ∷ []) (n_of 5 ∷ [])) ∷ []))
+    (ref_to tt (record_as (codes "inner") (codes "v" ∷ []) (n_of 5 ∷ [])) ∷ []))
 unfolding spelled number_onto bit_length_within together rounds leads reading walk first_edge
 a_reference = rw (open_node [] (leaf (byte 5) ∷ []), open_leaf (byte 5)) refl
 
@@ -406,10 +406,10 @@ unfolding reading
 any_root = refl
 
 -- at ^Any the root is a reference to such a cell
-pub any_behind : read Whole [] (closed.ref closed.whole) (node [] (leaf (1 ∷ []) ∷ []))
+pub any_under : read Whole [] (closed.ref closed.whole) (node [] (leaf (1 ∷ []) ∷ []))
     ≡ Ok (ref_to tt (raw (leaf (1 ∷ []))))
 unfolding reading
-any_behind = rw (open_node [] (leaf (1 ∷ []) ∷ [])) refl
+any_under = rw (open_node [] (leaf (1 ∷ []) ∷ [])) refl
 
 -- ---- hidden parts
 
@@ -417,17 +417,17 @@ any_behind = rw (open_node [] (leaf (1 ∷ []) ∷ [])) refl
 abbrev two_schema : CoreSchema
 two_schema =
     alone (codes "Two") (codes "two") 0 (
-      plain (codes "a") (core.ref (of_type (codes "U"))) ∷ plain (codes "b") (core.ref (of_type (codes "U"))) ∷ []
+    plain (codes "a") (core.ref (of_type (codes "U"))) ∷ plain (codes "b") (core.ref (of_type (codes "U"))) ∷ []
     )
     ∷ alone (codes "U") (codes "u") 0 (plain (codes "v") (core.uint (num.lit 8)) ∷ []) ∷ []
 
-abbrev five_behind : Plain
-five_behind = ref_to tt (record_as (codes "u") (codes "v" ∷ []) (n_of 5 ∷ []))
+abbrev five_under : Plain
+five_under = ref_to tt (record_as (codes "u") (codes "v" ∷ []) (n_of 5 ∷ []))
 
 -- two{a:^u{v:5},b:^u{v:5}}
 pub both_seen : read Whole two_schema (type_named (codes "Two")) (node [] (leaf (byte 5) ∷ leaf (byte 5) ∷ []))
     ≡ Ok (record_as (codes "two") (codes "a" ∷ codes "b" ∷ [])
-      (five_behind ∷ five_behind ∷ []))
+    (five_under ∷ five_under ∷ []))
 unfolding spelled number_onto bit_length_within together rounds leads reading walk first_edge
 both_seen = rw (open_node [] (leaf (byte 5) ∷ leaf (byte 5) ∷ []), open_leaf (byte 5), open_leaf (byte 5)) refl
 
@@ -481,7 +481,7 @@ twice_schema =
     a_constructor (codes "Both") (codes "pair") 1 [] (core.type 0 ∷ core.type 1 ∷ []) [] 2
     (plain (codes "first") (core.variable 0) ∷ plain (codes "second") (core.variable 1) ∷ [])
     ∷ a_constructor (codes "T") (codes "a") 1 (0 ∷ []) (core.type 0 ∷ []) [] 1
-      (plain (codes "x") (t_of (both (core.variable 0))) ∷ [])
+    (plain (codes "x") (t_of (both (core.variable 0))) ∷ [])
     ∷ a_constructor (codes "T") (codes "b") 2 (1 ∷ []) (core.type 0 ∷ []) [] 1 [] ∷ []
 
 abbrev twice_byte : closed.Closed

@@ -32,12 +32,12 @@ use Rattle.core_form.specs.Scope.{Scope, value_in, values_in}
 use Rattle.core_form.specs.Fit.{fit}
 use Rattle.schema_leads.specs.Leads.{begins, leads, some_begins, by_tag, by_first, type_leads, first_of}
 use Rattle.spelling.specs.Slices.{nothing, only_bits, only_ref, is_nothing, took}
-use Rattle.spelling.specs.Goals.{Row, natural, integer, string, no_row, row, Goal, at_type, at_field, at_cell, Shape, typed, fields_here, fields_behind, left_out, as_cell, at_fields, behind, is_ref, shape_of}
+use Rattle.spelling.specs.Goals.{Row, natural, integer, string, no_row, row, Goal, at_type, at_field, at_cell, Shape, typed, fields_here, fields_under, left_out, as_cell, at_fields, under_ref, is_ref, shape_of}
 use Rattle.spelling.specs.Spells.{SpellsNumber, SpellsString, Spells, SpellsShape, SpellsChild, SpellsPruned, Holds, IsRootOf, free, Each, EachPair, Contents, Repeats, Fields, no_entries, some_entries, next_bit}
 use Rattle.spelling.specs.Places.{Spot, start, item_of, field_of, result_of, at_root}
-use Rattle.spelling.specs.PlainReader.{prepend, Found, Reader, known, told, take_bits, number_value, natural_of, integer_of, read_row, whole_of, ordinary_of, held, child_of, read_ref, read_cell, walked, leaf_values, at_edge, read_dict, walk_cell, read_root, by_bit, turn, repeat, sought_number, Step, step, Got, read_fields, candidate, Choice, first, choose, after_tag, read_declared, read_type, read_shape, read_goal, reading, root_of, read_within}
+use Rattle.spelling.specs.PlainReader.{prepend, Found, Reader, known, reported, take_bits, number_value, natural_of, integer_of, read_row, whole_of, ordinary_of, cell_value, child_of, read_ref, read_cell, walked, leaf_values, at_edge, read_dict, walk_cell, read_root, by_bit, turn, repeat, sought_number, Step, step, Got, read_fields, candidate, Choice, first, choose, after_tag, read_declared, read_type, read_shape, read_goal, reading, root_of, read_within}
 use Rattle.spelling.specs.Stuck.{Enters}
-use Rattle.spelling_laws.specs.StepLaws.{bind_ok, guard_ok, only_ok, known_ok, told_ok, walked_ok, ok_one, both}
+use Rattle.spelling_laws.specs.StepLaws.{bind_ok, guard_ok, only_ok, known_ok, reported_ok, walked_ok, ok_one, both}
 use Rattle.spelling_laws.specs.FitLaws.{fit_sound}
 use Rattle.spelling_laws.specs.SolvingLaws.{sought_sound}
 
@@ -154,10 +154,10 @@ step_sound mode schema R sound h (check a op b i) is scope q s x e =
     subst P (ok_one _ _ (Ok x) g.1) (λ vs end after more.
     (m.0, n.0, known_ok (item_of h i) (value_in a scope) m.0 m.1, known_ok (item_of h i) (value_in b scope) n.0 n.1, compares op m.0 n.0 g.0, more))
 step_sound mode schema R sound h (solve v a b i) is scope q s x e =
-    let y = bind_ok (told (item_of h i) (sought_number a b scope.numbers)) _ x e in
+    let y = bind_ok (reported (item_of h i) (sought_number a b scope.numbers)) _ x e in
     let P : Step → Type 0 = Takes mode schema is (solve v a b i) scope s in
     subst P (ok_one _ _ (Ok x) y.2) (λ vs end after more.
-    (y.0, sought_sound a b scope.numbers y.0 (told_ok (item_of h i) (sought_number a b scope.numbers) y.0 y.1), more))
+    (y.0, sought_sound a b scope.numbers y.0 (reported_ok (item_of h i) (sought_number a b scope.numbers) y.0 y.1), more))
 step_sound mode schema R sound h (field y slot c t) is scope q s x e =
     let v = bind_ok (R (field_of h y) (at_field c t scope) q s) _ x e in
     let P : Step → Type 0 = Takes mode schema is (field y slot c t) scope s in
@@ -206,11 +206,11 @@ ordinary_sound mode schema R sound h g q c Library kind v e = cc
 ordinary_sound mode schema R sound h g q c Proof kind v e = cc
 ordinary_sound mode schema R sound h g q c Update kind v e = cc
 
-held_sound : (mode : Mode) (schema : CoreSchema) (R : Reader) → IsSound mode schema R → (h : Spot) (g : Goal) (q : ℕ)
-    (c : Tree) → unseen mode c ≡ None → (v : Plain) → held R h g q c ≡ Ok v → Holds mode (Spells mode schema v) g c
-held_sound mode schema R sound h at_cell q c u v e = let w = whole_sound mode schema R sound h at_cell q (only_ref c) v e in (w.0, u, w.1)
-held_sound mode schema R sound h (at_type t) q c u v e = ordinary_sound mode schema R sound h (at_type t) q c (out-Tree c).kind refl v e
-held_sound mode schema R sound h (at_field x t scope) q c u v e = ordinary_sound mode schema R sound h (at_field x t scope) q c (out-Tree c).kind refl v e
+cell_value_sound : (mode : Mode) (schema : CoreSchema) (R : Reader) → IsSound mode schema R → (h : Spot) (g : Goal) (q : ℕ)
+    (c : Tree) → unseen mode c ≡ None → (v : Plain) → cell_value R h g q c ≡ Ok v → Holds mode (Spells mode schema v) g c
+cell_value_sound mode schema R sound h at_cell q c u v e = let w = whole_sound mode schema R sound h at_cell q (only_ref c) v e in (w.0, u, w.1)
+cell_value_sound mode schema R sound h (at_type t) q c u v e = ordinary_sound mode schema R sound h (at_type t) q c (out-Tree c).kind refl v e
+cell_value_sound mode schema R sound h (at_field x t scope) q c u v e = ordinary_sound mode schema R sound h (at_field x t scope) q c (out-Tree c).kind refl v e
 
 -- how a shape is spelled by a reference
 abbrev Wraps : Mode → CoreSchema → Goal → Shape → Type 0
@@ -230,9 +230,9 @@ child_sound mode schema R sound h g shape wrap q bits c refs (Some x) u v e =
 child_sound mode schema R sound h g shape wrap q bits c refs None u v e =
     let s : Slice = record { bits = bits; refs = c ∷ refs } in
     let after : Slice = record { bits = bits; refs = refs } in
-    let w = bind_ok (held R h g q c) _ v e in
+    let w = bind_ok (cell_value R h g q c) _ v e in
     let P : Plain → Type 0 = λ y. SpellsShape mode schema y shape s [] after in
-    subst P (ok_one _ _ (Ok v) w.2) (wrap.0 w.0 s [] after (c, refl, record { bits = refl; refs = refl }, held_sound mode schema R sound h g q c u w.0 w.1, tt))
+    subst P (ok_one _ _ (Ok v) w.2) (wrap.0 w.0 s [] after (c, refl, record { bits = refl; refs = refl }, cell_value_sound mode schema R sound h g q c u w.0 w.1, tt))
 
 ref_sound : (mode : Mode) (schema : CoreSchema) (R : Reader) → IsSound mode schema R → (h : Spot) (g : Goal)
     (shape : Shape) → Wraps mode schema g shape → (q : ℕ) (bits : List ℕ) (refs : List Tree) (x : Found)
@@ -441,7 +441,7 @@ type_sound mode schema R sound h (closed.bit_str n) q s x e = basic_sound mode s
 type_sound mode schema R sound h closed.whole q s x e =
     let P : Found → Type 0 = λ y. SpellsShape mode schema y.0 (typed closed.whole) s y.1 y.2 in
     subst P (ok_one _ _ (Ok x) e) (refl, refl, refl)
-type_sound mode schema R sound h (closed.ref t) q s x e = ref_sound mode schema R sound h (behind t) (typed (closed.ref t)) (λ v s outs after k. k, λ b s outs after k. k) q s.bits s.refs x e
+type_sound mode schema R sound h (closed.ref t) q s x e = ref_sound mode schema R sound h (under_ref t) (typed (closed.ref t)) (λ v s outs after k. k, λ b s outs after k. k) q s.bits s.refs x e
 type_sound mode schema R sound h (closed.repeat n t) q s x e =
     let v = bind_ok (repeat R h n t q s) _ x e in
     let P : Found → Type 0 = λ y. SpellsShape mode schema y.0 (typed (closed.repeat n t)) s y.1 y.2 in
@@ -458,7 +458,7 @@ shape_sound mode schema R sound h (fields_here is scope) q s x e =
     let v = bind_ok (read_fields R h is scope q s) _ x e in
     let P : Found → Type 0 = λ y. SpellsShape mode schema y.0 (fields_here is scope) s y.1 y.2 in
     subst P (ok_one _ _ (Ok x) v.2) (refl, refl, v.0.1, fields_sound mode schema R sound h is scope q s v.0 v.1)
-shape_sound mode schema R sound h (fields_behind is scope) q s x e = ref_sound mode schema R sound h (at_fields is scope) (fields_behind is scope) (λ v s outs after k. k, λ b s outs after k. k) q s.bits s.refs x e
+shape_sound mode schema R sound h (fields_under is scope) q s x e = ref_sound mode schema R sound h (at_fields is scope) (fields_under is scope) (λ v s outs after k. k, λ b s outs after k. k) q s.bits s.refs x e
 shape_sound mode schema R sound h left_out q s x e =
     let P : Found → Type 0 = λ y. SpellsShape mode schema y.0 left_out s y.1 y.2 in
     subst P (ok_one _ _ (Ok x) e) (refl, refl)
@@ -467,8 +467,8 @@ shape_sound mode schema R sound h as_cell q s x e = cell_sound mode schema h s.b
 goal_sound : (mode : Mode) (schema : CoreSchema) (R : Reader) → IsSound mode schema R
     → IsSound mode schema (read_goal mode schema R)
 goal_sound mode schema R sound h g q s x e =
-    let c = bind_ok (told h (shape_of g)) _ x e in
-    (c.0, told_ok h (shape_of g) c.0 c.1, shape_sound mode schema R sound h c.0 q s x c.2)
+    let c = bind_ok (reported h (shape_of g)) _ x e in
+    (c.0, reported_ok h (shape_of g) c.0 c.1, shape_sound mode schema R sound h c.0 q s x c.2)
 
 pub reads_spelled : (n most : ℕ) (mode : Mode) (schema : CoreSchema) → IsSound mode schema (reading n most mode schema)
 unfolding reading
@@ -485,7 +485,7 @@ root_of_sound mode schema R sound t c (Some x) u v e =
     let g = guard_ok (is_ref t) _ _ v e in
     let P : Plain → Type 0 = λ y. IsRootOf mode schema t c y in
     subst P (ok_one _ _ (Ok v) g.1) (inr (u, g.0))
-root_of_sound mode schema R sound t c None u v e = inl (held_sound mode schema R sound at_root (behind t) 0 c u v e)
+root_of_sound mode schema R sound t c None u v e = inl (cell_value_sound mode schema R sound at_root (under_ref t) 0 c u v e)
 
 pub root_spelled : (n most : ℕ) (mode : Mode) (schema : CoreSchema) (t : Closed) (c : Tree) (v : Plain)
     → read_within n most mode schema t c ≡ Ok v → IsRootOf mode schema t c v
