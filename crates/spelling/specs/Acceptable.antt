@@ -1,5 +1,6 @@
 -- What the laws need of a schema: numbers in range, one unknown in each equation, no chain of first fields without end,
--- and constructors that are told apart. A schema that is accepted has all of it.
+-- and constructors that differ before one of them is entered. Each is a rule of the syntax tree's ranges, of kinds, of the
+-- guard, or of separation.
 use Rattle.std.specs.Prelude.{ℕ, ◌≡◌, ◌^◌, ◌<◌, List, [], ◌∷◌, Some, slice_get}
 use Rattle.nat_solver.specs.Number.{OneUnknown}
 use Rattle.nat_solver.specs.declared.pattern.Pattern.{Pattern}

@@ -65,12 +65,12 @@ pub data Goal : Type 0 where
   at_field : Option Condition → Ty → Scope → Goal
   at_cell : Goal
 
--- what is left of a goal when its numbers are put in: a closed type, an inner record in place or behind `^`, nothing
+-- what is left of a goal when its numbers are put in: a closed type, an inner record in place or under `^`, nothing
 -- where a condition doesn't hold, or the cell of one reference
 pub data Shape : Type 0 where
   typed : Closed → Shape
   fields_here : Items → Scope → Shape
-  fields_behind : Items → Scope → Shape
+  fields_under : Items → Scope → Shape
   left_out : Shape
   as_cell : Shape
 
@@ -79,9 +79,9 @@ abbrev pub at_fields : Items → Scope → Goal
 at_fields is scope = at_field no_condition (core.group is) scope
 
 -- what a reference `^T` leads to: of Any and Cell the cell as it is
-abbrev pub behind : Closed → Goal
-behind closed.whole = at_cell
-behind t = at_type t
+abbrev pub under_ref : Closed → Goal
+under_ref closed.whole = at_cell
+under_ref t = at_type t
 
 -- whether the type is itself a reference
 abbrev pub is_ref : Closed → Bool
@@ -99,14 +99,14 @@ typed_or (Err e) = Err (cause_of e)
 -- the type without its condition; an inner record is left as it is, and closed at its own fields
 abbrev pub laid : Ty → Scope → Result Shape Cause
 laid (core.group is) scope = Ok (fields_here is scope)
-laid (core.ref (core.group is)) scope = Ok (fields_behind is scope)
+laid (core.ref (core.group is)) scope = Ok (fields_under is scope)
 laid t scope = typed_or (close t scope)
 
 -- only what is to be spelled is judged by its width
 abbrev pub in_width : Shape → Result Shape Cause
 in_width (typed t) = if in_table t then Ok (typed t) else Err Width
 in_width (fields_here is scope) = Ok (fields_here is scope)
-in_width (fields_behind is scope) = Ok (fields_behind is scope)
+in_width (fields_under is scope) = Ok (fields_under is scope)
 in_width left_out = Ok left_out
 in_width as_cell = Ok as_cell
 

@@ -1,5 +1,7 @@
 pub mod Acceptable
+pub mod Examples
 pub mod Goals
+pub mod Marks
 pub mod Places
 pub mod PlainReader
 pub mod Slices

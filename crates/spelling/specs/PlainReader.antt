@@ -20,7 +20,7 @@ use Rattle.typed_value.specs.Values.{Val, Vals, Plain, Plains, PlainPairs, bit_s
 use Rattle.core_form.specs.Scope.{Scope, with_number, value_in, bind, values_in}
 use Rattle.core_form.specs.Core.{Declaration, CoreSchema, field_names}
 use Rattle.core_form.specs.Fit.{fit}
-use Rattle.spelling.specs.Goals.{Row, natural, integer, string, no_row, row, Goal, at_type, at_field, at_cell, Shape, typed, fields_here, fields_behind, left_out, as_cell, at_fields, behind, is_ref, shape_of}
+use Rattle.spelling.specs.Goals.{Row, natural, integer, string, no_row, row, Goal, at_type, at_field, at_cell, Shape, typed, fields_here, fields_under, left_out, as_cell, at_fields, under_ref, is_ref, shape_of}
 use Rattle.hashmap_tree.specs.Dict.{unseen}
 use Rattle.hashmap_tree.specs.Walk.{Fault, branch, walk}
 use Rattle.hashmap_tree.specs.First.{Edge, at_leaf, at_fork, first_edge}
@@ -52,9 +52,9 @@ abbrev pub known : {A : Type 0} → Spot → Option A → Result A Place
 known h (Some n) = Ok n
 known h None = Err (stuck h Overflow)
 
-abbrev pub told : {A : Type 0} → Spot → Result A Cause → Result A Place
-told h (Ok a) = Ok a
-told h (Err why) = Err (stuck h why)
+abbrev pub reported : {A : Type 0} → Spot → Result A Cause → Result A Place
+reported h (Ok a) = Ok a
+reported h (Err why) = Err (stuck h why)
 
 -- ---- numbers and bit strings
 
@@ -106,15 +106,15 @@ ordinary_of R h g q Ordinary s = whole_of R h g q s
 ordinary_of R h g q _ s = Err (stuck h Exotic)
 
 -- what a cell holds: the cell as it is, or the value that all of an ordinary cell spells
-abbrev pub held : Reader → Spot → Goal → ℕ → Tree → Result Plain Place
-held R h at_cell q c = whole_of R h at_cell q (only_ref c)
-held R h (at_type t) q c = ordinary_of R h (at_type t) q (out-Tree c).kind (content c)
-held R h (at_field e t scope) q c = ordinary_of R h (at_field e t scope) q (out-Tree c).kind (content c)
+abbrev pub cell_value : Reader → Spot → Goal → ℕ → Tree → Result Plain Place
+cell_value R h at_cell q c = whole_of R h at_cell q (only_ref c)
+cell_value R h (at_type t) q c = ordinary_of R h (at_type t) q (out-Tree c).kind (content c)
+cell_value R h (at_field e t scope) q c = ordinary_of R h (at_field e t scope) q (out-Tree c).kind (content c)
 
 abbrev pub child_of : Reader → Spot → Goal → ℕ → Option Hidden → Tree → Result Plain Place
 child_of R h g q (Some x) c = Ok (unknown x)
 child_of R h g q None c = do
-  v ← held R h g q c
+  v ← cell_value R h g q c
   Ok (ref_to tt v)
 
 abbrev pub read_ref : Mode → Reader → Spot → Goal → ℕ → List ℕ → List Tree → Result Found Place
@@ -226,18 +226,18 @@ step R h (check a op b i) scope q s = do
   if comparison op m n then Ok (record { gives = []; scope = scope; begun = q; left = s })
       else Err (stuck (item_of h i) Constraint)
 step R h (solve v a b i) scope q s = do
-  x ← told (item_of h i) (sought_number a b scope.numbers)
+  x ← reported (item_of h i) (sought_number a b scope.numbers)
   Ok (record { gives = []; scope = with_number v x scope; begun = q; left = s })
 step R h (field x slot c t) scope q s = do
   v ← R (field_of h x) (at_field c t scope) q s
   Ok (record { gives = v.0 ∷ []; scope = bind (sets slot t) v.1 scope; begun = q + parts v.0; left = v.2 })
 
--- the value in front, where there is one
+-- the value before the others, where there is one
 abbrev pub prepend : {A : Type 0} → List (Val A) → Vals A → Vals A
 prepend [] ws = ws
 prepend (v ∷ vs) ws = a_val v (prepend vs ws)
 
--- the values of the explicit fields, what the variables stand for behind them, and what is left
+-- the values of the explicit fields, what the variables stand for after them, and what is left
 abbrev pub Got : Type 0
 Got = Plains × Scope × Slice
 
@@ -286,7 +286,7 @@ read_type mode schema R h (closed.uint n) q s = read_row h (row (closed.uint n))
 read_type mode schema R h (closed.int n) q s = read_row h (row (closed.int n)) s
 read_type mode schema R h (closed.bit_str n) q s = read_row h (row (closed.bit_str n)) s
 read_type mode schema R h closed.whole q s = Ok (rest (kept s), [], nothing)
-read_type mode schema R h (closed.ref t) q s = read_ref mode R h (behind t) q s.bits s.refs
+read_type mode schema R h (closed.ref t) q s = read_ref mode R h (under_ref t) q s.bits s.refs
 read_type mode schema R h (closed.repeat n t) q s = do
   x ← repeat R h n t q s
   Ok (list_of x.0, [], x.1)
@@ -299,13 +299,13 @@ read_shape mode schema R h (typed t) q s = read_type mode schema R h t q s
 read_shape mode schema R h (fields_here is scope) q s = do
   x ← read_fields R h is scope q s
   Ok (record_of None (field_names is) x.0, [], x.2)
-read_shape mode schema R h (fields_behind is scope) q s = read_ref mode R h (at_fields is scope) q s.bits s.refs
+read_shape mode schema R h (fields_under is scope) q s = read_ref mode R h (at_fields is scope) q s.bits s.refs
 read_shape mode schema R h left_out q s = Ok (absent, [], s)
 read_shape mode schema R h as_cell q s = read_cell h s.bits s.refs
 
 abbrev pub read_goal : Mode → CoreSchema → Reader → Reader
 read_goal mode schema R h g q s = do
-  c ← told h (shape_of g)
+  c ← reported h (shape_of g)
   read_shape mode schema R h c q s
 
 -- First a value must have a level left, for itself and for those in it, and be one of the parts that may begin.
@@ -319,7 +319,7 @@ reading (suc n) most mode schema h g q s =
 -- a hidden root is Exotic where the type is itself a reference
 abbrev pub root_of : Reader → Closed → Option Hidden → Tree → Result Plain Place
 root_of R t (Some x) c = if is_ref t then Err (stuck at_root Exotic) else Ok (unknown x)
-root_of R t None c = held R at_root (behind t) 0 c
+root_of R t None c = cell_value R at_root (under_ref t) 0 c
 
 abbrev pub read_within : ℕ → ℕ → Mode → CoreSchema → Closed → Tree → Result Plain Place
 read_within n most mode schema t c = root_of (reading n most mode schema) t (unseen mode c) c

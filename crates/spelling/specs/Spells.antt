@@ -17,7 +17,7 @@ use Rattle.typed_value.specs.Values as values
 use Rattle.core_form.specs.Scope.{Scope, with_number, value_in, bind, values_in}
 use Rattle.core_form.specs.Core.{Declaration, CoreSchema, field_names}
 use Rattle.core_form.specs.Fit.{Fits}
-use Rattle.spelling.specs.Goals.{Row, natural, integer, string, no_row, row, Goal, at_type, at_field, at_cell, Shape, typed, fields_here, fields_behind, left_out, as_cell, at_fields, behind, is_ref, shape_of}
+use Rattle.spelling.specs.Goals.{Row, natural, integer, string, no_row, row, Goal, at_type, at_field, at_cell, Shape, typed, fields_here, fields_under, left_out, as_cell, at_fields, under_ref, is_ref, shape_of}
 use Rattle.hashmap_tree.specs.Dict.{unseen, Branch}
 use Rattle.hashmap_tree.specs.First.{LeafEdge, Fork}
 use Rattle.cell_nodes.specs.declared.tree.Mode.{Mode}
@@ -150,8 +150,8 @@ SpellsChild At mode M g before outs after =
 
 -- `^T`, and an inner record under one `^`
 abbrev pub SpellsRef : (Slice → Type 0) → Mode → Meaning → Closing
-SpellsRef At mode M (typed (closed.ref t)) before outs after = SpellsChild At mode M (behind t) before outs after
-SpellsRef At mode M (fields_behind is scope) before outs after =
+SpellsRef At mode M (typed (closed.ref t)) before outs after = SpellsChild At mode M (under_ref t) before outs after
+SpellsRef At mode M (fields_under is scope) before outs after =
     SpellsChild At mode M (at_fields is scope) before outs after
 SpellsRef At mode M _ before outs after = ⊥
 
@@ -162,7 +162,7 @@ SpellsPruned mode h before outs after =
 
 abbrev pub SpellsUnknown : Mode → Hidden → Closing
 SpellsUnknown mode h (typed (closed.ref t)) before outs after = SpellsPruned mode h before outs after
-SpellsUnknown mode h (fields_behind is scope) before outs after = SpellsPruned mode h before outs after
+SpellsUnknown mode h (fields_under is scope) before outs after = SpellsPruned mode h before outs after
 SpellsUnknown mode h _ before outs after = ⊥
 
 -- the cell of `^Any` and `^Cell`, as it is
@@ -187,7 +187,7 @@ Contents (a_keyed k M Ks) t (l ∷ ls) = (outs : List ℕ) × (l.0 ≡ k) × M (
 abbrev pub EntriesHold : Keyed → List (List ℕ × Hidden) → Closed → Entries → Type 0
 EntriesHold Ks us t es = Contents Ks t (pairs_in es) × (hidden_in es ≡ us)
 
--- where the first edge is a leaf: one value, which goes on in place behind the label
+-- where the first edge is a leaf: one value, which goes on in place after the label
 abbrev pub InPlace : Mode → Keyed → List (List ℕ × Hidden) → ℕ → Closed → Slice → Slice → Type 0
 InPlace mode (a_keyed k M no_keyed) [] n t before after =
     (middle : Slice) × (outs : List ℕ) × LeafEdge mode n k before middle × M (at_type t) middle outs after
@@ -284,9 +284,9 @@ abbrev pub RootUnknown : Mode → Closed → Tree → Plain → Type 0
 RootUnknown mode t c (unknown h) = (unseen mode c ≡ Some h) × (is_ref t ≡ false)
 RootUnknown mode t c _ = ⊥
 
--- a root cell is read as `^T` reads the cell of its reference, and the value is that behind the reference
+-- a root cell is read as `^T` reads the cell of its reference, and the value is that of the reference
 abbrev pub IsRootOf : Mode → CoreSchema → Closed → Tree → Plain → Type 0
-IsRootOf mode schema t c v = Holds mode (Spells mode schema v) (behind t) c ⊎ RootUnknown mode t c v
+IsRootOf mode schema t c v = Holds mode (Spells mode schema v) (under_ref t) c ⊎ RootUnknown mode t c v
 
 pub record Reading (mode : Mode) (schema : CoreSchema) (t : Closed) (c : Tree) (v : Plain) : Type 0 where
   pub root : IsRootOf mode schema t c v

@@ -16,7 +16,7 @@ use Rattle.hashmap_labels.specs.Reading.{are_bits}
 use Rattle.typed_value.specs.Values.{Plain, levels, parts, most_levels, most_parts}
 use Rattle.core_form.specs.Scope.{Scope, with_number, value_in, bind, values_in}
 use Rattle.core_form.specs.Core.{Declaration, CoreSchema}
-use Rattle.spelling.specs.Goals.{Row, natural, integer, string, no_row, row, Goal, at_type, at_field, at_cell, Shape, typed, fields_here, fields_behind, left_out, as_cell, at_fields, behind, is_ref, shape_of}
+use Rattle.spelling.specs.Goals.{Row, natural, integer, string, no_row, row, Goal, at_type, at_field, at_cell, Shape, typed, fields_here, fields_under, left_out, as_cell, at_fields, under_ref, is_ref, shape_of}
 use Rattle.hashmap_tree.specs.Dict.{unseen, Branch}
 use Rattle.hashmap_tree.specs.First.{LeafEdge, Fork, HaltsFirst}
 use Rattle.hashmap_tree.specs.Walk.{Fault}
@@ -57,7 +57,7 @@ StopsRow h no_row s p = ⊥
 
 -- ---- references
 
--- the whole of a slice: its front is stuck, or something is left
+-- the whole of a slice: its beginning is stuck, or something is left
 pub data StopsWhole (S : Stops) (P : Parts) (h : Spot) (g : Goal) (q : ℕ) (s : Slice) (p : Place) : Type 0 where
   within : S h g q s p → StopsWhole S P h g q s p
   over : (v : Plain) (outs : List ℕ) (left : Slice) → P g q v s outs left → left ≢ nothing → p ≡ stuck h Leftover
@@ -68,15 +68,15 @@ pub data StopsOrdinary (S : Stops) (P : Parts) (h : Spot) (g : Goal) (q : ℕ) (
   exotic : (out-Tree c).kind ≢ Ordinary → p ≡ stuck h Exotic → StopsOrdinary S P h g q c p
   inside : (s : Slice) → c ≡ cell_of s → StopsWhole S P h g q s p → StopsOrdinary S P h g q c p
 
-abbrev pub StopsHeld : Stops → Parts → Spot → Goal → ℕ → Tree → Place → Type 0
-StopsHeld S P h at_cell q c p = StopsWhole S P h at_cell q (only_ref c) p
-StopsHeld S P h (at_type t) q c p = StopsOrdinary S P h (at_type t) q c p
-StopsHeld S P h (at_field e t scope) q c p = StopsOrdinary S P h (at_field e t scope) q c p
+abbrev pub StopsCell : Stops → Parts → Spot → Goal → ℕ → Tree → Place → Type 0
+StopsCell S P h at_cell q c p = StopsWhole S P h at_cell q (only_ref c) p
+StopsCell S P h (at_type t) q c p = StopsOrdinary S P h (at_type t) q c p
+StopsCell S P h (at_field e t scope) q c p = StopsOrdinary S P h (at_field e t scope) q c p
 
 pub data StopsRef (mode : Mode) (S : Stops) (P : Parts) (h : Spot) (g : Goal) (q : ℕ) (s : Slice) (p : Place)
     : Type 0 where
   no_ref : s.refs ≡ [] → p ≡ stuck h ShortRefs → StopsRef mode S P h g q s p
-  child : (c : Tree) (after : Slice) → Then s (only_ref c) after → unseen mode c ≡ None → StopsHeld S P h g q c p
+  child : (c : Tree) (after : Slice) → Then s (only_ref c) after → unseen mode c ≡ None → StopsCell S P h g q c p
       → StopsRef mode S P h g q s p
 
 -- ---- dictionaries
@@ -191,7 +191,7 @@ StopsType mode schema S P h (closed.uint n) q s p = StopsRow h (row (closed.uint
 StopsType mode schema S P h (closed.int n) q s p = StopsRow h (row (closed.int n)) s p
 StopsType mode schema S P h (closed.bit_str n) q s p = StopsRow h (row (closed.bit_str n)) s p
 StopsType mode schema S P h closed.whole q s p = ⊥
-StopsType mode schema S P h (closed.ref t) q s p = StopsRef mode S P h (behind t) q s p
+StopsType mode schema S P h (closed.ref t) q s p = StopsRef mode S P h (under_ref t) q s p
 StopsType mode schema S P h (closed.repeat n t) q s p = StopsRepeat S P h n t q s p
 StopsType mode schema S P h (closed.dict n t) q s p = StopsDict mode S P h n t q s p
 StopsType mode schema S P h (closed.dict_e n t) q s p = StopsDictE mode S P h n t q s p
@@ -202,7 +202,7 @@ abbrev pub StopsShape : Mode → CoreSchema → Stops → Parts → Spot → Res
 StopsShape mode schema S P h (Err why) q s p = p ≡ stuck h why
 StopsShape mode schema S P h (Ok (typed t)) q s p = StopsType mode schema S P h t q s p
 StopsShape mode schema S P h (Ok (fields_here is scope)) q s p = StopsFields S P NoEnd h is scope q s p
-StopsShape mode schema S P h (Ok (fields_behind is scope)) q s p = StopsRef mode S P h (at_fields is scope) q s p
+StopsShape mode schema S P h (Ok (fields_under is scope)) q s p = StopsRef mode S P h (at_fields is scope) q s p
 StopsShape mode schema S P h (Ok left_out) q s p = ⊥
 StopsShape mode schema S P h (Ok as_cell) q s p = (s.refs ≡ []) × (p ≡ stuck h ShortRefs)
 
@@ -226,7 +226,7 @@ pub data StuckRoot (n most : ℕ) (mode : Mode) (schema : CoreSchema) (t : Close
   hidden_root : unseen mode c ≢ None → is_ref t ≡ true → p ≡ stuck at_root Exotic
       → StuckRoot n most mode schema t c p
   open_root : unseen mode c ≡ None
-      → StopsHeld (StuckWithin n most mode schema) (Within n most mode schema) at_root (behind t) 0 c p
+      → StopsCell (StuckWithin n most mode schema) (Within n most mode schema) at_root (under_ref t) 0 c p
       → StuckRoot n most mode schema t c p
 
 abbrev pub Stuck : Mode → CoreSchema → Closed → Tree → Place → Type 0

@@ -26,17 +26,17 @@ use Rattle.core_form.specs.Closed as closed
 use Rattle.core_form.specs.Scope.{Scope, value_in, values_in, with_number, bind}
 use Rattle.schema_leads.specs.Leads.{leads, some_begins}
 use Rattle.spelling.specs.Slices.{nothing, only_bits, only_ref, took}
-use Rattle.spelling.specs.Goals.{row, Goal, at_type, at_field, at_cell, Shape, typed, fields_here, fields_behind, left_out, as_cell, at_fields, behind, is_ref, shape_of}
+use Rattle.spelling.specs.Goals.{row, Goal, at_type, at_field, at_cell, Shape, typed, fields_here, fields_under, left_out, as_cell, at_fields, under_ref, is_ref, shape_of}
 use Rattle.spelling.specs.Spells.{Spells, Each, EachPair, Repeats, Fields, SpellsNumber, SpellsString, AtRow, SpellsDeclared, SpellsInner, SpellsAbsent, SpellsList, Holds, SpellsChild, SpellsRef, SpellsPruned, SpellsUnknown, SpellsRaw, SpellsRest, Contents, SpellsDict, SpellsDictE, no_entries, some_entries, next_bit, SpellsMap, free, IsRootOf}
 use Rattle.spelling.specs.Places.{Spot, start, item_of, field_of, result_of, at_root}
-use Rattle.spelling.specs.PlainReader.{◌>>=◌, Found, Reader, known, told, whole_of, ordinary_of, held, child_of, read_ref, read_cell, walked, leaf_values, read_dict, walk_cell, by_bit, turn, repeat, sought_number, Step, step, read_fields, candidate, first, choose, after_tag, read_declared, read_type, read_shape, read_goal, reading, root_of, read_within}
+use Rattle.spelling.specs.PlainReader.{◌>>=◌, Found, Reader, known, reported, whole_of, ordinary_of, cell_value, child_of, read_ref, read_cell, walked, leaf_values, read_dict, walk_cell, by_bit, turn, repeat, sought_number, Step, step, read_fields, candidate, first, choose, after_tag, read_declared, read_type, read_shape, read_goal, reading, root_of, read_within}
 use Rattle.spelling.specs.Acceptable.{IsAcceptable, Seeks}
 use Rattle.spelling.specs.Stuck.{Enters}
-use Rattle.spelling_laws.specs.StepLaws.{bind_on, known_on, told_on, walked_on, when_true, when_false, both_on}
+use Rattle.spelling_laws.specs.StepLaws.{bind_on, known_on, reported_on, walked_on, when_true, when_false, both_on}
 use Rattle.spelling_laws.specs.FitLaws.{fit_complete}
 use Rattle.spelling_laws.specs.LeadsLaws.{leads_hold}
 use Rattle.spelling_laws.specs.EnterLaws.{one_constructor}
-use Rattle.spelling_laws.specs.ProperLaws.{Proper, ProperShape, proper_behind, proper_shape}
+use Rattle.spelling_laws.specs.ProperLaws.{Proper, ProperShape, proper_under, proper_shape}
 use Rattle.spelling_laws.specs.RowLaws.{row_fits, number_complete, string_complete}
 use Rattle.spelling_laws.specs.SolvingLaws.{sought_complete}
 use Rattle.spelling_laws.specs.SoundLaws.{candidate_enters}
@@ -96,7 +96,7 @@ fields_complete most mode schema R h (an_item (check a op b i) is) seeks vs done
 fields_complete most mode schema R h (an_item (solve v a b i) is) seeks vs done scope q s end after le f =
     let x : Step = record { gives = []; scope = with_number v f.0 scope; begun = q; left = s } in
     let one : step R h (solve v a b i) scope q s ≡ Ok x =
-    bind_on (told (item_of h i) (sought_number a b scope.numbers)) _ f.0 (Ok x) (told_on (item_of h i) (sought_number a b scope.numbers) f.0 (sought_complete a b scope.numbers v f.0 seeks.0 f.1)) refl in
+    bind_on (reported (item_of h i) (sought_number a b scope.numbers)) _ f.0 (Ok x) (reported_on (item_of h i) (sought_number a b scope.numbers) f.0 (sought_complete a b scope.numbers v f.0 seeks.0 f.1)) refl in
     bind_on (step R h (solve v a b i) scope q s) _ x (Ok (vs, end, after)) one
     (bind_on (read_fields R h is x.scope q s) _ (vs, end, after) (Ok (vs, end, after)) (fields_complete most mode schema R h is seeks.1 vs done x.scope q s end after le f.2) refl)
 fields_complete most mode schema R h (an_item (field y slot c t) is) seeks no_vals done scope q s end after le f = absurd f
@@ -124,21 +124,21 @@ ordinary_opens R h g q c s same =
 pub seen_cell : (mode : Mode) (c : Tree) (s : Slice) → c ≡ cell_of s → unseen mode c ≡ None
 seen_cell mode c s same = seen-ordinary mode c (ap (λ (t : Tree). (out-Tree t).kind) same ∙ kind-cell_of s)
 
-pub held_seen : (mode : Mode) (schema : CoreSchema) (v : Plain) (g : Goal) (c : Tree)
+pub cell_value_seen : (mode : Mode) (schema : CoreSchema) (v : Plain) (g : Goal) (c : Tree)
     → Holds mode (Spells mode schema v) g c → unseen mode c ≡ None
-held_seen mode schema v at_cell c k = k.1
-held_seen mode schema v (at_type t) c k = seen_cell mode c k.0 k.2
-held_seen mode schema v (at_field e t scope) c k = seen_cell mode c k.0 k.2
+cell_value_seen mode schema v at_cell c k = k.1
+cell_value_seen mode schema v (at_type t) c k = seen_cell mode c k.0 k.2
+cell_value_seen mode schema v (at_field e t scope) c k = seen_cell mode c k.0 k.2
 
-pub held_complete : (most : ℕ) (mode : Mode) (schema : CoreSchema) (R : Reader) (v : Plain) → Done most mode schema R v
+pub cell_value_complete : (most : ℕ) (mode : Mode) (schema : CoreSchema) (R : Reader) (v : Plain) → Done most mode schema R v
     → (h : Spot) (g : Goal) (q : ℕ) (c : Tree) → Proper g → q + parts v ≤ most → Holds mode (Spells mode schema v) g c
-    → held R h g q c ≡ Ok v
-held_complete most mode schema R v done h at_cell q c proper le k =
+    → cell_value R h g q c ≡ Ok v
+cell_value_complete most mode schema R v done h at_cell q c proper le k =
     whole_complete R v h at_cell q (only_ref c) k.0 (done h at_cell q (only_ref c) k.0 nothing tt le k.2)
-held_complete most mode schema R v done h (at_type t) q c proper le k =
+cell_value_complete most mode schema R v done h (at_type t) q c proper le k =
     ordinary_opens R h (at_type t) q c k.0 k.2
     ∙ whole_complete R v h (at_type t) q k.0 k.1 (done h (at_type t) q k.0 k.1 nothing tt le k.3)
-held_complete most mode schema R v done h (at_field e t scope) q c proper le k =
+cell_value_complete most mode schema R v done h (at_field e t scope) q c proper le k =
     ordinary_opens R h (at_field e t scope) q c k.0 k.2
     ∙ whole_complete R v h (at_field e t scope) q k.0 k.1 (done h (at_field e t scope) q k.0 k.1 nothing proper le k.3)
 
@@ -150,9 +150,9 @@ child_complete most mode schema R v done h g q s outs after proper le e =
     let c = e.0 in
     let left : Slice = record { bits = s.bits; refs = after.refs } in
     let child : child_of R h g q None c ≡ Ok (ref_to tt v) =
-    bind_on (held R h g q c) _ v (Ok (ref_to tt v)) (held_complete most mode schema R v done h g q c proper le e.3) refl in
+    bind_on (cell_value R h g q c) _ v (Ok (ref_to tt v)) (cell_value_complete most mode schema R v done h g q c proper le e.3) refl in
     ap (λ z. read_ref mode R h g q s.bits z) e.2.refs
-    ∙ bind_on (child_of R h g q (unseen mode c) c) _ (ref_to tt v) (Ok (ref_to tt v, [], left)) (ap (λ o. child_of R h g q o c) (held_seen mode schema v g c e.3) ∙ child) refl
+    ∙ bind_on (child_of R h g q (unseen mode c) c) _ (ref_to tt v) (Ok (ref_to tt v, [], left)) (ap (λ o. child_of R h g q o c) (cell_value_seen mode schema v g c e.3) ∙ child) refl
     ∙ (λ i. Ok (ref_to tt v, (sym e.1) i, record { bits = e.2.bits i; refs = after.refs }))
 
 pruned_complete : (mode : Mode) (R : Reader) (x : Hidden) (h : Spot) (g : Goal) (q : ℕ) (s : Slice) (outs : List ℕ)
@@ -210,11 +210,11 @@ dict_e_complete : (most : ℕ) (mode : Mode) (schema : CoreSchema) (R : Reader) 
 dict_e_complete most mode schema R no_pairs us done h n t q s after le (no_entries a u b) =
     (λ i. by_bit mode R h n t q (next_bit (b.bits i)) (b.refs i)) ∙ (λ i. Ok (map_of tt no_pairs ((sym u) i), [], after))
 dict_e_complete most mode schema R (a_pair k v ps) us done h n t q s after le (no_entries a u b) = absurd a
-dict_e_complete most mode schema R ps us done h n t q s after le (some_entries c es b d held) =
+dict_e_complete most mode schema R ps us done h n t q s after le (some_entries c es b d cell_value) =
     let y : Found = (map_of tt ps us, [], after) in
     (λ i. by_bit mode R h n t q (next_bit (b.bits i)) (b.refs i))
     ∙ bind_on (walked h (walk_cell mode n c)) _ es (Ok y) (walked_on h (walk_cell mode n c) es (cell_complete_at mode n c es d))
-    (bind_on (leaf_values R h t q (pairs_in es)) _ ps (Ok y) (leaves_complete most mode schema R ps done h t q (pairs_in es) le held.0) (ap (λ (u : Unknowns). Ok (let z : Found = (map_of tt ps u, [], after) in z)) held.1))
+    (bind_on (leaf_values R h t q (pairs_in es)) _ ps (Ok y) (leaves_complete most mode schema R ps done h t q (pairs_in es) le cell_value.0) (ap (λ (u : Unknowns). Ok (let z : Found = (map_of tt ps u, [], after) in z)) cell_value.1))
 
 -- ---- declared types
 
@@ -336,13 +336,14 @@ string_at : (mode : Mode) (schema : CoreSchema) (R : Reader) (bits : List ℕ) (
 string_at mode schema R bits h (typed t) q s outs after e = string_read mode schema R bits h t q s outs after e
 string_at mode schema R bits h _ q s outs after e = absurd e
 
-ref_at : (most : ℕ) (mode : Mode) (schema : CoreSchema) (R : Reader) (v : Plain) → Done most mode schema R v → (h : Spot)
+ref_at : (most : ℕ) (mode : Mode) (schema : CoreSchema) (R : Reader) (v : Plain) → Done most mode schema R v
+    → (h : Spot)
     (c : Shape) (q : ℕ) (s : Slice) (outs : List ℕ) (after : Slice) → ProperShape c → q + parts v ≤ most
     → SpellsRef (free tt) mode (Spells mode schema v) c s outs after
     → read_shape mode schema R h c q s ≡ Ok (ref_to tt v, outs, after)
 ref_at most mode schema R v done h (typed (closed.ref t)) q s outs after proper le e =
-    child_complete most mode schema R v done h (behind t) q s outs after (proper_behind t) le e
-ref_at most mode schema R v done h (fields_behind is scope) q s outs after proper le e =
+    child_complete most mode schema R v done h (under_ref t) q s outs after (proper_under t) le e
+ref_at most mode schema R v done h (fields_under is scope) q s outs after proper le e =
     child_complete most mode schema R v done h (at_fields is scope) q s outs after proper le e
 ref_at most mode schema R v done h _ q s outs after proper le e = absurd e
 
@@ -378,8 +379,8 @@ absent_at mode schema R h _ q s outs after e = absurd e
 unknown_at : (mode : Mode) (schema : CoreSchema) (R : Reader) (x : Hidden) (h : Spot) (c : Shape) (q : ℕ) (s : Slice)
     (outs : List ℕ) (after : Slice) → SpellsUnknown mode x c s outs after
     → read_shape mode schema R h c q s ≡ Ok (unknown x, outs, after)
-unknown_at mode schema R x h (typed (closed.ref t)) q s outs after e = pruned_complete mode R x h (behind t) q s outs after e
-unknown_at mode schema R x h (fields_behind is scope) q s outs after e =
+unknown_at mode schema R x h (typed (closed.ref t)) q s outs after e = pruned_complete mode R x h (under_ref t) q s outs after e
+unknown_at mode schema R x h (fields_under is scope) q s outs after e =
     pruned_complete mode R x h (at_fields is scope) q s outs after e
 unknown_at mode schema R x h _ q s outs after e = absurd e
 
@@ -410,7 +411,7 @@ rest_at mode schema R r h _ q s outs after e = absurd e
 -- a goal is closed, and then its shape is read
 closed_on : (mode : Mode) (schema : CoreSchema) (R : Reader) (h : Spot) (g : Goal) (q : ℕ) (s : Slice) (c : Shape)
     (x : Found) → shape_of g ≡ Ok c → read_shape mode schema R h c q s ≡ Ok x → read_goal mode schema R h g q s ≡ Ok x
-closed_on mode schema R h g q s c x e f = bind_on (told h (shape_of g)) _ c (Ok x) (told_on h (shape_of g) c e) f
+closed_on mode schema R h g q s c x e f = bind_on (reported h (shape_of g)) _ c (Ok x) (reported_on h (shape_of g) c e) f
 
 begin_on : (n most : ℕ) (mode : Mode) (schema : CoreSchema) (h : Spot) (g : Goal) (q : ℕ) (s : Slice) (c : Shape)
     (x : Found) → q < most → shape_of g ≡ Ok c → read_shape mode schema (reading n most mode schema) h c (q + 1) s ≡ Ok x
@@ -486,8 +487,8 @@ pub root_complete : (mode : Mode) (schema : CoreSchema) → IsAcceptable schema 
 root_complete mode schema ok v n most le few t c (inl k) =
     let R = reading n most mode schema in
     let none : 0 + parts v ≤ most = omega (arith, few) in
-    ap (λ o. root_of R t o c) (held_seen mode schema v (behind t) c k)
-    ∙ held_complete most mode schema R v (complete mode schema ok v n most le) at_root (behind t) 0 c (proper_behind t) none k
+    ap (λ o. root_of R t o c) (cell_value_seen mode schema v (under_ref t) c k)
+    ∙ cell_value_complete most mode schema R v (complete mode schema ok v n most le) at_root (under_ref t) 0 c (proper_under t) none k
 root_complete mode schema ok (unknown x) n most le few t c (inr k) =
     ap (λ o. root_of (reading n most mode schema) t o c) k.0 ∙ when_false (is_ref t) _ _ k.1
 root_complete mode schema ok (number negative size) n most le few t c (inr k) = absurd k

@@ -20,10 +20,10 @@ use Rattle.core_form.specs.Closed.{Closed}
 use Rattle.core_form.specs.Closed as closed
 use Rattle.core_form.specs.Scope.{Scope, value_in, values_in}
 use Rattle.spelling.specs.Slices.{only_ref, is_nothing, took}
-use Rattle.spelling.specs.Goals.{Row, natural, integer, string, no_row, row, Goal, at_type, at_field, at_cell, Shape, typed, fields_here, fields_behind, left_out, as_cell, at_fields, behind, is_ref, shape_of}
+use Rattle.spelling.specs.Goals.{Row, natural, integer, string, no_row, row, Goal, at_type, at_field, at_cell, Shape, typed, fields_here, fields_under, left_out, as_cell, at_fields, under_ref, is_ref, shape_of}
 use Rattle.spelling.specs.Spells.{next_bit}
 use Rattle.spelling.specs.Places.{Spot, start, item_of, field_of, result_of, at_root}
-use Rattle.spelling.specs.PlainReader.{prepend, Found, Reader, known, told, take_bits, number_value, read_row, whole_of, ordinary_of, held, child_of, read_ref, read_cell, walked, leaf_values, at_edge, read_dict, walk_cell, read_root, by_bit, turn, repeat, sought_number, Step, step, Got, read_fields, Choice, choose, after_tag, read_declared, read_type, read_shape, reading, root_of, read_within}
+use Rattle.spelling.specs.PlainReader.{prepend, Found, Reader, known, reported, take_bits, number_value, read_row, whole_of, ordinary_of, cell_value, child_of, read_ref, read_cell, walked, leaf_values, at_edge, read_dict, walk_cell, read_root, by_bit, turn, repeat, sought_number, Step, step, Got, read_fields, Choice, choose, after_tag, read_declared, read_type, read_shape, reading, root_of, read_within}
 use Rattle.spelling_laws.specs.StepLaws.{bind_ok, guard_ok, only_ok, ok_one}
 
 -- these levels and parts, where so many levels are left and so many parts have begun of those that may
@@ -85,7 +85,8 @@ pub record Grows (n most q : ℕ) (x : Step) : Type 0 where
   pub before : (vs : Plains) → Counted n most x.begun (levels_in vs) (parts_in vs)
       → Counted n most q (levels_in (prepend x.gives vs)) (parts_in (prepend x.gives vs))
 
-step_counted : (n most : ℕ) (R : Reader) → IsCounted n most R → (h : Spot) (i : Item) (scope : Scope) (q : ℕ) (s : Slice)
+step_counted : (n most : ℕ) (R : Reader) → IsCounted n most R → (h : Spot) (i : Item) (scope : Scope) (q : ℕ)
+    (s : Slice)
     (x : Step) → q ≤ most → step R h i scope q s ≡ Ok x → Grows n most q x
 step_counted n most R counted h (check a op b i) scope q s x le e =
     let k = bind_ok (known (item_of h i) (value_in a scope)) _ x e in
@@ -94,7 +95,7 @@ step_counted n most R counted h (check a op b i) scope q s x le e =
     let Q : Step → Type 0 = Grows n most q in
     subst Q (ok_one _ _ (Ok x) g.1) (record { begun = le; before = λ vs c. c })
 step_counted n most R counted h (solve v a b i) scope q s x le e =
-    let k = bind_ok (told (item_of h i) (sought_number a b scope.numbers)) _ x e in
+    let k = bind_ok (reported (item_of h i) (sought_number a b scope.numbers)) _ x e in
     let Q : Step → Type 0 = Grows n most q in
     subst Q (ok_one _ _ (Ok x) k.2) (record { begun = le; before = λ vs c. c })
 step_counted n most R counted h (field y slot c t) scope q s x le e =
@@ -144,12 +145,12 @@ ordinary_counted n most R counted h g q Library s v e = cc
 ordinary_counted n most R counted h g q Proof s v e = cc
 ordinary_counted n most R counted h g q Update s v e = cc
 
-held_counted : (n most : ℕ) (R : Reader) → IsCounted n most R → (h : Spot) (g : Goal) (q : ℕ) (c : Tree) (v : Plain)
-    → held R h g q c ≡ Ok v → CountedOne n most q v
-held_counted n most R counted h at_cell q c v e = whole_counted n most R counted h at_cell q (only_ref c) v e
-held_counted n most R counted h (at_type t) q c v e =
+cell_value_counted : (n most : ℕ) (R : Reader) → IsCounted n most R → (h : Spot) (g : Goal) (q : ℕ) (c : Tree) (v : Plain)
+    → cell_value R h g q c ≡ Ok v → CountedOne n most q v
+cell_value_counted n most R counted h at_cell q c v e = whole_counted n most R counted h at_cell q (only_ref c) v e
+cell_value_counted n most R counted h (at_type t) q c v e =
     ordinary_counted n most R counted h (at_type t) q (out-Tree c).kind (content c) v e
-held_counted n most R counted h (at_field x t scope) q c v e =
+cell_value_counted n most R counted h (at_field x t scope) q c v e =
     ordinary_counted n most R counted h (at_field x t scope) q (out-Tree c).kind (content c) v e
 
 child_counted : (n most : ℕ) (R : Reader) → IsCounted n most R → (h : Spot) (g : Goal) (q : ℕ) (o : Option Hidden)
@@ -158,9 +159,9 @@ child_counted n most R counted h g q (Some x) c v le e =
     let Q : Plain → Type 0 = λ y. CountedOne (suc n) (suc most) q y in
     subst Q (ok_one _ _ (Ok v) e) (lone n most q le)
 child_counted n most R counted h g q None c v le e =
-    let u = bind_ok (held R h g q c) _ v e in
+    let u = bind_ok (cell_value R h g q c) _ v e in
     let Q : Plain → Type 0 = λ y. CountedOne (suc n) (suc most) q y in
-    subst Q (ok_one _ _ (Ok v) u.2) (around n most q (levels u.0) (parts u.0) (held_counted n most R counted h g q c u.0 u.1))
+    subst Q (ok_one _ _ (Ok v) u.2) (around n most q (levels u.0) (parts u.0) (cell_value_counted n most R counted h g q c u.0 u.1))
 
 ref_counted : (n most : ℕ) (mode : Mode) (R : Reader) → IsCounted n most R → (h : Spot) (g : Goal) (q : ℕ)
     (bits : List ℕ) (refs : List Tree) (x : Found) → q ≤ most → read_ref mode R h g q bits refs ≡ Ok x
@@ -267,7 +268,7 @@ type_counted n most mode schema R counted h closed.whole q s x le e =
     let Q : Found → Type 0 = λ y. CountedOne (suc n) (suc most) q y.0 in
     subst Q (ok_one _ _ (Ok x) e) (lone n most q le)
 type_counted n most mode schema R counted h (closed.ref t) q s x le e =
-    ref_counted n most mode R counted h (behind t) q s.bits s.refs x le e
+    ref_counted n most mode R counted h (under_ref t) q s.bits s.refs x le e
 type_counted n most mode schema R counted h (closed.repeat k t) q s x le e =
     let v = bind_ok (repeat R h k t q s) _ x e in
     let Q : Found → Type 0 = λ y. CountedOne (suc n) (suc most) q y.0 in
@@ -294,7 +295,7 @@ shape_counted n most mode schema R counted h (fields_here is scope) q s x le e =
     let v = bind_ok (read_fields R h is scope q s) _ x e in
     let Q : Found → Type 0 = λ y. CountedOne (suc n) (suc most) q y.0 in
     subst Q (ok_one _ _ (Ok x) v.2) (around n most q (levels_in v.0.0) (parts_in v.0.0) (fields_counted n most R counted h is scope q s v.0 le v.1))
-shape_counted n most mode schema R counted h (fields_behind is scope) q s x le e =
+shape_counted n most mode schema R counted h (fields_under is scope) q s x le e =
     ref_counted n most mode R counted h (at_fields is scope) q s.bits s.refs x le e
 shape_counted n most mode schema R counted h left_out q s x le e =
     let Q : Found → Type 0 = λ y. CountedOne (suc n) (suc most) q y.0 in
@@ -307,7 +308,7 @@ reading_counted zero most mode schema h g q s x e = cc
 reading_counted (suc n) most mode schema h g q s x e =
     let b = only_ok (nat_lt q most) _ _ x e in
     let lt = ltb-true q most b.0 in
-    let c = bind_ok (told h (shape_of g)) _ x b.1 in
+    let c = bind_ok (reported h (shape_of g)) _ x b.1 in
     let le : q + 1 ≤ most = omega (arith, lt) in
     let up = shape_counted n most mode schema (reading n most mode schema) (reading_counted n most mode schema) h c.0 (q + 1) s x le c.2 in
     record { low = up.low; few = let f = up.few in omega (arith, f) }
@@ -324,5 +325,5 @@ root_counted_at n most mode schema t c v deep large e = go (unseen mode c) e
         let Q : Plain → Type 0 = λ y. (levels y ≤ n) × (parts y ≤ most) in
         subst Q (ok_one _ _ (Ok v) g.1) (deep, large)
     go None e =
-        let r = held_counted n most (reading n most mode schema) (reading_counted n most mode schema) at_root (behind t) 0 c v e in
+        let r = cell_value_counted n most (reading n most mode schema) (reading_counted n most mode schema) at_root (under_ref t) 0 c v e in
         (r.low, (let f = r.few in omega (arith, f)))

@@ -10,8 +10,9 @@ use Rattle.core_form.specs.Closed as closed
 use Rattle.core_form.specs.Scope.{Scope}
 use Rattle.schema_leads.specs.Leads.{leads, some_begins}
 use Rattle.spelling.specs.Acceptable.{IsAcceptable}
-use Rattle.spelling.specs.Goals.{at_type, typed}
+use Rattle.spelling.specs.Goals.{Goal, at_type, typed}
 use Rattle.spelling.specs.Spells.{Spells, SpellsDeclared, Each, Reading}
+use Rattle.spelling.specs.Marks.{Marked, plain, SpellsMarked}
 use Rattle.spelling.specs.Places.{Place}
 use Rattle.spelling.specs.PlainReader.{Found, read}
 use Rattle.spelling.specs.Stuck.{Enters, Stuck}
@@ -86,3 +87,12 @@ pub record ExactlyOne (mode : Mode) (schema : CoreSchema) (t : Closed) (c : Tree
 abbrev pub ReadOrStuck : Type 0
 ReadOrStuck =
     (mode : Mode) (schema : CoreSchema) → IsAcceptable schema → (t : Closed) (c : Tree) → ExactlyOne mode schema t c
+
+-- ---- marks
+
+-- each value that is spelled has its marked value, in every schema
+abbrev pub HasMarks : Type 0
+HasMarks =
+    (mode : Mode) (schema : CoreSchema) (v : Plain) (g : Goal) (s : Slice) (outs : List ℕ) (after : Slice)
+    → Spells mode schema v g s outs after
+    → (d : Marked) × (plain d ≡ v) × SpellsMarked mode schema d g s outs after

@@ -44,9 +44,9 @@ or_right : (a b : Bool) → b ≡ true → (a || b) ≡ true
 or_right true b e = refl
 or_right false b e = e
 
-pub begins_front : (tag bits : List ℕ) → begins tag (tag ++ bits) ≡ true
-begins_front [] bits = refl
-begins_front (b ∷ tag) bits = both_on (nat_eq b b) (begins tag (tag ++ bits)) (eq-eqb b b refl) (begins_front tag bits)
+pub begins_first : (tag bits : List ℕ) → begins tag (tag ++ bits) ≡ true
+begins_first [] bits = refl
+begins_first (b ∷ tag) bits = both_on (nat_eq b b) (begins tag (tag ++ bits)) (eq-eqb b b refl) (begins_first tag bits)
 
 -- ---- sets of leads
 
@@ -386,7 +386,7 @@ constructor_lead mode schema n L leading at c there vs scope s middle end after 
     go : (tag : List ℕ) → c.core.tag ≡ tag → s.bits ≡ tag ++ middle.bits
         → Has (by_tag tag (by_first L (first_of c.core.items))) s.bits ⊎ Chain schema (suc n) c.of_type
     go (b ∷ tag) e k =
-        inl (or_left (begins (b ∷ tag) s.bits) false (ap (begins (b ∷ tag)) k ∙ begins_front (b ∷ tag) middle.bits))
+        inl (or_left (begins (b ∷ tag) s.bits) false (ap (begins (b ∷ tag)) k ∙ begins_first (b ∷ tag) middle.bits))
     go [] e k = first_lead (first_of c.core.items) refl
       where
         first_lead : (o : First) → first_of c.core.items ≡ o
@@ -427,7 +427,8 @@ type_lead mode schema (suc n) x args name names ws s outs after e =
       | inr chain ↦ let P : Word → Type 0 = λ z. Chain schema (suc n) z in inr (subst P e.5.of_type chain)
     ]
 
-pub leads_hold : (mode : Mode) (schema : CoreSchema) → IsAcceptable schema → (x : Word) (args : ClosedArgs) (name : Word)
+pub leads_hold : (mode : Mode) (schema : CoreSchema) → IsAcceptable schema → (x : Word) (args : ClosedArgs)
+    (name : Word)
     (names : List Word) (vs : Plains) (s : Slice) (outs : List ℕ) (after : Slice)
     (e : SpellsDeclared schema name names (Each mode schema vs) (typed (closed.named x args)) s outs after)
     → some_begins (leads schema e.1) s.bits ≡ true

@@ -4,6 +4,7 @@ pub mod EnterLaws
 pub mod FitLaws
 pub mod Laws
 pub mod LeadsLaws
+pub mod MarkLaws
 pub mod OutcomeLaws
 pub mod ProperLaws
 pub mod RefusedLaws

@@ -6,7 +6,7 @@ use Rattle.core_form.specs.Closed.{Closed}
 use Rattle.core_form.specs.Closed as closed
 use Rattle.core_form.specs.Closing.{Refusal, close}
 use Rattle.core_form.specs.Scope.{Scope, value_in}
-use Rattle.spelling.specs.Goals.{Goal, at_type, at_field, at_cell, Shape, typed, fields_here, fields_behind, left_out, as_cell, behind, typed_or, laid, in_table, in_width, judged, passes, tested, shape_of}
+use Rattle.spelling.specs.Goals.{Goal, at_type, at_field, at_cell, Shape, typed, fields_here, fields_under, left_out, as_cell, under_ref, typed_or, laid, in_table, in_width, judged, passes, tested, shape_of}
 use Rattle.spelling.specs.Acceptable.{Seeks, SeeksIn}
 use Rattle.spelling.specs.declared.Cause.{Cause}
 use Rattle.spelling.specs.declared.Cause.TheVariants.{Width}
@@ -19,13 +19,13 @@ Proper at_cell = Unit {0}
 abbrev pub ProperShape : Shape → Type 0
 ProperShape (typed t) = Unit {0}
 ProperShape (fields_here is scope) = Seeks is
-ProperShape (fields_behind is scope) = Seeks is
+ProperShape (fields_under is scope) = Seeks is
 ProperShape left_out = Unit {0}
 ProperShape as_cell = Unit {0}
 
-pub proper_behind : (t : Closed) → Proper (behind t)
-proper_behind closed.whole = tt
-proper_behind _ = tt
+pub proper_under : (t : Closed) → Proper (under_ref t)
+proper_under closed.whole = tt
+proper_under _ = tt
 
 ok_same : (c d : Shape) → (◌≡◌ {A = Result Shape Cause} (Ok c) (Ok d)) → c ≡ d
 ok_same c d e = cc
@@ -46,7 +46,7 @@ proper_in_width (typed t) d p e = go (in_table t) e
     go true e = let P : Shape → Type 0 = ProperShape in subst P (ok_same _ d e) tt
     go false e = cc
 proper_in_width (fields_here is scope) d p e = let P : Shape → Type 0 = ProperShape in subst P (ok_same _ d e) p
-proper_in_width (fields_behind is scope) d p e = let P : Shape → Type 0 = ProperShape in subst P (ok_same _ d e) p
+proper_in_width (fields_under is scope) d p e = let P : Shape → Type 0 = ProperShape in subst P (ok_same _ d e) p
 proper_in_width left_out d p e = let P : Shape → Type 0 = ProperShape in subst P (ok_same _ d e) tt
 proper_in_width as_cell d p e = let P : Shape → Type 0 = ProperShape in subst P (ok_same _ d e) tt
 

@@ -23,16 +23,16 @@ use Rattle.core_form.specs.Closed.{Closed, ClosedArgs}
 use Rattle.core_form.specs.Closed as closed
 use Rattle.core_form.specs.Scope.{Scope, value_in, values_in, with_number, bind}
 use Rattle.spelling.specs.Slices.{nothing, only_ref, is_nothing, took}
-use Rattle.spelling.specs.Goals.{Row, natural, integer, string, no_row, row, Goal, at_type, at_field, at_cell, Shape, typed, fields_here, fields_behind, left_out, as_cell, at_fields, behind, is_ref, shape_of}
+use Rattle.spelling.specs.Goals.{Row, natural, integer, string, no_row, row, Goal, at_type, at_field, at_cell, Shape, typed, fields_here, fields_under, left_out, as_cell, at_fields, under_ref, is_ref, shape_of}
 use Rattle.spelling.specs.Spells.{own, next_bit}
 use Rattle.spelling.specs.Places.{Spot, Place, stuck, start, item_of, field_of, result_of, at_root}
-use Rattle.spelling.specs.PlainReader.{◌>>=◌, prepend, Found, Reader, known, told, number_value, natural_of, integer_of, read_row, whole_of, ordinary_of, held, child_of, read_ref, read_cell, walked, leaf_values, at_edge, read_dict, walk_cell, read_root, by_bit, turn, repeat, sought_number, Step, step, Got, read_fields, candidate, Choice, first, choose, after_tag, read_declared, read_type, read_shape, reading, root_of, read_within}
+use Rattle.spelling.specs.PlainReader.{◌>>=◌, prepend, Found, Reader, known, reported, number_value, natural_of, integer_of, read_row, whole_of, ordinary_of, cell_value, child_of, read_ref, read_cell, walked, leaf_values, at_edge, read_dict, walk_cell, read_root, by_bit, turn, repeat, sought_number, Step, step, Got, read_fields, candidate, Choice, first, choose, after_tag, read_declared, read_type, read_shape, reading, root_of, read_within}
 use Rattle.spelling.specs.Acceptable.{IsAcceptable, Seeks}
-use Rattle.spelling.specs.Stuck.{Stops, Parts, StopsRow, StopsWhole, within, over, StopsOrdinary, exotic, inside, StopsHeld, StopsRef, no_ref, child, StopsLeaves, StopsDict, in_edges, in_leaf, in_values, StopsDictE, no_bit, no_root, root_edges, root_values, StopsTurn, this, idle, later, StopsRepeat, StopsPair, StopsSolve, too_great, unsolved, onward, StopsFields, NoEnd, StopsResult, StopsDeclared, none_fits, entered, StopsType, StopsShape, Within, StuckWithin, StuckRoot, hidden_root, open_root}
+use Rattle.spelling.specs.Stuck.{Stops, Parts, StopsRow, StopsWhole, within, over, StopsOrdinary, exotic, inside, StopsCell, StopsRef, no_ref, child, StopsLeaves, StopsDict, in_edges, in_leaf, in_values, StopsDictE, no_bit, no_root, root_edges, root_values, StopsTurn, this, idle, later, StopsRepeat, StopsPair, StopsSolve, too_great, unsolved, onward, StopsFields, NoEnd, StopsResult, StopsDeclared, none_fits, entered, StopsType, StopsShape, Within, StuckWithin, StuckRoot, hidden_root, open_root}
 use Rattle.spelling.specs.declared.Cause.{Cause}
 use Rattle.spelling.specs.declared.Cause.TheVariants.{ShortBits, ShortRefs, OutOfRange, Idle, Exotic, Leftover}
-use Rattle.spelling_laws.specs.StepLaws.{bind_ok, bind_err, only_ok, only_err, test_err, ok_one, err_one, ok_err, known_ok, known_err, told_ok, told_err, walked_ok, walked_err, step_then}
-use Rattle.spelling_laws.specs.ProperLaws.{Proper, ProperShape, proper_behind, proper_shape}
+use Rattle.spelling_laws.specs.StepLaws.{bind_ok, bind_err, only_ok, only_err, test_err, ok_one, err_one, ok_err, known_ok, known_err, reported_ok, reported_err, walked_ok, walked_err, step_then}
+use Rattle.spelling_laws.specs.ProperLaws.{Proper, ProperShape, proper_under, proper_shape}
 use Rattle.spelling_laws.specs.SolvingLaws.{Unsolved, sought_sound, sought_refused}
 use Rattle.spelling_laws.specs.SolvingLaws as solving
 use Rattle.spelling_laws.specs.SoundLaws.{choice_stands, candidate_enters, begun, tag_begins, nothing_left, cell_sound_at, reads_spelled, compares}
@@ -112,13 +112,14 @@ ordinary_refused S P R reads refuses h g q c Proof kind p proper e =
 ordinary_refused S P R reads refuses h g q c Update kind p proper e =
     exotic (λ f. let k : Update ≡ Ordinary = sym kind ∙ f in cc) (err_one _ _ e)
 
-pub held_refused : (S : Stops) (P : Parts) (R : Reader) → Reads P R → Refuses S R → (h : Spot) (g : Goal) (q : ℕ) (c : Tree)
-    (p : Place) → Proper g → held R h g q c ≡ Err p → StopsHeld S P h g q c p
-held_refused S P R reads refuses h at_cell q c p proper e =
+pub cell_value_refused : (S : Stops) (P : Parts) (R : Reader) → Reads P R → Refuses S R → (h : Spot) (g : Goal) (q : ℕ)
+    (c : Tree)
+    (p : Place) → Proper g → cell_value R h g q c ≡ Err p → StopsCell S P h g q c p
+cell_value_refused S P R reads refuses h at_cell q c p proper e =
     whole_refused S P R reads refuses h at_cell q (only_ref c) p tt e
-held_refused S P R reads refuses h (at_type t) q c p proper e =
+cell_value_refused S P R reads refuses h (at_type t) q c p proper e =
     ordinary_refused S P R reads refuses h (at_type t) q c (out-Tree c).kind refl p tt e
-held_refused S P R reads refuses h (at_field x t scope) q c p proper e =
+cell_value_refused S P R reads refuses h (at_field x t scope) q c p proper e =
     ordinary_refused S P R reads refuses h (at_field x t scope) q c (out-Tree c).kind refl p proper e
 
 ref_refused : (mode : Mode) (S : Stops) (P : Parts) (R : Reader) → Reads P R → Refuses S R → (h : Spot) (g : Goal)
@@ -133,7 +134,7 @@ ref_refused mode S P R reads refuses h g q bits (c ∷ refs) p proper e =
     go (Some x) u e = cc
     go None u e =
         child c (record { bits = bits; refs = refs }) (record { bits = refl; refs = refl }) u
-        (held_refused S P R reads refuses h g q c p proper (ok_err (held R h g q c) _ p e))
+        (cell_value_refused S P R reads refuses h g q c p proper (ok_err (cell_value R h g q c) _ p e))
 
 -- ---- dictionaries
 
@@ -264,13 +265,13 @@ fields_refused S P R reads refuses End k h (an_item (check a op b i) is) seeks s
 fields_refused S P R reads refuses End k h (an_item (solve v a b i) is) seeks scope q s p ends e =
     elim (bind_err (step R h (solve v a b i) scope q s) _ p (sym (step_then (step R h (solve v a b i) scope q s) (λ x. read_fields R h is x.scope x.begun x.left) (λ x y. (let z : Got = (prepend x.gives y.0, y.1, y.2) in z)) k) ∙ e)) [
       | inl e ↦
-          let t = told_err (item_of h i) (sought_number a b scope.numbers) p (ok_err (told (item_of h i) (sought_number a b scope.numbers)) _ p e) in
+          let t = reported_err (item_of h i) (sought_number a b scope.numbers) p (ok_err (reported (item_of h i) (sought_number a b scope.numbers)) _ p e) in
           solve_stops (item_of h i) a b scope v _ p t.0 (sought_refused a b scope.numbers v t.0 seeks.0 t.1) t.2
       | inr e ↦
-          let x = bind_ok (told (item_of h i) (sought_number a b scope.numbers)) _ e.0 e.1 in
+          let x = bind_ok (reported (item_of h i) (sought_number a b scope.numbers)) _ e.0 e.1 in
           let T : Step → Type 0 = λ x. (read_fields R h is x.scope x.begun x.left >>= λ y. k (prepend x.gives y.0, y.1, y.2)) ≡ Err p in
           let more = subst T (sym (ok_one _ _ (Ok e.0) x.2)) e.2 in
-          onward x.0 (sought_sound a b scope.numbers x.0 (told_ok (item_of h i) (sought_number a b scope.numbers) x.0 x.1))
+          onward x.0 (sought_sound a b scope.numbers x.0 (reported_ok (item_of h i) (sought_number a b scope.numbers) x.0 x.1))
           (fields_refused S P R reads refuses End k h is seeks.1 (with_number v x.0 scope) q s p ends more)
     ]
 fields_refused S P R reads refuses End k h (an_item (field y slot c t) is) seeks scope q s p ends e =
@@ -349,7 +350,8 @@ has_int n = go (nat_le n 128)
     go true = tt
     go false = tt
 
-natural_refused : (h : Spot) (width bound : ℕ) (named : Bool) (s : Slice) (p : Place) → nat_lt (length s.bits) width ≡ false
+natural_refused : (h : Spot) (width bound : ℕ) (named : Bool) (s : Slice) (p : Place)
+    → nat_lt (length s.bits) width ≡ false
     → natural_of h bound named (take width s.bits) (record { bits = drop width s.bits; refs = s.refs }) ≡ Err p
     → StopsRow h (natural width bound named) s p
 natural_refused h width bound named s p l e =
@@ -403,7 +405,8 @@ row_refused h no_row has s p e = absurd has
 
 -- ---- goals
 
-type_refused : (mode : Mode) (schema : CoreSchema) → IsAcceptable schema → (S : Stops) (P : Parts) (R : Reader) → Reads P R
+type_refused : (mode : Mode) (schema : CoreSchema) → IsAcceptable schema → (S : Stops) (P : Parts) (R : Reader)
+    → Reads P R
     → Refuses S R → (h : Spot) (t : Closed) (q : ℕ) (s : Slice) (p : Place) → read_type mode schema R h t q s ≡ Err p
     → StopsType mode schema S P h t q s p
 type_refused mode schema ok S P R reads refuses h closed.nat32 q s p e = row_refused h (row closed.nat32) tt s p e
@@ -415,7 +418,7 @@ type_refused mode schema ok S P R reads refuses h (closed.int n) q s p e = row_r
 type_refused mode schema ok S P R reads refuses h (closed.bit_str n) q s p e = row_refused h (row (closed.bit_str n)) tt s p e
 type_refused mode schema ok S P R reads refuses h closed.whole q s p e = cc
 type_refused mode schema ok S P R reads refuses h (closed.ref t) q s p e =
-    ref_refused mode S P R reads refuses h (behind t) q s.bits s.refs p (proper_behind t) e
+    ref_refused mode S P R reads refuses h (under_ref t) q s.bits s.refs p (proper_under t) e
 type_refused mode schema ok S P R reads refuses h (closed.repeat n t) q s p e =
     repeat_refused S P R reads refuses h n t q s p (ok_err (repeat R h n t q s) _ p e)
 type_refused mode schema ok S P R reads refuses h (closed.dict n t) q s p e =
@@ -432,15 +435,15 @@ cell_refused h bits (c ∷ refs) p e = cc
 
 shape_refused : (mode : Mode) (schema : CoreSchema) → IsAcceptable schema → (S : Stops) (P : Parts) (R : Reader)
     → Reads P R → Refuses S R → (h : Spot) (o : Result Shape Cause) → ((c : Shape) → o ≡ Ok c → ProperShape c) → (q : ℕ)
-    (s : Slice) (p : Place) → (told h o >>= λ c. read_shape mode schema R h c q s) ≡ Err p
+    (s : Slice) (p : Place) → (reported h o >>= λ c. read_shape mode schema R h c q s) ≡ Err p
     → StopsShape mode schema S P h o q s p
 shape_refused mode schema ok S P R reads refuses h (Err why) proper q s p e = err_one _ _ e
 shape_refused mode schema ok S P R reads refuses h (Ok (typed t)) proper q s p e =
     type_refused mode schema ok S P R reads refuses h t q s p e
 shape_refused mode schema ok S P R reads refuses h (Ok (fields_here is scope)) proper q s p e =
     fields_refused S P R reads refuses NoEnd (λ x. Ok (let y : Found = (record_of None (field_names is) x.0, [], x.2) in y)) h is (proper (fields_here is scope) refl) scope q s p (λ x e. (cc)) e
-shape_refused mode schema ok S P R reads refuses h (Ok (fields_behind is scope)) proper q s p e =
-    ref_refused mode S P R reads refuses h (at_fields is scope) q s.bits s.refs p (proper (fields_behind is scope) refl) e
+shape_refused mode schema ok S P R reads refuses h (Ok (fields_under is scope)) proper q s p e =
+    ref_refused mode S P R reads refuses h (at_fields is scope) q s.bits s.refs p (proper (fields_under is scope) refl) e
 shape_refused mode schema ok S P R reads refuses h (Ok left_out) proper q s p e = cc
 shape_refused mode schema ok S P R reads refuses h (Ok as_cell) proper q s p e = cell_refused h s.bits s.refs p e
 
@@ -465,6 +468,9 @@ reading_refused (suc n) most mode schema ok h g q s p proper e = elim (test_err 
 
 -- ---- the root
 
+some_none : (x : Hidden) → (◌≡◌ {A = Option Hidden} (Some x) None) → ⊥
+some_none x k = cc
+
 pub root_refused_at : (n most : ℕ) (mode : Mode) (schema : CoreSchema) → IsAcceptable schema → (t : Closed) (c : Tree)
     (p : Place) → read_within n most mode schema t c ≡ Err p → StuckRoot n most mode schema t c p
 root_refused_at n most mode schema ok t c p e = go (unseen mode c) refl e
@@ -473,12 +479,10 @@ root_refused_at n most mode schema ok t c p e = go (unseen mode c) refl e
         → StuckRoot n most mode schema t c p
     go (Some x) u e = at_ref (is_ref t) refl e
       where
-        at_ref : (b : Bool) → is_ref t ≡ b → cond {A = Result Plain Place} b (Err (stuck at_root Exotic)) (Ok (unknown x)) ≡ Err p
+        at_ref : (b : Bool) → is_ref t ≡ b
+            → cond {A = Result Plain Place} b (Err (stuck at_root Exotic)) (Ok (unknown x)) ≡ Err p
             → StuckRoot n most mode schema t c p
         at_ref true r e = hidden_root (λ none. some_none x (sym u ∙ none)) r (err_one _ _ e)
-          where
-            some_none : (x : Hidden) → (◌≡◌ {A = Option Hidden} (Some x) None) → ⊥
-            some_none x k = cc
         at_ref false r e = cc
     go None u e =
-        open_root u (held_refused (StuckWithin n most mode schema) (Within n most mode schema) (reading n most mode schema) (reading_within n most mode schema) (reading_refused n most mode schema ok) at_root (behind t) 0 c p (proper_behind t) e)
+        open_root u (cell_value_refused (StuckWithin n most mode schema) (Within n most mode schema) (reading n most mode schema) (reading_within n most mode schema) (reading_refused n most mode schema ok) at_root (under_ref t) 0 c p (proper_under t) e)

@@ -21,9 +21,9 @@ use Rattle.spelling.specs.PlainReader.{Found, take_bits, number_value, read_row}
 use Rattle.spelling_laws.specs.StepLaws.{bind_on, when_true, when_false}
 
 -- bits that stand first are taken
-pub front : (k : ℕ) (bits rest all : List ℕ) → length bits ≡ k → all ≡ bits ++ rest
+pub first_bits : (k : ℕ) (bits rest all : List ℕ) → length bits ≡ k → all ≡ bits ++ rest
     → (k ≤ length all) × (take k all ≡ bits) × (drop k all ≡ rest)
-front k bits rest all l e =
+first_bits k bits rest all l e =
     let n = ap length e in (
       omega (arith, n, l, length-append bits rest),
       ap (take k) e ∙ ap (λ n. take n (bits ++ rest)) (sym l) ∙ take-append_seam bits rest,
@@ -33,7 +33,7 @@ front k bits rest all l e =
 pub taken_on : (h : Spot) (n : ℕ) (bits : List ℕ) (s after : Slice) → length bits ≡ n → Then s (only_bits bits) after
     → take_bits h n s ≡ Ok (bits, after)
 taken_on h n bits s after l t =
-    let f = front n bits after.bits s.bits l t.bits in
+    let f = first_bits n bits after.bits s.bits l t.bits in
     when_false (nat_lt (length s.bits) n) _ _ (le-ltb (length s.bits) n f.0)
     ∙ (λ i. Ok (f.1 i, record { bits = f.2 i; refs = t.refs i }))
 

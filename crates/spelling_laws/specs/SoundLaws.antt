@@ -32,12 +32,12 @@ use Rattle.core_form.specs.Scope.{Scope, value_in, values_in}
 use Rattle.core_form.specs.Fit.{fit}
 use Rattle.schema_leads.specs.Leads.{begins, leads, some_begins, by_tag, by_first, type_leads, first_of}
 use Rattle.spelling.specs.Slices.{nothing, only_bits, only_ref, is_nothing, took}
-use Rattle.spelling.specs.Goals.{Row, natural, integer, string, no_row, row, Goal, at_type, at_field, at_cell, Shape, typed, fields_here, fields_behind, left_out, as_cell, at_fields, behind, is_ref, shape_of}
+use Rattle.spelling.specs.Goals.{Row, natural, integer, string, no_row, row, Goal, at_type, at_field, at_cell, Shape, typed, fields_here, fields_under, left_out, as_cell, at_fields, under_ref, is_ref, shape_of}
 use Rattle.spelling.specs.Spells.{SpellsNumber, SpellsString, Spells, SpellsShape, SpellsChild, SpellsPruned, Holds, IsRootOf, free, Each, EachPair, Contents, Repeats, Fields, no_entries, some_entries, next_bit}
 use Rattle.spelling.specs.Places.{Spot, start, item_of, field_of, result_of, at_root}
-use Rattle.spelling.specs.PlainReader.{prepend, Found, Reader, known, told, take_bits, number_value, natural_of, integer_of, read_row, whole_of, ordinary_of, held, child_of, read_ref, read_cell, walked, leaf_values, at_edge, read_dict, walk_cell, read_root, by_bit, turn, repeat, sought_number, Step, step, Got, read_fields, candidate, Choice, first, choose, after_tag, read_declared, read_type, read_shape, read_goal, reading, root_of, read_within}
+use Rattle.spelling.specs.PlainReader.{prepend, Found, Reader, known, reported, take_bits, number_value, natural_of, integer_of, read_row, whole_of, ordinary_of, cell_value, child_of, read_ref, read_cell, walked, leaf_values, at_edge, read_dict, walk_cell, read_root, by_bit, turn, repeat, sought_number, Step, step, Got, read_fields, candidate, Choice, first, choose, after_tag, read_declared, read_type, read_shape, read_goal, reading, root_of, read_within}
 use Rattle.spelling.specs.Stuck.{Enters}
-use Rattle.spelling_laws.specs.StepLaws.{bind_ok, guard_ok, only_ok, known_ok, told_ok, walked_ok, ok_one, both}
+use Rattle.spelling_laws.specs.StepLaws.{bind_ok, guard_ok, only_ok, known_ok, reported_ok, walked_ok, ok_one, both}
 use Rattle.spelling_laws.specs.FitLaws.{fit_sound}
 use Rattle.spelling_laws.specs.SolvingLaws.{sought_sound}
 
@@ -52,13 +52,16 @@ OfRow _ r = λ before outs after. ⊥
 abbrev RowSpelled : Row → Slice → Found → Type 0
 RowSpelled r s x = OfRow x.0 r s x.1 x.2
 
-taken : (h : Spot) (n : ℕ) (s : Slice) (y : List ℕ × Slice) → take_bits h n s ≡ Ok y → (length y.0 ≡ n) × Then s (only_bits y.0) y.1
+taken : (h : Spot) (n : ℕ) (s : Slice) (y : List ℕ × Slice) → take_bits h n s ≡ Ok y
+    → (length y.0 ≡ n) × Then s (only_bits y.0) y.1
 taken h n s y e =
     let g = guard_ok (nat_lt (length s.bits) n) _ _ y e in
     let P : List ℕ × Slice → Type 0 = λ z. (length z.0 ≡ n) × Then s (only_bits z.0) z.1 in
     subst P (ok_one _ _ (Ok y) g.1) (length-take-le n s.bits (ltb-false (length s.bits) n g.0), record { bits = sym (take-append-drop n s.bits); refs = refl })
 
-natural_sound : (h : Spot) (width bound : ℕ) (named : Bool) (s : Slice) (y : List ℕ × Slice) → (length y.0 ≡ width) × Then s (only_bits y.0) y.1 → (x : Found) → natural_of h bound named y.0 y.1 ≡ Ok x → RowSpelled (natural width bound named) s x
+natural_sound : (h : Spot) (width bound : ℕ) (named : Bool) (s : Slice) (y : List ℕ × Slice)
+    → (length y.0 ≡ width) × Then s (only_bits y.0) y.1 → (x : Found) → natural_of h bound named y.0 y.1 ≡ Ok x
+    → RowSpelled (natural width bound named) s x
 natural_sound h width bound named s y t x e =
     let b = only_ok (are_bits y.0) _ _ x e in
     let g = only_ok (nat_lt (number_of y.0) bound) _ _ x b.1 in
@@ -68,11 +71,14 @@ natural_sound h width bound named s y t x e =
     let P : Found → Type 0 = RowSpelled (natural width bound named) s in
     subst P (ok_one _ _ (Ok x) g.1) (refl, ltb-true (number_of y.0) bound g.0, refl, subst T (sym same) t.1)
 
-integer_value : (width : ℕ) (s after : Slice) (z : ℤ) → InSignedRange width z → Then s (only_bits (signed_spelled width z)) after → RowSpelled (integer width) s (number_value z, [], after)
+integer_value : (width : ℕ) (s after : Slice) (z : ℤ) → InSignedRange width z
+    → Then s (only_bits (signed_spelled width z)) after → RowSpelled (integer width) s (number_value z, [], after)
 integer_value width s after (pos n) r u = (pos n, refl, r, refl, u)
 integer_value width s after (negsuc n) r u = (negsuc n, refl, r, refl, u)
 
-integer_sound : (h : Spot) (width : ℕ) (s : Slice) (y : List ℕ × Slice) → (length y.0 ≡ width) × Then s (only_bits y.0) y.1 → (x : Found) → integer_of h y.0 y.1 ≡ Ok x → RowSpelled (integer width) s x
+integer_sound : (h : Spot) (width : ℕ) (s : Slice) (y : List ℕ × Slice)
+    → (length y.0 ≡ width) × Then s (only_bits y.0) y.1 → (x : Found) → integer_of h y.0 y.1 ≡ Ok x
+    → RowSpelled (integer width) s x
 integer_sound h width s y t x e =
     let b = only_ok (are_bits y.0) _ _ x e in
     let z : ℤ = signed_number_of y.0 in
@@ -92,12 +98,14 @@ row_sound h (string width) s x e =
     subst P (ok_one _ _ (Ok x) y.2) (t.0, refl, t.1)
 row_sound h no_row s x e = cc
 
-of_row : (mode : Mode) (schema : CoreSchema) (t : Closed) (v : Plain) (s : Slice) (outs : List ℕ) (after : Slice) → OfRow v (row t) s outs after → SpellsShape mode schema v (typed t) s outs after
+of_row : (mode : Mode) (schema : CoreSchema) (t : Closed) (v : Plain) (s : Slice) (outs : List ℕ) (after : Slice)
+    → OfRow v (row t) s outs after → SpellsShape mode schema v (typed t) s outs after
 of_row mode schema t (number negative size) s outs after k = k
 of_row mode schema t (bit_string bits) s outs after k = k
 of_row mode schema t _ s outs after k = absurd k
 
-basic_sound : (mode : Mode) (schema : CoreSchema) (h : Spot) (t : Closed) (s : Slice) (x : Found) → read_row h (row t) s ≡ Ok x → SpellsShape mode schema x.0 (typed t) s x.1 x.2
+basic_sound : (mode : Mode) (schema : CoreSchema) (h : Spot) (t : Closed) (s : Slice) (x : Found)
+    → read_row h (row t) s ≡ Ok x → SpellsShape mode schema x.0 (typed t) s x.1 x.2
 basic_sound mode schema h t s x e = of_row mode schema t x.0 s x.1 x.2 (row_sound h (row t) s x e)
 
 -- ---- equations and comparisons
@@ -114,7 +122,9 @@ compares Ge m n e = leb-true n m e
 abbrev pub IsSound : Mode → CoreSchema → Reader → Type 0
 IsSound mode schema R = (h : Spot) (g : Goal) (q : ℕ) (s : Slice) (x : Found) → R h g q s ≡ Ok x → Spells mode schema x.0 g s x.1 x.2
 
-repeat_sound : (mode : Mode) (schema : CoreSchema) (R : Reader) → IsSound mode schema R → (h : Spot) (k : ℕ) (t : Closed) (q : ℕ) (s : Slice) (x : Plains × Slice) → repeat R h k t q s ≡ Ok x → Repeats (Each mode schema x.0) k t s x.1
+repeat_sound : (mode : Mode) (schema : CoreSchema) (R : Reader) → IsSound mode schema R
+    → (h : Spot) (k : ℕ) (t : Closed) (q : ℕ) (s : Slice) (x : Plains × Slice) → repeat R h k t q s ≡ Ok x
+    → Repeats (Each mode schema x.0) k t s x.1
 repeat_sound mode schema R sound h zero t q s x e =
     let P : Plains × Slice → Type 0 = λ y. Repeats (Each mode schema y.0) 0 t s y.1 in
     subst P (ok_one _ _ (Ok x) e) (refl, refl)
@@ -133,7 +143,9 @@ repeat_sound mode schema R sound h (suc k) t q s x e =
 abbrev Takes : Mode → CoreSchema → Items → Item → Scope → Slice → Step → Type 0
 Takes mode schema is i scope s x = (vs : Plains) (end : Scope) (after : Slice) → Fields is (Each mode schema vs) x.scope x.left end after → Fields (an_item i is) (Each mode schema (prepend x.gives vs)) scope s end after
 
-step_sound : (mode : Mode) (schema : CoreSchema) (R : Reader) → IsSound mode schema R → (h : Spot) (i : Item) (is : Items) (scope : Scope) (q : ℕ) (s : Slice) (x : Step) → step R h i scope q s ≡ Ok x → Takes mode schema is i scope s x
+step_sound : (mode : Mode) (schema : CoreSchema) (R : Reader) → IsSound mode schema R → (h : Spot) (i : Item)
+    (is : Items) (scope : Scope) (q : ℕ) (s : Slice) (x : Step) → step R h i scope q s ≡ Ok x
+    → Takes mode schema is i scope s x
 step_sound mode schema R sound h (check a op b i) is scope q s x e =
     let m = bind_ok (known (item_of h i) (value_in a scope)) _ x e in
     let n = bind_ok (known (item_of h i) (value_in b scope)) _ x m.2 in
@@ -142,16 +154,18 @@ step_sound mode schema R sound h (check a op b i) is scope q s x e =
     subst P (ok_one _ _ (Ok x) g.1) (λ vs end after more.
     (m.0, n.0, known_ok (item_of h i) (value_in a scope) m.0 m.1, known_ok (item_of h i) (value_in b scope) n.0 n.1, compares op m.0 n.0 g.0, more))
 step_sound mode schema R sound h (solve v a b i) is scope q s x e =
-    let y = bind_ok (told (item_of h i) (sought_number a b scope.numbers)) _ x e in
+    let y = bind_ok (reported (item_of h i) (sought_number a b scope.numbers)) _ x e in
     let P : Step → Type 0 = Takes mode schema is (solve v a b i) scope s in
     subst P (ok_one _ _ (Ok x) y.2) (λ vs end after more.
-    (y.0, sought_sound a b scope.numbers y.0 (told_ok (item_of h i) (sought_number a b scope.numbers) y.0 y.1), more))
+    (y.0, sought_sound a b scope.numbers y.0 (reported_ok (item_of h i) (sought_number a b scope.numbers) y.0 y.1), more))
 step_sound mode schema R sound h (field y slot c t) is scope q s x e =
     let v = bind_ok (R (field_of h y) (at_field c t scope) q s) _ x e in
     let P : Step → Type 0 = Takes mode schema is (field y slot c t) scope s in
     subst P (ok_one _ _ (Ok x) v.2) (λ vs end after more. (v.0.1, v.0.2, sound (field_of h y) (at_field c t scope) q s v.0 v.1, more))
 
-fields_sound : (mode : Mode) (schema : CoreSchema) (R : Reader) → IsSound mode schema R → (h : Spot) (is : Items) (scope : Scope) (q : ℕ) (s : Slice) (x : Got) → read_fields R h is scope q s ≡ Ok x → Fields is (Each mode schema x.0) scope s x.1 x.2
+fields_sound : (mode : Mode) (schema : CoreSchema) (R : Reader) → IsSound mode schema R → (h : Spot) (is : Items)
+    (scope : Scope) (q : ℕ) (s : Slice) (x : Got) → read_fields R h is scope q s ≡ Ok x
+    → Fields is (Each mode schema x.0) scope s x.1 x.2
 fields_sound mode schema R sound h no_items scope q s x e =
     let P : Got → Type 0 = λ y. Fields no_items (Each mode schema y.0) scope s y.1 y.2 in
     subst P (ok_one _ _ (Ok x) e) (refl, refl)
@@ -174,7 +188,8 @@ nothing_left s e =
 abbrev AllSpelled : Mode → CoreSchema → Goal → Slice → Plain → Type 0
 AllSpelled mode schema g s v = (outs : List ℕ) × Spells mode schema v g s outs nothing
 
-whole_sound : (mode : Mode) (schema : CoreSchema) (R : Reader) → IsSound mode schema R → (h : Spot) (g : Goal) (q : ℕ) (s : Slice) (v : Plain) → whole_of R h g q s ≡ Ok v → AllSpelled mode schema g s v
+whole_sound : (mode : Mode) (schema : CoreSchema) (R : Reader) → IsSound mode schema R → (h : Spot) (g : Goal) (q : ℕ)
+    (s : Slice) (v : Plain) → whole_of R h g q s ≡ Ok v → AllSpelled mode schema g s v
 whole_sound mode schema R sound h g q s v e =
     let o = bind_ok (R h g q s) _ v e in
     let k = only_ok (is_nothing o.0.2) _ _ v o.2 in
@@ -182,7 +197,8 @@ whole_sound mode schema R sound h g q s v e =
     let P : Plain → Type 0 = AllSpelled mode schema g s in
     subst P (ok_one _ _ (Ok v) k.1) (o.0.1, subst Q (nothing_left o.0.2 k.0) (sound h g q s o.0 o.1))
 
-ordinary_sound : (mode : Mode) (schema : CoreSchema) (R : Reader) → IsSound mode schema R → (h : Spot) (g : Goal) (q : ℕ) (c : Tree) (k : Kind) → (out-Tree c).kind ≡ k → (v : Plain) → ordinary_of R h g q k (content c) ≡ Ok v
+ordinary_sound : (mode : Mode) (schema : CoreSchema) (R : Reader) → IsSound mode schema R → (h : Spot) (g : Goal)
+    (q : ℕ) (c : Tree) (k : Kind) → (out-Tree c).kind ≡ k → (v : Plain) → ordinary_of R h g q k (content c) ≡ Ok v
     → (s : Slice) × (outs : List ℕ) × (c ≡ cell_of s) × Spells mode schema v g s outs nothing
 ordinary_sound mode schema R sound h g q c Ordinary kind v e = let w = whole_sound mode schema R sound h g q (content c) v e in (content c, w.0, ordinary_cell c kind, w.1)
 ordinary_sound mode schema R sound h g q c Pruned kind v e = cc
@@ -190,10 +206,11 @@ ordinary_sound mode schema R sound h g q c Library kind v e = cc
 ordinary_sound mode schema R sound h g q c Proof kind v e = cc
 ordinary_sound mode schema R sound h g q c Update kind v e = cc
 
-held_sound : (mode : Mode) (schema : CoreSchema) (R : Reader) → IsSound mode schema R → (h : Spot) (g : Goal) (q : ℕ) (c : Tree) → unseen mode c ≡ None → (v : Plain) → held R h g q c ≡ Ok v → Holds mode (Spells mode schema v) g c
-held_sound mode schema R sound h at_cell q c u v e = let w = whole_sound mode schema R sound h at_cell q (only_ref c) v e in (w.0, u, w.1)
-held_sound mode schema R sound h (at_type t) q c u v e = ordinary_sound mode schema R sound h (at_type t) q c (out-Tree c).kind refl v e
-held_sound mode schema R sound h (at_field x t scope) q c u v e = ordinary_sound mode schema R sound h (at_field x t scope) q c (out-Tree c).kind refl v e
+cell_value_sound : (mode : Mode) (schema : CoreSchema) (R : Reader) → IsSound mode schema R → (h : Spot) (g : Goal) (q : ℕ)
+    (c : Tree) → unseen mode c ≡ None → (v : Plain) → cell_value R h g q c ≡ Ok v → Holds mode (Spells mode schema v) g c
+cell_value_sound mode schema R sound h at_cell q c u v e = let w = whole_sound mode schema R sound h at_cell q (only_ref c) v e in (w.0, u, w.1)
+cell_value_sound mode schema R sound h (at_type t) q c u v e = ordinary_sound mode schema R sound h (at_type t) q c (out-Tree c).kind refl v e
+cell_value_sound mode schema R sound h (at_field x t scope) q c u v e = ordinary_sound mode schema R sound h (at_field x t scope) q c (out-Tree c).kind refl v e
 
 -- how a shape is spelled by a reference
 abbrev Wraps : Mode → CoreSchema → Goal → Shape → Type 0
@@ -201,7 +218,9 @@ Wraps mode schema g shape =
     ((v : Plain) (s : Slice) (outs : List ℕ) (after : Slice) → SpellsChild (free tt) mode (Spells mode schema v) g s outs after → SpellsShape mode schema (ref_to tt v) shape s outs after)
     × ((x : Hidden) (s : Slice) (outs : List ℕ) (after : Slice) → SpellsPruned mode x s outs after → SpellsShape mode schema (unknown x) shape s outs after)
 
-child_sound : (mode : Mode) (schema : CoreSchema) (R : Reader) → IsSound mode schema R → (h : Spot) (g : Goal) (shape : Shape) → Wraps mode schema g shape → (q : ℕ) (bits : List ℕ) (c : Tree) (refs : List Tree) (o : Option Hidden) → unseen mode c ≡ o → (v : Plain)
+child_sound : (mode : Mode) (schema : CoreSchema) (R : Reader) → IsSound mode schema R → (h : Spot) (g : Goal)
+    (shape : Shape) → Wraps mode schema g shape → (q : ℕ) (bits : List ℕ) (c : Tree) (refs : List Tree)
+    (o : Option Hidden) → unseen mode c ≡ o → (v : Plain)
     → child_of R h g q o c ≡ Ok v → SpellsShape mode schema v shape (record { bits = bits; refs = c ∷ refs }) [] (record { bits = bits; refs = refs })
 child_sound mode schema R sound h g shape wrap q bits c refs (Some x) u v e =
     let s : Slice = record { bits = bits; refs = c ∷ refs } in
@@ -211,18 +230,22 @@ child_sound mode schema R sound h g shape wrap q bits c refs (Some x) u v e =
 child_sound mode schema R sound h g shape wrap q bits c refs None u v e =
     let s : Slice = record { bits = bits; refs = c ∷ refs } in
     let after : Slice = record { bits = bits; refs = refs } in
-    let w = bind_ok (held R h g q c) _ v e in
+    let w = bind_ok (cell_value R h g q c) _ v e in
     let P : Plain → Type 0 = λ y. SpellsShape mode schema y shape s [] after in
-    subst P (ok_one _ _ (Ok v) w.2) (wrap.0 w.0 s [] after (c, refl, record { bits = refl; refs = refl }, held_sound mode schema R sound h g q c u w.0 w.1, tt))
+    subst P (ok_one _ _ (Ok v) w.2) (wrap.0 w.0 s [] after (c, refl, record { bits = refl; refs = refl }, cell_value_sound mode schema R sound h g q c u w.0 w.1, tt))
 
-ref_sound : (mode : Mode) (schema : CoreSchema) (R : Reader) → IsSound mode schema R → (h : Spot) (g : Goal) (shape : Shape) → Wraps mode schema g shape → (q : ℕ) (bits : List ℕ) (refs : List Tree) (x : Found) → read_ref mode R h g q bits refs ≡ Ok x → SpellsShape mode schema x.0 shape (record { bits = bits; refs = refs }) x.1 x.2
+ref_sound : (mode : Mode) (schema : CoreSchema) (R : Reader) → IsSound mode schema R → (h : Spot) (g : Goal)
+    (shape : Shape) → Wraps mode schema g shape → (q : ℕ) (bits : List ℕ) (refs : List Tree) (x : Found)
+    → read_ref mode R h g q bits refs ≡ Ok x
+    → SpellsShape mode schema x.0 shape (record { bits = bits; refs = refs }) x.1 x.2
 ref_sound mode schema R sound h g shape wrap q bits [] x e = cc
 ref_sound mode schema R sound h g shape wrap q bits (c ∷ refs) x e =
     let v = bind_ok (child_of R h g q (unseen mode c) c) _ x e in
     let P : Found → Type 0 = λ y. SpellsShape mode schema y.0 shape (record { bits = bits; refs = c ∷ refs }) y.1 y.2 in
     subst P (ok_one _ _ (Ok x) v.2) (child_sound mode schema R sound h g shape wrap q bits c refs (unseen mode c) refl v.0 v.1)
 
-cell_sound : (mode : Mode) (schema : CoreSchema) (h : Spot) (bits : List ℕ) (refs : List Tree) (x : Found) → read_cell h bits refs ≡ Ok x → SpellsShape mode schema x.0 as_cell (record { bits = bits; refs = refs }) x.1 x.2
+cell_sound : (mode : Mode) (schema : CoreSchema) (h : Spot) (bits : List ℕ) (refs : List Tree) (x : Found)
+    → read_cell h bits refs ≡ Ok x → SpellsShape mode schema x.0 as_cell (record { bits = bits; refs = refs }) x.1 x.2
 cell_sound mode schema h bits [] x e = cc
 cell_sound mode schema h bits (c ∷ refs) x e =
     let P : Found → Type 0 = λ y. SpellsShape mode schema y.0 as_cell (record { bits = bits; refs = c ∷ refs }) y.1 y.2 in
@@ -230,7 +253,9 @@ cell_sound mode schema h bits (c ∷ refs) x e =
 
 -- ---- dictionaries
 
-leaves_sound : (mode : Mode) (schema : CoreSchema) (R : Reader) → IsSound mode schema R → (h : Spot) (t : Closed) (q : ℕ) (ls : List (List ℕ × Slice)) (x : PlainPairs) → leaf_values R h t q ls ≡ Ok x → Contents (EachPair mode schema x) t ls
+leaves_sound : (mode : Mode) (schema : CoreSchema) (R : Reader) → IsSound mode schema R
+    → (h : Spot) (t : Closed) (q : ℕ) (ls : List (List ℕ × Slice)) (x : PlainPairs) → leaf_values R h t q ls ≡ Ok x
+    → Contents (EachPair mode schema x) t ls
 leaves_sound mode schema R sound h t q [] x e =
     let P : PlainPairs → Type 0 = λ y. Contents (EachPair mode schema y) t [] in
     let none : Contents (EachPair mode schema no_pairs) t [] = refl in
@@ -242,7 +267,9 @@ leaves_sound mode schema R sound h t q (l ∷ ls) x e =
     let P : PlainPairs → Type 0 = λ y. Contents (EachPair mode schema y) t (l ∷ ls) in
     subst P (ok_one _ _ (Ok x) r.2) (w.0, refl, w.1, leaves_sound mode schema R sound h t (q + parts a.0) ls r.0 r.1)
 
-edge_sound : (mode : Mode) (schema : CoreSchema) (R : Reader) → IsSound mode schema R → (h : Spot) (n : ℕ) (t : Closed) (q : ℕ) (s : Slice) (d : Edge) → IsEdge mode n s d → (x : Found) → at_edge R h t q d ≡ Ok x → SpellsShape mode schema x.0 (typed (closed.dict n t)) s x.1 x.2
+edge_sound : (mode : Mode) (schema : CoreSchema) (R : Reader) → IsSound mode schema R → (h : Spot) (n : ℕ)
+    (t : Closed) (q : ℕ) (s : Slice) (d : Edge) → IsEdge mode n s d → (x : Found) → at_edge R h t q d ≡ Ok x
+    → SpellsShape mode schema x.0 (typed (closed.dict n t)) s x.1 x.2
 edge_sound mode schema R sound h n t q s (at_leaf k middle) d x e =
     let v = bind_ok (R h (at_type t) q middle) _ x e in
     let P : Found → Type 0 = λ y. SpellsShape mode schema y.0 (typed (closed.dict n t)) s y.1 y.2 in
@@ -252,7 +279,9 @@ edge_sound mode schema R sound h n t q s (at_fork es after) d x e =
     let P : Found → Type 0 = λ y. SpellsShape mode schema y.0 (typed (closed.dict n t)) s y.1 y.2 in
     subst P (ok_one _ _ (Ok x) v.2) (refl, inr (es, d, (leaves_sound mode schema R sound h t q (pairs_in es) v.0 v.1, refl)), tt)
 
-dict_sound : (mode : Mode) (schema : CoreSchema) (R : Reader) → IsSound mode schema R → (h : Spot) (n : ℕ) (t : Closed) (q : ℕ) (s : Slice) (x : Found) → read_dict mode R h n t q s ≡ Ok x → SpellsShape mode schema x.0 (typed (closed.dict n t)) s x.1 x.2
+dict_sound : (mode : Mode) (schema : CoreSchema) (R : Reader) → IsSound mode schema R → (h : Spot) (n : ℕ)
+    (t : Closed) (q : ℕ) (s : Slice) (x : Found) → read_dict mode R h n t q s ≡ Ok x
+    → SpellsShape mode schema x.0 (typed (closed.dict n t)) s x.1 x.2
 dict_sound mode schema R sound h n t q s x e =
     let d = bind_ok (walked h (first_edge mode n s)) _ x e in
     edge_sound mode schema R sound h n t q s d.0 (first_sound mode n s d.0 (walked_ok h (first_edge mode n s) d.0 d.1)) x d.2
@@ -280,7 +309,10 @@ one_bit (suc zero ∷ bits) after true e = ap (λ o. 1 ∷ second o bits) e
 one_bit (suc zero ∷ bits) after false e = absurd (false_true (sym (ap which e)))
 one_bit (suc (suc n) ∷ bits) after b e = cc
 
-root_sound : (mode : Mode) (schema : CoreSchema) (R : Reader) → IsSound mode schema R → (h : Spot) (n : ℕ) (t : Closed) (q : ℕ) (s : Slice) (bits : List ℕ) → next_bit s.bits ≡ Some (true, bits) → (refs : List Tree) → s.refs ≡ refs → (x : Found) → read_root mode R h n t q bits refs ≡ Ok x → SpellsShape mode schema x.0 (typed (closed.dict_e n t)) s x.1 x.2
+root_sound : (mode : Mode) (schema : CoreSchema) (R : Reader) → IsSound mode schema R → (h : Spot) (n : ℕ)
+    (t : Closed) (q : ℕ) (s : Slice) (bits : List ℕ) → next_bit s.bits ≡ Some (true, bits) → (refs : List Tree)
+    → s.refs ≡ refs → (x : Found) → read_root mode R h n t q bits refs ≡ Ok x
+    → SpellsShape mode schema x.0 (typed (closed.dict_e n t)) s x.1 x.2
 root_sound mode schema R sound h n t q s bits b [] r x e = cc
 root_sound mode schema R sound h n t q s bits b (c ∷ refs) r x e =
     let d = bind_ok (walked h (walk_cell mode n c)) _ x e in
@@ -289,7 +321,10 @@ root_sound mode schema R sound h n t q s bits b (c ∷ refs) r x e =
     let k = cell_sound_at mode n c d.0 (walked_ok h (walk_cell mode n c) d.0 d.1) in
     subst P (ok_one _ _ (Ok x) v.2) (refl, some_entries c d.0 (record { bits = one_bit s.bits bits true b; refs = r }) k (leaves_sound mode schema R sound h t q (pairs_in d.0) v.0 v.1, refl), tt)
 
-bit_sound : (mode : Mode) (schema : CoreSchema) (R : Reader) → IsSound mode schema R → (h : Spot) (n : ℕ) (t : Closed) (q : ℕ) (s : Slice) (o : Option (Bool × List ℕ)) → next_bit s.bits ≡ o → (x : Found) → by_bit mode R h n t q o s.refs ≡ Ok x → SpellsShape mode schema x.0 (typed (closed.dict_e n t)) s x.1 x.2
+bit_sound : (mode : Mode) (schema : CoreSchema) (R : Reader) → IsSound mode schema R
+    → (h : Spot) (n : ℕ) (t : Closed) (q : ℕ) (s : Slice) (o : Option (Bool × List ℕ)) → next_bit s.bits ≡ o
+    → (x : Found) → by_bit mode R h n t q o s.refs ≡ Ok x
+    → SpellsShape mode schema x.0 (typed (closed.dict_e n t)) s x.1 x.2
 bit_sound mode schema R sound h n t q s None b x e = cc
 bit_sound mode schema R sound h n t q s (Some (false, bits)) b x e =
     let P : Found → Type 0 = λ y. SpellsShape mode schema y.0 (typed (closed.dict_e n t)) s y.1 y.2 in
@@ -298,18 +333,24 @@ bit_sound mode schema R sound h n t q s (Some (true, bits)) b x e = root_sound m
 
 -- ---- declared types
 
-first_some : (c : Declaration) (o : Option Scope) (later : Option Choice) (x : Choice) → first c o later ≡ Some x → ((scope : Scope) × (o ≡ Some scope) × (◌≡◌ {A = Choice} (c, scope) x)) ⊎ ((o ≡ None) × (later ≡ Some x))
+first_some : (c : Declaration) (o : Option Scope) (later : Option Choice) (x : Choice) → first c o later ≡ Some x
+    → ((scope : Scope) × (o ≡ Some scope) × (◌≡◌ {A = Choice} (c, scope) x)) ⊎ ((o ≡ None) × (later ≡ Some x))
 first_some c (Some scope) later x e = inl (scope, refl, some_one _ _ e)
   where
     some_one : (a b : Choice) → (◌≡◌ {A = Option Choice} (Some a) (Some b)) → a ≡ b
     some_one a b e = cc
 first_some c None later x e = inr (refl, e)
 
-pub choice_stands : (schema cs : CoreSchema) (type : Word) (args : ClosedArgs) (bits : List ℕ) (x : Choice) → choose schema cs type args bits ≡ Some x → (i : ℕ) × (slice_get cs i ≡ Some x.0) × (candidate schema type args bits x.0 ≡ Some x.1)
+pub choice_stands : (schema cs : CoreSchema) (type : Word) (args : ClosedArgs) (bits : List ℕ) (x : Choice)
+    → choose schema cs type args bits ≡ Some x
+    → (i : ℕ) × (slice_get cs i ≡ Some x.0) × (candidate schema type args bits x.0 ≡ Some x.1)
 choice_stands schema [] type args bits x e = cc
 choice_stands schema (c ∷ cs) type args bits x e = go (choice_stands schema cs type args bits x) (first_some c (candidate schema type args bits c) (choose schema cs type args bits) x e)
   where
-    go : (choose schema cs type args bits ≡ Some x → (i : ℕ) × (slice_get cs i ≡ Some x.0) × (candidate schema type args bits x.0 ≡ Some x.1)) → ((scope : Scope) × (candidate schema type args bits c ≡ Some scope) × (◌≡◌ {A = Choice} (c, scope) x)) ⊎ ((candidate schema type args bits c ≡ None) × (choose schema cs type args bits ≡ Some x)) → (i : ℕ) × (slice_get (c ∷ cs) i ≡ Some x.0) × (candidate schema type args bits x.0 ≡ Some x.1)
+    go :
+        (choose schema cs type args bits ≡ Some x → (i : ℕ) × (slice_get cs i ≡ Some x.0) × (candidate schema type args bits x.0 ≡ Some x.1))
+        → ((scope : Scope) × (candidate schema type args bits c ≡ Some scope) × (◌≡◌ {A = Choice} (c, scope) x)) ⊎ ((candidate schema type args bits c ≡ None) × (choose schema cs type args bits ≡ Some x))
+        → (i : ℕ) × (slice_get (c ∷ cs) i ≡ Some x.0) × (candidate schema type args bits x.0 ≡ Some x.1)
     go ih (inl h) =
         let P : Choice → Type 0 = λ y. (i : ℕ) × (slice_get (c ∷ cs) i ≡ Some y.0) × (candidate schema type args bits y.0 ≡ Some y.1) in
         subst P h.2 (0, refl, h.1)
@@ -360,7 +401,10 @@ candidate_enters schema type args bits at c scope there e =
         }
     go false h e = cc
 
-declared_sound : (mode : Mode) (schema : CoreSchema) (R : Reader) → IsSound mode schema R → (h : Spot) (type : Word) (args : ClosedArgs) (s : Slice) (o : Option Choice) → choose schema schema type args s.bits ≡ o → (q : ℕ) (x : Found) → read_declared R h o q s ≡ Ok x → SpellsShape mode schema x.0 (typed (closed.named type args)) s x.1 x.2
+declared_sound : (mode : Mode) (schema : CoreSchema) (R : Reader) → IsSound mode schema R → (h : Spot) (type : Word)
+    (args : ClosedArgs) (s : Slice) (o : Option Choice) → choose schema schema type args s.bits ≡ o → (q : ℕ)
+    (x : Found) → read_declared R h o q s ≡ Ok x
+    → SpellsShape mode schema x.0 (typed (closed.named type args)) s x.1 x.2
 declared_sound mode schema R sound h type args s None found q x e = cc
 declared_sound mode schema R sound h type args s (Some (c, scope)) found q x e =
     let i = choice_stands schema schema type args s.bits (c, scope) found in
@@ -384,7 +428,9 @@ declared_sound mode schema R sound h type args s (Some (c, scope)) found q x e =
 
 -- ---- goals
 
-type_sound : (mode : Mode) (schema : CoreSchema) (R : Reader) → IsSound mode schema R → (h : Spot) (t : Closed) (q : ℕ) (s : Slice) (x : Found) → read_type mode schema R h t q s ≡ Ok x → SpellsShape mode schema x.0 (typed t) s x.1 x.2
+type_sound : (mode : Mode) (schema : CoreSchema) (R : Reader) → IsSound mode schema R → (h : Spot) (t : Closed)
+    (q : ℕ) (s : Slice) (x : Found) → read_type mode schema R h t q s ≡ Ok x
+    → SpellsShape mode schema x.0 (typed t) s x.1 x.2
 type_sound mode schema R sound h closed.nat32 q s x e = basic_sound mode schema h closed.nat32 s x e
 type_sound mode schema R sound h (closed.bits n) q s x e = basic_sound mode schema h (closed.bits n) s x e
 type_sound mode schema R sound h (closed.below n) q s x e = basic_sound mode schema h (closed.below n) s x e
@@ -395,7 +441,7 @@ type_sound mode schema R sound h (closed.bit_str n) q s x e = basic_sound mode s
 type_sound mode schema R sound h closed.whole q s x e =
     let P : Found → Type 0 = λ y. SpellsShape mode schema y.0 (typed closed.whole) s y.1 y.2 in
     subst P (ok_one _ _ (Ok x) e) (refl, refl, refl)
-type_sound mode schema R sound h (closed.ref t) q s x e = ref_sound mode schema R sound h (behind t) (typed (closed.ref t)) (λ v s outs after k. k, λ b s outs after k. k) q s.bits s.refs x e
+type_sound mode schema R sound h (closed.ref t) q s x e = ref_sound mode schema R sound h (under_ref t) (typed (closed.ref t)) (λ v s outs after k. k, λ b s outs after k. k) q s.bits s.refs x e
 type_sound mode schema R sound h (closed.repeat n t) q s x e =
     let v = bind_ok (repeat R h n t q s) _ x e in
     let P : Found → Type 0 = λ y. SpellsShape mode schema y.0 (typed (closed.repeat n t)) s y.1 y.2 in
@@ -404,22 +450,25 @@ type_sound mode schema R sound h (closed.dict n t) q s x e = dict_sound mode sch
 type_sound mode schema R sound h (closed.dict_e n t) q s x e = bit_sound mode schema R sound h n t q s (next_bit s.bits) refl x e
 type_sound mode schema R sound h (closed.named type args) q s x e = declared_sound mode schema R sound h type args s (choose schema schema type args s.bits) refl q x e
 
-shape_sound : (mode : Mode) (schema : CoreSchema) (R : Reader) → IsSound mode schema R → (h : Spot) (c : Shape) (q : ℕ) (s : Slice) (x : Found) → read_shape mode schema R h c q s ≡ Ok x → SpellsShape mode schema x.0 c s x.1 x.2
+shape_sound : (mode : Mode) (schema : CoreSchema) (R : Reader) → IsSound mode schema R → (h : Spot) (c : Shape)
+    (q : ℕ) (s : Slice) (x : Found) → read_shape mode schema R h c q s ≡ Ok x
+    → SpellsShape mode schema x.0 c s x.1 x.2
 shape_sound mode schema R sound h (typed t) q s x e = type_sound mode schema R sound h t q s x e
 shape_sound mode schema R sound h (fields_here is scope) q s x e =
     let v = bind_ok (read_fields R h is scope q s) _ x e in
     let P : Found → Type 0 = λ y. SpellsShape mode schema y.0 (fields_here is scope) s y.1 y.2 in
     subst P (ok_one _ _ (Ok x) v.2) (refl, refl, v.0.1, fields_sound mode schema R sound h is scope q s v.0 v.1)
-shape_sound mode schema R sound h (fields_behind is scope) q s x e = ref_sound mode schema R sound h (at_fields is scope) (fields_behind is scope) (λ v s outs after k. k, λ b s outs after k. k) q s.bits s.refs x e
+shape_sound mode schema R sound h (fields_under is scope) q s x e = ref_sound mode schema R sound h (at_fields is scope) (fields_under is scope) (λ v s outs after k. k, λ b s outs after k. k) q s.bits s.refs x e
 shape_sound mode schema R sound h left_out q s x e =
     let P : Found → Type 0 = λ y. SpellsShape mode schema y.0 left_out s y.1 y.2 in
     subst P (ok_one _ _ (Ok x) e) (refl, refl)
 shape_sound mode schema R sound h as_cell q s x e = cell_sound mode schema h s.bits s.refs x e
 
-goal_sound : (mode : Mode) (schema : CoreSchema) (R : Reader) → IsSound mode schema R → IsSound mode schema (read_goal mode schema R)
+goal_sound : (mode : Mode) (schema : CoreSchema) (R : Reader) → IsSound mode schema R
+    → IsSound mode schema (read_goal mode schema R)
 goal_sound mode schema R sound h g q s x e =
-    let c = bind_ok (told h (shape_of g)) _ x e in
-    (c.0, told_ok h (shape_of g) c.0 c.1, shape_sound mode schema R sound h c.0 q s x c.2)
+    let c = bind_ok (reported h (shape_of g)) _ x e in
+    (c.0, reported_ok h (shape_of g) c.0 c.1, shape_sound mode schema R sound h c.0 q s x c.2)
 
 pub reads_spelled : (n most : ℕ) (mode : Mode) (schema : CoreSchema) → IsSound mode schema (reading n most mode schema)
 unfolding reading
@@ -430,12 +479,13 @@ reads_spelled (suc n) most mode schema h g q s x e =
 
 -- ---- the root
 
-root_of_sound : (mode : Mode) (schema : CoreSchema) (R : Reader) → IsSound mode schema R → (t : Closed) (c : Tree) (o : Option Hidden) → unseen mode c ≡ o → (v : Plain) → root_of R t o c ≡ Ok v → IsRootOf mode schema t c v
+root_of_sound : (mode : Mode) (schema : CoreSchema) (R : Reader) → IsSound mode schema R → (t : Closed) (c : Tree)
+    (o : Option Hidden) → unseen mode c ≡ o → (v : Plain) → root_of R t o c ≡ Ok v → IsRootOf mode schema t c v
 root_of_sound mode schema R sound t c (Some x) u v e =
     let g = guard_ok (is_ref t) _ _ v e in
     let P : Plain → Type 0 = λ y. IsRootOf mode schema t c y in
     subst P (ok_one _ _ (Ok v) g.1) (inr (u, g.0))
-root_of_sound mode schema R sound t c None u v e = inl (held_sound mode schema R sound at_root (behind t) 0 c u v e)
+root_of_sound mode schema R sound t c None u v e = inl (cell_value_sound mode schema R sound at_root (under_ref t) 0 c u v e)
 
 pub root_spelled : (n most : ℕ) (mode : Mode) (schema : CoreSchema) (t : Closed) (c : Tree) (v : Plain)
     → read_within n most mode schema t c ≡ Ok v → IsRootOf mode schema t c v

@@ -23,16 +23,16 @@ use Rattle.core_form.specs.Closed.{Closed, ClosedArgs}
 use Rattle.core_form.specs.Closed as closed
 use Rattle.core_form.specs.Scope.{Scope, value_in, values_in, with_number, bind}
 use Rattle.spelling.specs.Slices.{nothing, only_ref, is_nothing, took}
-use Rattle.spelling.specs.Goals.{Row, natural, integer, string, no_row, row, Goal, at_type, at_field, at_cell, Shape, typed, fields_here, fields_behind, left_out, as_cell, at_fields, behind, is_ref, shape_of}
+use Rattle.spelling.specs.Goals.{Row, natural, integer, string, no_row, row, Goal, at_type, at_field, at_cell, Shape, typed, fields_here, fields_under, left_out, as_cell, at_fields, under_ref, is_ref, shape_of}
 use Rattle.spelling.specs.Spells.{next_bit}
 use Rattle.spelling.specs.Places.{Spot, Place, stuck, start, item_of, field_of, result_of, at_root}
-use Rattle.spelling.specs.PlainReader.{◌>>=◌, prepend, Found, Reader, known, told, take_bits, read_row, whole_of, ordinary_of, held, child_of, read_ref, read_cell, walked, leaf_values, read_dict, walk_cell, by_bit, turn, repeat, sought_number, Step, step, Got, read_fields, Choice, choose, read_declared, read_type, read_shape, reading, root_of, read_within}
+use Rattle.spelling.specs.PlainReader.{◌>>=◌, prepend, Found, Reader, known, reported, take_bits, read_row, whole_of, ordinary_of, cell_value, child_of, read_ref, read_cell, walked, leaf_values, read_dict, walk_cell, by_bit, turn, repeat, sought_number, Step, step, Got, read_fields, Choice, choose, read_declared, read_type, read_shape, reading, root_of, read_within}
 use Rattle.spelling.specs.Acceptable.{IsAcceptable, Seeks}
-use Rattle.spelling.specs.Stuck.{Stops, Parts, StopsRow, StopsWhole, within, over, StopsOrdinary, exotic, inside, StopsHeld, StopsRef, no_ref, child, StopsLeaves, StopsDict, in_edges, in_leaf, in_values, StopsDictE, no_bit, no_root, root_edges, root_values, this, idle, later, StopsRepeat, StopsPair, StopsSolve, too_great, unsolved, onward, StopsField, StopsFields, Enters, NoEnd, StopsResult, StopsDeclared, none_fits, entered, StopsType, StopsShape, Within, StuckWithin, StuckRoot, hidden_root, open_root}
+use Rattle.spelling.specs.Stuck.{Stops, Parts, StopsRow, StopsWhole, within, over, StopsOrdinary, exotic, inside, StopsCell, StopsRef, no_ref, child, StopsLeaves, StopsDict, in_edges, in_leaf, in_values, StopsDictE, no_bit, no_root, root_edges, root_values, this, idle, later, StopsRepeat, StopsPair, StopsSolve, too_great, unsolved, onward, StopsField, StopsFields, Enters, NoEnd, StopsResult, StopsDeclared, none_fits, entered, StopsType, StopsShape, Within, StuckWithin, StuckRoot, hidden_root, open_root}
 use Rattle.spelling.specs.declared.Cause.{Cause}
 use Rattle.spelling.specs.declared.Cause.TheVariants.{Overflow, NoSolution, ShortBits, Exotic}
 use Rattle.spelling_laws.specs.StepLaws.{bind_on, bind_fault, when_true, when_false, walked_on, step_then}
-use Rattle.spelling_laws.specs.ProperLaws.{Proper, ProperShape, proper_behind, proper_shape}
+use Rattle.spelling_laws.specs.ProperLaws.{Proper, ProperShape, proper_under, proper_shape}
 use Rattle.spelling_laws.specs.SolvingLaws.{sought_complete, sought_stands}
 use Rattle.spelling_laws.specs.SolvingLaws as solving
 use Rattle.spelling_laws.specs.SoundLaws.{choice_stands, candidate_enters, nothing_left, compares}
@@ -86,7 +86,8 @@ exotic_stands R h g q Library s a = refl
 exotic_stands R h g q Proof s a = refl
 exotic_stands R h g q Update s a = refl
 
-ordinary_stands : (S : Stops) (P : Parts) (R : Reader) → Gets P R → Stands S R → (h : Spot) (g : Goal) (q : ℕ) (c : Tree)
+ordinary_stands : (S : Stops) (P : Parts) (R : Reader) → Gets P R → Stands S R → (h : Spot) (g : Goal) (q : ℕ)
+    (c : Tree)
     (p : Place) → Proper g → StopsOrdinary S P h g q c p
     → ordinary_of R h g q (out-Tree c).kind (content c) ≡ Err p
 ordinary_stands S P R gets stands h g q c p proper (exotic k same) =
@@ -94,13 +95,14 @@ ordinary_stands S P R gets stands h g q c p proper (exotic k same) =
 ordinary_stands S P R gets stands h g q c p proper (inside s same k) =
     ordinary_opens R h g q c s same ∙ whole_stands S P R gets stands h g q s p proper k
 
-pub held_stands : (S : Stops) (P : Parts) (R : Reader) → Gets P R → Stands S R → (h : Spot) (g : Goal) (q : ℕ) (c : Tree)
-    (p : Place) → Proper g → StopsHeld S P h g q c p → held R h g q c ≡ Err p
-held_stands S P R gets stands h at_cell q c p proper k =
+pub cell_value_stands : (S : Stops) (P : Parts) (R : Reader) → Gets P R → Stands S R → (h : Spot) (g : Goal) (q : ℕ)
+    (c : Tree)
+    (p : Place) → Proper g → StopsCell S P h g q c p → cell_value R h g q c ≡ Err p
+cell_value_stands S P R gets stands h at_cell q c p proper k =
     whole_stands S P R gets stands h at_cell q (only_ref c) p tt k
-held_stands S P R gets stands h (at_type t) q c p proper k =
+cell_value_stands S P R gets stands h (at_type t) q c p proper k =
     ordinary_stands S P R gets stands h (at_type t) q c p tt k
-held_stands S P R gets stands h (at_field e t scope) q c p proper k =
+cell_value_stands S P R gets stands h (at_field e t scope) q c p proper k =
     ordinary_stands S P R gets stands h (at_field e t scope) q c p proper k
 
 ref_stands : (mode : Mode) (S : Stops) (P : Parts) (R : Reader) → Gets P R → Stands S R → (h : Spot) (g : Goal) (q : ℕ)
@@ -109,7 +111,7 @@ ref_stands mode S P R gets stands h g q s p proper (no_ref e same) =
     ap (read_ref mode R h g q s.bits) e ∙ ap Err (sym same)
 ref_stands mode S P R gets stands h g q s p proper (child c after t u k) =
     ap (read_ref mode R h g q s.bits) t.refs
-    ∙ bind_fault (child_of R h g q (unseen mode c) c) _ p (ap (λ o. child_of R h g q o c) u ∙ bind_fault (held R h g q c) _ p (held_stands S P R gets stands h g q c p proper k))
+    ∙ bind_fault (child_of R h g q (unseen mode c) c) _ p (ap (λ o. child_of R h g q o c) u ∙ bind_fault (cell_value R h g q c) _ p (cell_value_stands S P R gets stands h g q c p proper k))
 
 -- ---- dictionaries
 
@@ -122,7 +124,8 @@ leaves_stand S P R gets stands h t q (l ∷ ls) p (inr e) =
     bind_on (whole_of R h (at_type t) q l.1) _ e.0 (Err p) (whole_complete R e.0 h (at_type t) q l.1 e.1 (gets h (at_type t) q e.0 l.1 e.1 nothing tt e.2))
     (bind_fault (leaf_values R h t (q + parts e.0) ls) _ p (leaves_stand S P R gets stands h t (q + parts e.0) ls p e.3))
 
-dict_stands : (mode : Mode) (S : Stops) (P : Parts) (R : Reader) → Gets P R → Stands S R → (h : Spot) (n : ℕ) (t : Closed)
+dict_stands : (mode : Mode) (S : Stops) (P : Parts) (R : Reader) → Gets P R → Stands S R → (h : Spot) (n : ℕ)
+    (t : Closed)
     (q : ℕ) (s : Slice) (p : Place) → StopsDict mode S P h n t q s p → read_dict mode R h n t q s ≡ Err p
 dict_stands mode S P R gets stands h n t q s p (in_edges f k same) =
     bind_fault (walked h (first_edge mode n s)) _ p (ap (walked h) (first_stands mode n s f k) ∙ ap Err (sym same))
@@ -195,14 +198,14 @@ some_of None h = absurd (h refl)
 solve_stands : {C : Type 0} (h : Spot) (a b : Expr) (scope : Scope) (v : ℕ) → numbers.OneUnknown a b v
     → (Later : ℕ → Type 0) (f : ℕ → Step) (g : Step → Result C Place) (p : Place)
     → ((x : ℕ) → Later x → g (f x) ≡ Err p) → StopsSolve h a b scope Later p
-    → ((told h (sought_number a b scope.numbers) >>= λ x. Ok (f x)) >>= g) ≡ Err p
+    → ((reported h (sought_number a b scope.numbers) >>= λ x. Ok (f x)) >>= g) ≡ Err p
 solve_stands h a b scope v one Later f g p more (too_great not same) =
     let e = some_of (first_lacking (numbers.parts a ++ numbers.parts b) scope.numbers) not in
-    ap (λ o. (told h o >>= λ x. Ok (f x)) >>= g) (sought_stands a b scope.numbers Overflow (solving.lacking e.0 e.1 refl)) ∙ ap Err (sym same)
+    ap (λ o. (reported h o >>= λ x. Ok (f x)) >>= g) (sought_stands a b scope.numbers Overflow (solving.lacking e.0 e.1 refl)) ∙ ap Err (sym same)
 solve_stands h a b scope v one Later f g p more (unsolved is not same) =
-    ap (λ o. (told h o >>= λ x. Ok (f x)) >>= g) (sought_stands a b scope.numbers NoSolution (solving.unsolved is not refl)) ∙ ap Err (sym same)
+    ap (λ o. (reported h o >>= λ x. Ok (f x)) >>= g) (sought_stands a b scope.numbers NoSolution (solving.unsolved is not refl)) ∙ ap Err (sym same)
 solve_stands h a b scope v one Later f g p more (onward x s k) =
-    ap (λ o. (told h o >>= λ x. Ok (f x)) >>= g) (sought_complete a b scope.numbers v x one s) ∙ more x k
+    ap (λ o. (reported h o >>= λ x. Ok (f x)) >>= g) (sought_complete a b scope.numbers v x one s) ∙ more x k
 
 fields_stand : {C : Type 0} (S : Stops) (P : Parts) (R : Reader) → Gets P R → Stands S R → (End : Scope → Type 0)
     (k : Got → Result C Place) (h : Spot) (is : Items) → Seeks is → (scope : Scope) (q : ℕ) (s : Slice) (p : Place)
@@ -271,7 +274,8 @@ row_stands h no_row s p e = absurd e
 
 -- ---- goals
 
-type_stands : (mode : Mode) (schema : CoreSchema) → IsAcceptable schema → (S : Stops) (P : Parts) (R : Reader) → Gets P R
+type_stands : (mode : Mode) (schema : CoreSchema) → IsAcceptable schema → (S : Stops) (P : Parts) (R : Reader)
+    → Gets P R
     → Stands S R → (h : Spot) (t : Closed) (q : ℕ) (s : Slice) (p : Place) → StopsType mode schema S P h t q s p
     → read_type mode schema R h t q s ≡ Err p
 type_stands mode schema ok S P R gets stands h closed.nat32 q s p e = row_stands h (row closed.nat32) s p e
@@ -283,7 +287,7 @@ type_stands mode schema ok S P R gets stands h (closed.int n) q s p e = row_stan
 type_stands mode schema ok S P R gets stands h (closed.bit_str n) q s p e = row_stands h (row (closed.bit_str n)) s p e
 type_stands mode schema ok S P R gets stands h closed.whole q s p e = absurd e
 type_stands mode schema ok S P R gets stands h (closed.ref t) q s p e =
-    ref_stands mode S P R gets stands h (behind t) q s p (proper_behind t) e
+    ref_stands mode S P R gets stands h (under_ref t) q s p (proper_under t) e
 type_stands mode schema ok S P R gets stands h (closed.repeat n t) q s p e =
     bind_fault (repeat R h n t q s) _ p (repeat_stands S P R gets stands h n t q s p e)
 type_stands mode schema ok S P R gets stands h (closed.dict n t) q s p e = dict_stands mode S P R gets stands h n t q s p e
@@ -292,16 +296,17 @@ type_stands mode schema ok S P R gets stands h (closed.dict_e n t) q s p e =
 type_stands mode schema ok S P R gets stands h (closed.named x args) q s p e =
     declared_stands mode schema ok S P R gets stands h x args q s p e
 
-shape_stands : (mode : Mode) (schema : CoreSchema) → IsAcceptable schema → (S : Stops) (P : Parts) (R : Reader) → Gets P R
+shape_stands : (mode : Mode) (schema : CoreSchema) → IsAcceptable schema → (S : Stops) (P : Parts) (R : Reader)
+    → Gets P R
     → Stands S R → (h : Spot) (o : Result Shape Cause) → ((c : Shape) → o ≡ Ok c → ProperShape c) → (q : ℕ) (s : Slice)
-    (p : Place) → StopsShape mode schema S P h o q s p → (told h o >>= λ c. read_shape mode schema R h c q s) ≡ Err p
+    (p : Place) → StopsShape mode schema S P h o q s p → (reported h o >>= λ c. read_shape mode schema R h c q s) ≡ Err p
 shape_stands mode schema ok S P R gets stands h (Err why) proper q s p e = ap Err (sym e)
 shape_stands mode schema ok S P R gets stands h (Ok (typed t)) proper q s p e =
     type_stands mode schema ok S P R gets stands h t q s p e
 shape_stands mode schema ok S P R gets stands h (Ok (fields_here is scope)) proper q s p e =
     fields_stand S P R gets stands NoEnd _ h is (proper (fields_here is scope) refl) scope q s p (λ x no. absurd no) e
-shape_stands mode schema ok S P R gets stands h (Ok (fields_behind is scope)) proper q s p e =
-    ref_stands mode S P R gets stands h (at_fields is scope) q s p (proper (fields_behind is scope) refl) e
+shape_stands mode schema ok S P R gets stands h (Ok (fields_under is scope)) proper q s p e =
+    ref_stands mode S P R gets stands h (at_fields is scope) q s p (proper (fields_under is scope) refl) e
 shape_stands mode schema ok S P R gets stands h (Ok left_out) proper q s p e = absurd e
 shape_stands mode schema ok S P R gets stands h (Ok as_cell) proper q s p e =
     ap (read_cell h s.bits) e.0 ∙ ap Err (sym e.1)
@@ -335,4 +340,4 @@ root_stands_at n most mode schema ok t c p (hidden_root u r same) =
     ap (λ o. root_of (reading n most mode schema) t o c) x.1 ∙ when_true (is_ref t) _ _ r ∙ ap Err (sym same)
 root_stands_at n most mode schema ok t c p (open_root u k) =
     ap (λ o. root_of (reading n most mode schema) t o c) u
-    ∙ held_stands (StuckWithin n most mode schema) (Within n most mode schema) (reading n most mode schema) (within_reads n most mode schema ok) (reading_stands n most mode schema ok) at_root (behind t) 0 c p (proper_behind t) k
+    ∙ cell_value_stands (StuckWithin n most mode schema) (Within n most mode schema) (reading n most mode schema) (within_reads n most mode schema ok) (reading_stands n most mode schema ok) at_root (under_ref t) 0 c p (proper_under t) k

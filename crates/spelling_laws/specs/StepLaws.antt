@@ -2,7 +2,7 @@
 use Rattle.std.proofs.Common.{◌≡◌, Bool, ◌&&◌, true, false, cond, Option, Some, None, Result, Ok, Err, refl, ap, ◌⊎◌, inl, inr}
 use Rattle.hashmap_tree.specs.Walk.{Fault}
 use Rattle.spelling.specs.Places.{Spot, Place, stuck}
-use Rattle.spelling.specs.PlainReader.{◌>>=◌, known, told, walked, why_of}
+use Rattle.spelling.specs.PlainReader.{◌>>=◌, known, reported, walked, why_of}
 use Rattle.spelling.specs.declared.Cause.{Cause}
 use Rattle.spelling.specs.declared.Cause.TheVariants.{Overflow}
 
@@ -84,17 +84,17 @@ pub known_err : {A : Type 0} (h : Spot) (o : Option A) (p : Place) → known h o
 known_err h (Some a) p e = cc
 known_err h None p e = (refl, err_one _ _ e)
 
-pub told_ok : {A : Type 0} (h : Spot) (o : Result A Cause) (y : A) → told h o ≡ Ok y → o ≡ Ok y
-told_ok h (Ok a) y e = cc
-told_ok h (Err w) y e = cc
+pub reported_ok : {A : Type 0} (h : Spot) (o : Result A Cause) (y : A) → reported h o ≡ Ok y → o ≡ Ok y
+reported_ok h (Ok a) y e = cc
+reported_ok h (Err w) y e = cc
 
-pub told_on : {A : Type 0} (h : Spot) (o : Result A Cause) (a : A) → o ≡ Ok a → told h o ≡ Ok a
-told_on h o a e = ap (told h) e
+pub reported_on : {A : Type 0} (h : Spot) (o : Result A Cause) (a : A) → o ≡ Ok a → reported h o ≡ Ok a
+reported_on h o a e = ap (reported h) e
 
-pub told_err : {A : Type 0} (h : Spot) (o : Result A Cause) (p : Place) → told h o ≡ Err p
+pub reported_err : {A : Type 0} (h : Spot) (o : Result A Cause) (p : Place) → reported h o ≡ Err p
     → (w : Cause) × (o ≡ Err w) × (p ≡ stuck h w)
-told_err h (Ok a) p e = cc
-told_err h (Err w) p e = (w, refl, err_one _ _ e)
+reported_err h (Ok a) p e = cc
+reported_err h (Err w) p e = (w, refl, err_one _ _ e)
 
 pub walked_ok : {A : Type 0} (h : Spot) (r : Result A Fault) (y : A) → walked h r ≡ Ok y → r ≡ Ok y
 walked_ok h (Ok a) y e = ap Ok (ok_one _ _ (Ok y) e)

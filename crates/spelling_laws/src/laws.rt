@@ -1,5 +1,5 @@
 //! What follows from the definitions alone. Each function states one law; its body is empty.
-ghost use Rattle.spelling_laws.specs.Laws.{LeadsHold, OneConstructor, OneSpelling, ReadIsExact, ReadOrStuck, ReaderIsComplete, ReaderIsSound, ReaderStops, StuckStops};
+ghost use Rattle.spelling_laws.specs.Laws.{HasMarks, LeadsHold, OneConstructor, OneSpelling, ReadIsExact, ReadOrStuck, ReaderIsComplete, ReaderIsSound, ReaderStops, StuckStops};
 
 /// What the plain reader reads is a reading.
 pub fn reader_is_sound()
@@ -44,4 +44,9 @@ pub fn one_spelling()
 /// A root cell has one reading, or one place where it is stuck, and not both.
 pub fn read_or_stuck()
     ensures { ReadOrStuck }
+{}
+
+/// A value that is spelled has its marked value, with the slice at which each reference and each map begins.
+pub fn has_marks()
+    ensures { HasMarks }
 {}
