@@ -1,11 +1,11 @@
 -- The laws of accepted schemas.
-use Rattle.std.proofs.Common.{◌≡◌, ◌⊎◌, ◌<◌, inl, inr, ap, sym, refl, subst, arith, ℕ, zero, suc, List, [], ◌∷◌, Some}
+use Rattle.std.proofs.Common.{◌≡◌, ◌⊎◌, ◌<◌, inl, inr, ap, sym, refl, subst, arith, ℕ, List, [], ◌∷◌, Some}
 use Rattle.std.specs.Prelude.{slice_get, All, ◌^◌}
 use Rattle.tlb_syntax.specs.Limits.{IsWithinLimits}
 use Rattle.tlb_syntax.specs.Tree.{SchemaView}
 use Rattle.tlb_kinds.specs.Laws.{KindedStays, KeptStaysWithin, PassedOver}
 use Rattle.tlb_kinds.specs.Refusals.{IsKinded, kept_of}
-use Rattle.core_form.specs.Core.{Declaration, CoreSchema}
+use Rattle.core_form.specs.Core.{Declaration}
 use Rattle.schema_leads.specs.Laws.{SeparationIsDecided, SeparatedEnterOne}
 use Rattle.schema_leads.specs.Separation.{CanEnter}
 use Rattle.schema_leads.specs.Tags.{cores}

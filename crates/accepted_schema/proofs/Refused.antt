@@ -1,5 +1,5 @@
 -- Schemas without a refusal by their tags have short tags and separated constructors, and the other way round.
-use Rattle.std.proofs.Common.{◌≡◌, ◌∙◌, ◌↔◌, ◌<◌, ◌≤◌, ap, sym, refl, subst, arith, ℕ, zero, suc, Bool, true, false, not, ◌&&◌, List, [], ◌∷◌, ◌++◌, length, Some, nat_lt}
+use Rattle.std.proofs.Common.{◌≡◌, ◌∙◌, ◌<◌, ◌≤◌, ap, sym, refl, subst, arith, ℕ, zero, suc, Bool, true, false, not, ◌&&◌, List, [], ◌∷◌, ◌++◌, length, Some, nat_lt}
 use Rattle.std.specs.Prelude.{slice_get, bytes_eq, if◌then◌else◌, leb}
 use Rattle.std.specs.List.{flat_map}
 use Rattle.std.proofs.lemmas.Bool.{false≢true}
@@ -7,9 +7,9 @@ use Rattle.std.proofs.lemmas.Bool.Decides.{Decides-ltb}
 use Rattle.std.proofs.lemmas.Slice.Eq.{bytes_eq-Decides}
 use Rattle.core_form.specs.Core.{Word, Declaration, CoreSchema}
 use Rattle.schema_leads.specs.Laws.{SeparationIsDecided}
-use Rattle.schema_leads.specs.Separation.{are_separated, AreSeparated}
+use Rattle.schema_leads.specs.Separation.{are_separated}
 use Rattle.accepted_schema.specs.Accepted.{HasShortTags, AreAllSeparated}
-use Rattle.accepted_schema.specs.Refusals.{TagRefusal, of_tag, of_tags, of_pair, of_later, of_pairs, of_type_of, tag_refusals}
+use Rattle.accepted_schema.specs.Refusals.{of_tag, of_tags, of_pair, of_later, of_pairs, of_type_of, tag_refusals}
 
 -- ---- lists without elements
 

@@ -1,8 +1,7 @@
 -- What is separated is so in either order.
-use Rattle.std.proofs.Common.{◌≡◌, ◌⊎◌, ◌∙◌, inl, inr, ap, sym, refl, Bool, true, false, not, ◌&&◌, ◌||◌, ℕ, List, [], ◌∷◌}
+use Rattle.std.proofs.Common.{◌≡◌, inl, inr, refl, Bool, true, false, not, ◌||◌, ℕ, List, [], ◌∷◌}
 use Rattle.std.specs.List.{list_all}
 use Rattle.std.proofs.lemmas.Bool.{and_parts, and_from}
-use Rattle.nat_solver.specs.Pattern as patterns
 use Rattle.core_form.specs.Core.{Declaration, CoreSchema, Input, number, type}
 use Rattle.schema_leads.specs.Leads.{Leads, begins, leads}
 use Rattle.schema_leads.specs.Separation.{are_apart, AreSeparated, Excluding}
@@ -26,7 +25,6 @@ column (l ∷ ls) k ks e =
       and_from _ _ (either_order (begins l k) (begins k l) row.0) rest.0,
       and_from _ _ row.1 rest.1,
     )
-
 
 apart_order : (ls ks : Leads) → are_apart ls ks ≡ true → are_apart ks ls ≡ true
 apart_order ls [] e = refl

@@ -1,11 +1,12 @@
 -- An accepted schema has all that the laws of spelling need.
-use Rattle.std.proofs.Common.{◌≡◌, ◌<◌, ◌⊎◌, inl, inr, sym, subst, arith, ℕ, [], Some}
-use Rattle.std.specs.Prelude.{slice_get}
+use Rattle.std.proofs.Common.{◌≡◌, ◌<◌, ◌≤◌, ◌⊎◌, inl, inr, sym, subst, arith, ℕ, suc, true, false, [], Some}
+use Rattle.std.proofs.lemmas.Bool.Decides.{leb_tells}
+use Rattle.std.specs.Prelude.{leb, slice_get}
 use Rattle.tlb_syntax.specs.Tree.{SchemaView}
 use Rattle.tlb_kinds.specs.Laws.{KeptStaysWithin}
 use Rattle.tlb_kinds.specs.Refusals.{kept_of}
 use Rattle.core_form.specs.Core.{Declaration}
-use Rattle.core_form.specs.Plain.{ArePlainItems, IsPlain}
+use Rattle.core_form.specs.Plain.{IsPlain}
 use Rattle.schema_core.specs.Laws.{CoreIsPlain}
 use Rattle.schema_leads.specs.Laws.{NoLongChain}
 use Rattle.schema_leads.specs.Separation.{AreSeparated}
@@ -28,8 +29,12 @@ each_in_range : KeptStaysWithin → (s : SchemaView) → IsAccepted s → (i : �
 each_in_range within s ok i d there =
     inputs_in_range (kept_of s) tag_of (kept_of s) i d (within s ok.within).constructors (core_at (kept_of s) tag_of [] (kept_of s) i d there)
 
+by_test : (i j : ℕ) → (i ≡ j → ⊥) → ((leb (suc i) j ≡ true) × (suc i ≤ j)) ⊎ ((leb (suc i) j ≡ false) × (j < suc i)) → (i < j) ⊎ (j < i)
+by_test i j other (inl h) = inl (omega (arith, h.1))
+by_test i j other (inr h) = inr (omega (arith, other, h.1))
+
 two_orders : (i j : ℕ) → (i ≡ j → ⊥) → (i < j) ⊎ (j < i)
-two_orders i j other = omega (arith, other)
+two_orders i j other = by_test i j other (leb_tells (suc i) j)
 
 either_separated : (s : SchemaView) → IsAccepted s → (i j : ℕ) (d e : Declaration) → slice_get (kept_cores s) i ≡ Some d
     → slice_get (kept_cores s) j ≡ Some e → d.of_type ≡ e.of_type → (i < j) ⊎ (j < i) → AreSeparated (kept_cores s) d e
