@@ -1,4 +1,5 @@
--- Accepted schemas: within the limits of a text, without a refusal by kinds or guard, with tags of at most 63 bits, and with
+-- Accepted schemas: within the limits of a text, without a refusal by kinds or guard, with tags of at most 63 bits,
+-- and with
 -- every two constructors of a type told apart.
 -- Source: the TON documentation on the TL-B language (tags of constructors); the limit of 63 bits and the rule by which
 -- constructors are told apart are this project's own.

@@ -1,11 +1,13 @@
 -- The refusals of a schema by its tags and leads, in their order. A schema stands here by its core forms.
 -- Source: this project's own.
-use Rattle.std.specs.Prelude.{List, [], ◌∷◌, ◌++◌, ◌&&◌, not, length, nat_lt, bytes_eq, Option, Some, None, if◌then◌else◌}
+use Rattle.std.specs.Prelude.{List, [], ◌∷◌, ◌++◌, ◌&&◌, not, length, nat_lt, bytes_eq, Option, Some, None}
+use Rattle.std.specs.Prelude.{if◌then◌else◌}
 use Rattle.std.specs.List.{flat_map}
 use Rattle.core_form.specs.Core.{Word, Declaration, CoreSchema}
 use Rattle.schema_leads.specs.Separation.{are_separated}
 
--- a tag that is too long, with the type and the constructor as it is shown; two constructors of a type that are not told
+-- a tag that is too long, with the type and the constructor as it is shown; two constructors of a type that are not
+-- told
 -- apart, with the type and both of them
 pub data TagRefusal : Type 0 where
   tag_too_long : Word → Word → TagRefusal
@@ -36,7 +38,8 @@ of_pairs s x (d ∷ ds) = (if bytes_eq d.of_type x then of_later s d ds else [])
 abbrev pub of_type_of : CoreSchema → Declaration → List TagRefusal
 of_type_of s d = of_pairs s d.of_type s
 
--- Tags first, and then the pairs of each type, in the order of the types' first constructors. Those of a type stand here
+-- Tags first, and then the pairs of each type, in the order of the types' first constructors. Those of a type stand
+-- here
 -- once for each of its constructors, which changes nothing in which is the first.
 unfoldable pub tag_refusals : CoreSchema → List TagRefusal
 tag_refusals s = of_tags s ++ flat_map (of_type_of s) s

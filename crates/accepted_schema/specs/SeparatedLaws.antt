@@ -16,7 +16,8 @@ abbrev ApartFrom : Leads → List ℕ → Type 0
 ApartFrom ls k = list_all (λ l. not (begins k l || begins l k)) ls ≡ true
 
 -- one of the second list is apart from all of the first
-column : (ls : Leads) (k : List ℕ) (ks : Leads) → are_apart ls (k ∷ ks) ≡ true → ApartFrom ls k × (are_apart ls ks ≡ true)
+column : (ls : Leads) (k : List ℕ) (ks : Leads) → are_apart ls (k ∷ ks) ≡ true
+    → ApartFrom ls k × (are_apart ls ks ≡ true)
 column [] k ks e = (refl, refl)
 column (l ∷ ls) k ks e =
     let both = and_parts (list_all (λ x. not (begins l x || begins x l)) (k ∷ ks)) (are_apart ls (k ∷ ks)) e in

@@ -18,18 +18,22 @@ use Rattle.spelling.specs.Acceptable.{IsAcceptable, Seeks, AreInRange}
 use Rattle.accepted_spelling.specs.PlainLaws.{plain_seeks}
 use Rattle.accepted_spelling.specs.RangeLaws.{core_at, inputs_in_range}
 
-each_seeks : CoreIsPlain → (s : SchemaView) (i : ℕ) (d : Declaration) → slice_get (kept_cores s) i ≡ Some d → Seeks d.core.items
+each_seeks : CoreIsPlain → (s : SchemaView) (i : ℕ) (d : Declaration) → slice_get (kept_cores s) i ≡ Some d
+    → Seeks d.core.items
 each_seeks plain s i d there =
     let core = core_at (kept_of s) tag_of [] (kept_of s) i d there in
     let is_plain = subst IsPlain (sym core.core) (plain (kept_of s) (tag_of core.constructor) core.constructor) in
     plain_seeks d.core.items is_plain.items
 
-each_in_range : KeptStaysWithin → (s : SchemaView) → IsAccepted s → (i : ℕ) (d : Declaration) → slice_get (kept_cores s) i ≡ Some d
+each_in_range : KeptStaysWithin → (s : SchemaView) → IsAccepted s → (i : ℕ) (d : Declaration)
+    → slice_get (kept_cores s) i ≡ Some d
     → AreInRange d.core.inputs
 each_in_range within s ok i d there =
-    inputs_in_range (kept_of s) tag_of (kept_of s) i d (within s ok.within).constructors (core_at (kept_of s) tag_of [] (kept_of s) i d there)
+    inputs_in_range (kept_of s) tag_of (kept_of s) i d (within s ok.within).constructors (core_at
+    (kept_of s) tag_of [] (kept_of s) i d there)
 
-by_test : (i j : ℕ) → (i ≡ j → ⊥) → ((leb (suc i) j ≡ true) × (suc i ≤ j)) ⊎ ((leb (suc i) j ≡ false) × (j < suc i)) → (i < j) ⊎ (j < i)
+by_test : (i j : ℕ) → (i ≡ j → ⊥) → ((leb (suc i) j ≡ true) × (suc i ≤ j)) ⊎ ((leb (suc i) j ≡ false) ×
+    (j < suc i)) → (i < j) ⊎ (j < i)
 by_test i j other (inl h) = inl (omega (arith, h.1))
 by_test i j other (inr h) = inr (omega (arith, other, h.1))
 
@@ -42,7 +46,8 @@ either_separated s ok i j d e first second same (inl less) = ok.separated i j d 
 either_separated s ok i j d e first second same (inr less) =
     separated_order (kept_cores s) e d (ok.separated j i e d less second first (sym same))
 
-pub accepted_is_acceptable : CoreIsPlain → KeptStaysWithin → NoLongChain → (s : SchemaView) → IsAccepted s → IsAcceptable (kept_cores s)
+pub accepted_is_acceptable : CoreIsPlain → KeptStaysWithin → NoLongChain → (s : SchemaView) → IsAccepted s
+    → IsAcceptable (kept_cores s)
 accepted_is_acceptable plain within no_chain s ok = record {
   seeks = each_seeks plain s;
   in_range = each_in_range within s ok;

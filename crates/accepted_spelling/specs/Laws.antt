@@ -1,4 +1,5 @@
--- What the laws say, for every accepted schema: facts about the definitions alone. The schema stands in them by the core forms
+-- What the laws say, for every accepted schema: facts about the definitions alone. The schema stands in them by the
+-- core forms
 -- of its declarations without those that are passed over.
 use Rattle.std.specs.Prelude.{◌≡◌, ℕ, List, true}
 use Rattle.cell_nodes.specs.declared.tree.Mode.{Mode}
@@ -28,13 +29,15 @@ abbrev pub LeadsHold : Type 0
 LeadsHold =
     (mode : Mode) (s : SchemaView) → IsAccepted s → (x : Word) (args : ClosedArgs) (name : Word) (names : List Word)
     (vs : Plains) (before : Slice) (outs : List ℕ) (after : Slice)
-    (e : SpellsDeclared (kept_cores s) name names (Each mode (kept_cores s) vs) (typed (closed.named x args)) before outs after)
+    (e : SpellsDeclared (kept_cores s) name names (Each mode (kept_cores s) vs) (typed
+    (closed.named x args)) before outs after)
     → some_begins (leads (kept_cores s) e.1) before.bits ≡ true
 
 -- at most one constructor of a type has inputs that meet the arguments and a lead that begins the bits
 abbrev pub OneConstructor : Type 0
 OneConstructor =
-    (s : SchemaView) → IsAccepted s → (x : Word) (args : ClosedArgs) (bits : List ℕ) (i j : ℕ) (c e : Declaration) (a b : Scope)
+    (s : SchemaView) → IsAccepted s → (x : Word) (args : ClosedArgs) (bits : List ℕ) (i j : ℕ) (c e : Declaration)
+    (a b : Scope)
     → Enters (kept_cores s) x args bits i c a → Enters (kept_cores s) x args bits j e b → i ≡ j
 
 -- the plain reader gives the readings and the places where one is stuck, and nothing else
@@ -45,7 +48,8 @@ ReadIsExact =
 -- a content spells at most one value of a closed type, with one list of outputs and one rest
 abbrev pub OneSpelling : Type 0
 OneSpelling =
-    (mode : Mode) (s : SchemaView) → IsAccepted s → (t : Closed) (content : Slice) (v w : Plain) (x y : List ℕ) (a b : Slice)
+    (mode : Mode) (s : SchemaView) → IsAccepted s → (t : Closed) (content : Slice) (v w : Plain) (x y : List ℕ)
+    (a b : Slice)
     → Spells mode (kept_cores s) v (at_type t) content x a → Spells mode (kept_cores s) w (at_type t) content y b
     → (◌≡◌ {A = Found} (v, x, a) (w, y, b))
 

@@ -1,5 +1,6 @@
 -- In a plain core form each equation seeks its one unknown.
-use Rattle.core_form.specs.Core.{Ty, Items, check, solve, field, no_items, an_item, group, ref, nat32, bits, below, up_to}
+use Rattle.core_form.specs.Core.{Ty, Items, check, solve, field, no_items, an_item, group, ref, nat32, bits, below}
+use Rattle.core_form.specs.Core.{up_to}
 use Rattle.core_form.specs.Core.{uint, int, bit_str, whole, variable, repeat, dict, dict_e, named}
 use Rattle.core_form.specs.Plain.{IsPlainType, ArePlainItems}
 use Rattle.spelling.specs.Acceptable.{Seeks, SeeksIn}

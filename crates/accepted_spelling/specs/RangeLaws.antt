@@ -1,14 +1,17 @@
 -- In a schema within the limits of a text the numbers of input patterns are of 32 bits.
-use Rattle.std.proofs.Common.{◌≡◌, ◌<◌, ◌^◌, ap, refl, subst, arith, ℕ, zero, suc, List, [], ◌∷◌, ◌++◌, Option, Some, None}
+use Rattle.std.proofs.Common.{◌≡◌, ◌<◌, ◌^◌, ap, refl, subst, arith, ℕ, zero, suc, List, [], ◌∷◌, ◌++◌, Option, Some}
+use Rattle.std.proofs.Common.{None}
 use Rattle.std.specs.Prelude.{slice_get}
 use Rattle.tlb_syntax.specs.Limits.{IsConstructor, AreConstructors, IsExpr, AreExprs}
-use Rattle.tlb_syntax.specs.Tree.{ExprView, ExprList, ConstructorView, SchemaView, lit, named, nat32, bits, below, up_to}
+use Rattle.tlb_syntax.specs.Tree.{ExprView, ExprList, ConstructorView, SchemaView, lit, named, nat32, bits, below}
+use Rattle.tlb_syntax.specs.Tree.{up_to}
 use Rattle.tlb_syntax.specs.Tree.{plus, star, out, ref, group, no_exprs, an_expr}
 use Rattle.kind_terms.specs.Params.{bare_name}
 use Rattle.core_form.specs.Core.{Declaration, Input, number, type}
 use Rattle.schema_core.specs.Names.{Names, Variable, a_number, a_type, other, meaning}
 use Rattle.schema_core.specs.Numbers.{named_number}
-use Rattle.schema_core.specs.CoreOf.{core_of, input_of, inputs_of, literal_of, names_at_result, sum_input, variable_input}
+use Rattle.schema_core.specs.CoreOf.{core_of, input_of, inputs_of, literal_of, names_at_result, sum_input}
+use Rattle.schema_core.specs.CoreOf.{variable_input}
 use Rattle.schema_core.specs.Cores.{cores_after}
 use Rattle.spelling.specs.Acceptable.{AreInRange}
 
@@ -61,13 +64,15 @@ inputs_range names (an_expr e es) h =
 
 -- ---- declarations by their place
 
-constructor_at : (cs : SchemaView) (i : ℕ) (c : ConstructorView) → AreConstructors cs → slice_get cs i ≡ Some c → IsConstructor c
+constructor_at : (cs : SchemaView) (i : ℕ) (c : ConstructorView) → AreConstructors cs → slice_get cs i ≡ Some c
+    → IsConstructor c
 constructor_at [] i c h e = absurd (grind arith)
 constructor_at (d ∷ cs) zero c h e = let same : d ≡ c = cc in subst IsConstructor same h.0
 constructor_at (d ∷ cs) (suc i) c h e = constructor_at cs i c h.1 e
 
 -- the constructor whose core form a declaration has
-pub record IsCoreOf (types : SchemaView) (tag : ConstructorView → List ℕ) (cs : SchemaView) (i : ℕ) (d : Declaration) : Type 0 where
+pub record IsCoreOf (types : SchemaView) (tag : ConstructorView
+    → List ℕ) (cs : SchemaView) (i : ℕ) (d : Declaration) : Type 0 where
   pub constructor : ConstructorView
   pub there : slice_get cs i ≡ Some constructor
   pub core : d.core ≡ core_of types (tag constructor) constructor
@@ -83,7 +88,8 @@ core_at types tag before (c ∷ cs) (suc i) d e =
     let rest = core_at types tag (before ++ c ∷ []) cs i d e in
     record { constructor = rest.constructor; there = rest.there; core = rest.core }
 
-pub inputs_in_range : (types : SchemaView) (tag : ConstructorView → List ℕ) (cs : SchemaView) (i : ℕ) (d : Declaration) → AreConstructors cs
+pub inputs_in_range : (types : SchemaView) (tag : ConstructorView
+    → List ℕ) (cs : SchemaView) (i : ℕ) (d : Declaration) → AreConstructors cs
     → IsCoreOf types tag cs i d → AreInRange d.core.inputs
 inputs_in_range types tag cs i d h core =
     let c = core.constructor in

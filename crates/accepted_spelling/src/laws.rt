@@ -1,5 +1,6 @@
 //! What follows from the definitions alone, for every accepted schema. Each function states one law.
-ghost use Rattle.accepted_spelling.specs.Laws.{AcceptedIsAcceptable, LeadsHold, OneConstructor, OneSpelling, ReadIsExact, ReadOrStuck};
+ghost use Rattle.accepted_spelling.specs.Laws.{AcceptedIsAcceptable, LeadsHold, OneConstructor, OneSpelling};
+ghost use Rattle.accepted_spelling.specs.Laws.{ReadIsExact, ReadOrStuck};
 
 use schema_core::laws::core_is_plain;
 use schema_leads::laws::no_long_chain;

@@ -1,4 +1,5 @@
-//! What holds of spelling in every accepted schema: the plain reader is exact, and each root has one reading or is stuck at
+//! What holds of spelling in every accepted schema: the plain reader is exact, and each root has one reading or is
+//! stuck at
 //! one place.
 #![tactic(auto)]
 
