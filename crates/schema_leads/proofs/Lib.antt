@@ -1,0 +1,6 @@
+mod Words
+mod Declarations
+mod Exposed
+mod Chains
+mod Rounds
+mod Separated
