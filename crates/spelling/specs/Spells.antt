@@ -41,6 +41,7 @@ pub data Keyed : Type 1 where
   a_keyed : List ℕ → Meaning → Keyed → Keyed
 
 -- ---- numbers and bit strings
+-- Source: TL-B documentation (built-in types); TVM whitepaper, 1.0 (big-endian numbers, two's complement).
 
 abbrev pub own : Bool → ℕ → List ℕ
 own true n = n ∷ []
@@ -74,6 +75,7 @@ AtRow F (typed t) before outs after = F (row t) before outs after
 AtRow F _ before outs after = ⊥
 
 -- ---- records
+-- Source: TL-B documentation (constructors and tags, implicit and explicit fields, constraints, conditional fields, `[ ]`).
 
 -- The items in order, with a meaning for each explicit field: from what the variables stand for before them to what
 -- they stand for after them, and from a slice to what is left. Implicit fields take nothing, and are no core items.
@@ -123,6 +125,7 @@ SpellsAbsent left_out before outs after = (outs ≡ []) × (after ≡ before)
 SpellsAbsent _ before outs after = ⊥
 
 -- ---- repetitions
+-- Source: TL-B documentation (`n * T`). That an item takes something is this project's own.
 
 -- n spellings one after the other, each of which takes a bit or a reference
 abbrev pub Repeats : Meanings → ℕ → Closed → Slice → Slice → Type 0
@@ -136,6 +139,7 @@ SpellsList Ms (typed (closed.repeat n t)) before outs after = (outs ≡ []) × R
 SpellsList Ms _ before outs after = ⊥
 
 -- ---- references
+-- Source: TL-B documentation (`^`); TON documentation on exotic cells (pruned branches).
 
 -- What a cell holds: a cell that isn't hidden, as it is; or an ordinary cell whose whole content spells the value.
 abbrev pub Holds : Mode → Meaning → Goal → Tree → Type 0
@@ -176,6 +180,7 @@ SpellsRest s (typed closed.whole) before outs after = (outs ≡ []) × (s ≡ ke
 SpellsRest s _ before outs after = ⊥
 
 -- ---- dictionaries
+-- Source: TVM whitepaper, 3.3; TON documentation on hashmaps.
 
 -- the contents of leaves, each spelled to nothing in its own cell
 abbrev pub Contents : Keyed → Closed → List (List ℕ × Slice) → Type 0
@@ -278,6 +283,7 @@ abbrev pub Spells : Mode → CoreSchema → Plain → Meaning
 Spells mode schema v = SpellsBy free mode schema v
 
 -- ---- the root
+-- Source: this project's own.
 
 -- a root that is hidden, where the type is no reference itself
 abbrev pub RootUnknown : Mode → Closed → Tree → Plain → Type 0
