@@ -1,11 +1,12 @@
 -- What the laws say: facts about the definitions alone.
-use Rattle.std.specs.Prelude.{◌≡◌, ◌⊎◌, ℕ, Bool, List, [], ◌∷◌}
+use Rattle.std.specs.Prelude.{◌≡◌, ◌⊎◌, ◌↔◌, ℕ, ◌<◌, Bool, List, [], ◌∷◌, length, Result}
 use Rattle.cell_nodes.specs.Good.{AllGood}
+use Rattle.cell_nodes.specs.Held.{Held}
 use Rattle.cell_nodes.specs.declared.tree.Hidden.{Hidden}
 use Rattle.cell_nodes.specs.declared.tree.Mode.{Mode}
-use Rattle.cell_nodes.specs.declared.tree.Mode.TheVariants.{Partial}
+use Rattle.cell_nodes.specs.declared.tree.Mode.TheVariants.{Whole, Partial}
 use Rattle.hashmap_labels.specs.declared.forms.Forms.TheVariants.{Required}
-use Rattle.hashmap_tree.specs.Dict.{DictTree, forms_of}
+use Rattle.hashmap_tree.specs.Dict.{DictTree, DictTreeE, forms_of}
 use Rattle.hashmap_tree.specs.Entries.{Slice, Entries, Then, leaf, pairs_in, hidden_in}
 use Rattle.hashmap_tree.specs.Exceeds.{Excess, Exceeds, IsWithin}
 use Rattle.hashmap_tree.specs.First.{Edge, Fork, LeafEdge}
@@ -13,8 +14,11 @@ use Rattle.hashmap_tree.specs.Halts.{Halts}
 use Rattle.hashmap_tree.specs.Merged.{merged}
 use Rattle.hashmap_tree.specs.Order.{InOrder, AreInOrder, leaves}
 use Rattle.hashmap_tree.specs.Placed.{AllPlaced}
+use Rattle.hashmap_tree.specs.PlantedLaws.{AllCanHide, IsTreeOrMemory, SameOrMemory}
+use Rattle.hashmap_tree.specs.Plants.{IsHiddenAlone, Plants}
 use Rattle.hashmap_tree.specs.Top.{IsTop, HaltsTop}
 use Rattle.hashmap_tree.specs.Walk.{Fault}
+use Rattle.hashmap_tree.specs.declared.planting.PlantError.{PlantError}
 
 -- in modes Whole and Partial entries have one content, among those whose references are good cells
 abbrev pub OneTree : Type 0
@@ -98,3 +102,51 @@ MergedHasParts =
 
 abbrev pub OrderedIsMerged : Type 0
 OrderedIsMerged = (n : ℕ) (es : Entries) → AreInOrder n es → es ≡ merged (pairs_in es) (hidden_in es)
+
+-- entries in order whose hidden parts have a place have a tree
+abbrev pub EntriesHaveTree : Type 0
+EntriesHaveTree =
+    (n : ℕ) (es : Entries) → AreInOrder n es → 0 < length es → AllPlaced es → AllCanHide es
+    → (s : Slice) × DictTree Partial n es s
+
+-- without hidden parts the trees in modes Whole and Partial are the same
+abbrev pub WholeIsPartial : Type 0
+WholeIsPartial =
+    (n : ℕ) (es : Entries) (s : Slice) → hidden_in es ≡ [] → DictTree Whole n es s ↔ DictTree Partial n es s
+
+-- where there is a tree within the limits, planting answers with it, or is out of memory
+abbrev pub TreeIsPlanted : Type 0
+TreeIsPlanted =
+    (n : ℕ) (es : Entries) (s : Slice) (r : Result Held PlantError) → DictTree Partial n es s → IsWithin s
+    → Plants n es r → IsTreeOrMemory s r
+
+-- planting has one answer at most, but for memory
+abbrev pub OneAnswer : Type 0
+OneAnswer =
+    (n : ℕ) (es : Entries) (q r : Result Held PlantError) → Plants n es q → Plants n es r → SameOrMemory q r
+
+-- ---- dictionaries that may be empty
+
+-- in each mode one list of entries, and one slice that is left
+abbrev pub OneListE : Type 0
+OneListE =
+    (mode : Mode) (n : ℕ) (es more : Entries) (s after rest : Slice)
+    → DictTreeE mode n es s after → DictTreeE mode n more s rest → (es ≡ more) × (after ≡ rest)
+
+-- in modes Whole and Partial one slice, among those whose references are good cells
+abbrev pub OneTreeE : Type 0
+OneTreeE =
+    (mode : Mode) → forms_of mode ≡ Required → (n : ℕ) (es : Entries) (s t after : Slice) → AllGood s.refs
+    → AllGood t.refs → DictTreeE mode n es s after → DictTreeE mode n es t after → s ≡ t
+
+-- pairs in order have one in each mode
+abbrev pub HasTreeE : Type 0
+HasTreeE =
+    (mode : Mode) (n : ℕ) (xs : List (List ℕ × Slice)) (after : Slice)
+    → InOrder n xs → (s : Slice) × DictTreeE mode n (leaves xs) s after
+
+-- and entries in order have one, of which each hidden part has a place, or is the whole dictionary
+abbrev pub EntriesHaveTreeE : Type 0
+EntriesHaveTreeE =
+    (n : ℕ) (es : Entries) (after : Slice) → AreInOrder n es → IsHiddenAlone es ⊎ AllPlaced es → AllCanHide es
+    → (s : Slice) × DictTreeE Partial n es s after

@@ -21,9 +21,11 @@ pub mod OrderedLaws
 pub mod OutcomeLaws
 pub mod Placed
 pub mod PlacedLaws
+pub mod PlantedLaws
 pub mod Plants
 pub mod PrunedLaws
 pub mod RefusedLaws
+pub mod RootLaws
 pub mod SoundLaws
 pub mod StandsLaws
 pub mod StepLaws

@@ -14,7 +14,7 @@ use Rattle.hashmap_labels.specs.Labels.{IsLabel}
 use Rattle.hashmap_labels.specs.declared.forms.Forms.TheVariants.{Required}
 
 -- bit by bit
-abbrev Planned : ℕ → Entries → Type 0
+abbrev pub Planned : ℕ → Entries → Type 0
 Planned zero es = (c : Slice) × (es ≡ ([], leaf c) ∷ [])
 Planned (suc n) es =
     (zs : Entries) × (os : Entries) × (es ≡ under (0 ∷ []) zs ++ under (1 ∷ []) os) × (((zs ≡ []) × Planned n os) ⊎ (((os ≡ []) × Planned n zs) ⊎ (Planned n zs × Planned n os)))
@@ -43,10 +43,10 @@ pub label_of : (mode : Mode) (n : ℕ) (bits rest : List ℕ) → AreBits bits �
 label_of mode n bits rest h l = let r = has_spelling n bits rest h l in (r.0, label_in mode n bits r.0 rest r.1)
 
 -- after any bits of a label that is not at its end
-Grows : Mode → ℕ → Entries → Type 0
+pub Grows : Mode → ℕ → Entries → Type 0
 Grows mode n es = (q : List ℕ) → AreBits q → (s : Slice) × DictTree mode (length q + n) (under q es) s
 
-along : (mode : Mode) (n : ℕ) (b : ℕ) (es : Entries) → b < 2 → Grows mode n es → Grows mode (suc n) (under (b ∷ []) es)
+pub along : (mode : Mode) (n : ℕ) (b : ℕ) (es : Entries) → b < 2 → Grows mode n es → Grows mode (suc n) (under (b ∷ []) es)
 unfolding Grows
 along mode n b es low g q bits =
     let r = g (q ++ b ∷ []) (AreBits-append q (b ∷ []) bits (low, tt)) in
@@ -55,27 +55,37 @@ along mode n b es low g q bits =
     let Q : Entries → Type 0 = λ es. DictTree mode (length q + suc n) es r.0 in
     (r.0, subst Q (sym (under-under q (b ∷ []) es)) (subst P l r.1))
 
-branch_of : (mode : Mode) (n : ℕ) (es : Entries) → Grows mode n es → (t : Tree) × Branch mode n es t
+pub no_label : (mode : Mode) (n : ℕ) (es : Entries) → Grows mode n es → (s : Slice) × DictTree mode n es s
 unfolding Grows
-branch_of mode n es g =
+no_label mode n es g =
     let r = g [] tt in
     let Q : ℕ → Type 0 = λ m. DictTree mode m es r.0 in
     let R : Entries → Type 0 = λ es. DictTree mode (0 + n) es r.0 in
     let zero_n : 0 + n ≡ n = omega arith in
-    (cell_of r.0, open_edge mode n es (cell_of r.0) r.0 refl (subst Q zero_n (subst R (under-nil es) r.1)))
+    (r.0, subst Q zero_n (subst R (under-nil es) r.1))
+
+pub branch_of : (mode : Mode) (n : ℕ) (es : Entries) → Grows mode n es → (t : Tree) × Branch mode n es t
+branch_of mode n es g =
+    let r = no_label mode n es g in
+    (cell_of r.0, open_edge mode n es (cell_of r.0) r.0 refl r.1)
+
+pub fork_of : (mode : Mode) (n : ℕ) (zs os : Entries) (z o : Tree) → Branch mode n zs z → Branch mode n os o
+    → Grows mode (suc n) (under (0 ∷ []) zs ++ under (1 ∷ []) os)
+unfolding Grows
+fork_of mode n zs os z o bz bo q bits =
+    let l = label_of mode (length q + suc n) q [] bits (omega arith) in
+    let s : Slice = record { bits = l.0; refs = z ∷ (o ∷ []) } in
+    let same : under q (under (0 ∷ []) zs ++ under (1 ∷ []) os) ≡ fork q zs os = under-append q (under (0 ∷ []) zs) (under (1 ∷ []) os) ∙ (λ i. under-under q (0 ∷ []) zs i ++ under-under q (1 ∷ []) os i) in
+    (s, two mode (length q + suc n) _ s q n zs os z o same refl l.1 refl bz bo)
 
 both : (mode : Mode) (n : ℕ) (zs os : Entries) → Grows mode n zs → Grows mode n os
     → Grows mode (suc n) (under (0 ∷ []) zs ++ under (1 ∷ []) os)
-unfolding Grows
-both mode n zs os g h q bits =
+both mode n zs os g h =
     let z = branch_of mode n zs g in
     let o = branch_of mode n os h in
-    let l = label_of mode (length q + suc n) q [] bits (omega arith) in
-    let s : Slice = record { bits = l.0; refs = z.0 ∷ (o.0 ∷ []) } in
-    let same : under q (under (0 ∷ []) zs ++ under (1 ∷ []) os) ≡ fork q zs os = under-append q (under (0 ∷ []) zs) (under (1 ∷ []) os) ∙ (λ i. under-under q (0 ∷ []) zs i ++ under-under q (1 ∷ []) os i) in
-    (s, two mode (length q + suc n) _ s q n zs os z.0 o.0 same refl l.1 refl z.1 o.1)
+    fork_of mode n zs os z.0 o.0 z.1 o.1
 
-grows : (mode : Mode) (n : ℕ) (es : Entries) → Planned n es → Grows mode n es
+pub grows : (mode : Mode) (n : ℕ) (es : Entries) → Planned n es → Grows mode n es
 unfolding Grows
 grows mode zero es p q bits =
     let e : length (q ++ []) ≡ length q + 0 = let k = length-append q [] in omega (arith, k) in
@@ -165,10 +175,5 @@ planned (suc n) x xs o = go (cut n x xs o) (planned n)
 
 pub has_tree : (mode : Mode) (n : ℕ) (x : List ℕ × Slice) (xs : List (List ℕ × Slice)) → InOrder n (x ∷ xs)
     → (s : Slice) × DictTree mode n (leaves (x ∷ xs)) s
-unfolding Grows
 has_tree mode n x xs o =
-    let r = grows mode n (leaves (x ∷ xs)) (planned n x xs o) [] tt in
-    let Q : ℕ → Type 0 = λ m. DictTree mode m (leaves (x ∷ xs)) r.0 in
-    let R : Entries → Type 0 = λ es. DictTree mode (0 + n) es r.0 in
-    let zero_n : 0 + n ≡ n = omega arith in
-    (r.0, subst Q zero_n (subst R (under-nil (leaves (x ∷ xs))) r.1))
+    no_label mode n (leaves (x ∷ xs)) (grows mode n (leaves (x ∷ xs)) (planned n x xs o))

@@ -1,5 +1,5 @@
 //! What follows from the definitions alone. Each function states one law; its body is empty.
-ghost use Rattle.hashmap_tree.specs.Laws.{ForkIsTree, HasTree, LeafIsTree, MergedHasParts, NoFaultInTree, NoHaltAtEdge, OneEdge, OneExcess, OneFault, OneHalt, OneList, OneTree, OrderedIsMerged, TreeFits, TreeIsPlaced, TreeOrFault};
+ghost use Rattle.hashmap_tree.specs.Laws.{EntriesHaveTree, EntriesHaveTreeE, ForkIsTree, HasTree, HasTreeE, LeafIsTree, MergedHasParts, NoFaultInTree, NoHaltAtEdge, OneAnswer, OneEdge, OneExcess, OneFault, OneHalt, OneList, OneListE, OneTree, OneTreeE, OrderedIsMerged, TreeFits, TreeIsPlaced, TreeIsPlanted, TreeOrFault, WholeIsPartial};
 
 /// In modes Whole and Partial entries have one content.
 pub fn one_tree()
@@ -79,4 +79,44 @@ pub fn merged_has_parts()
 /// Entries in order are what their contents and hidden parts make.
 pub fn ordered_is_merged()
     ensures { OrderedIsMerged }
+{}
+
+/// Entries in order whose hidden parts have a place have a tree.
+pub fn entries_have_tree()
+    ensures { EntriesHaveTree }
+{}
+
+/// Without hidden parts the trees in modes Whole and Partial are the same.
+pub fn whole_is_partial()
+    ensures { WholeIsPartial }
+{}
+
+/// Where there is a tree within the limits, planting answers with it, or is out of memory.
+pub fn tree_is_planted()
+    ensures { TreeIsPlanted }
+{}
+
+/// Planting has one answer at most, but for memory.
+pub fn one_answer()
+    ensures { OneAnswer }
+{}
+
+/// A dictionary that may be empty has one list of entries.
+pub fn one_list_e()
+    ensures { OneListE }
+{}
+
+/// In modes Whole and Partial entries have one dictionary that may be empty.
+pub fn one_tree_e()
+    ensures { OneTreeE }
+{}
+
+/// Pairs in order have a dictionary that may be empty.
+pub fn has_tree_e()
+    ensures { HasTreeE }
+{}
+
+/// Entries in order have a dictionary that may be empty.
+pub fn entries_have_tree_e()
+    ensures { EntriesHaveTreeE }
 {}
