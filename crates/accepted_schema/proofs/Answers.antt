@@ -1,15 +1,18 @@
 -- The laws of accepted schemas.
-use Rattle.std.proofs.Common.{◌≡◌, ◌⊎◌, ◌<◌, inl, inr, ap, sym, refl, subst, arith, ℕ, List, [], ◌∷◌, Some}
+use Rattle.std.proofs.Common.{◌≡◌, ◌⊎◌, ◌<◌, inl, inr, ap, sym, refl, subst, arith, ℕ, List, [], ◌∷◌, Some, ◌∙◌, ◌↔◌, Option, None}
 use Rattle.std.specs.Prelude.{slice_get, All, ◌^◌}
 use Rattle.tlb_syntax.specs.Limits.{IsWithinLimits}
 use Rattle.tlb_syntax.specs.Tree.{SchemaView}
 use Rattle.tlb_kinds.specs.Laws.{KindedStays, KeptStaysWithin, PassedOver}
-use Rattle.tlb_kinds.specs.Refusals.{IsKinded, kept_of}
+use Rattle.kind_declarations.specs.Faults.{first}
+use Rattle.tlb_kinds.specs.declared.error.KindError.{KindError}
+use Rattle.tlb_kinds.specs.Refusals.{IsKinded, first_refusal, kept_of, refusals}
 use Rattle.core_form.specs.Core.{Declaration}
 use Rattle.schema_leads.specs.Laws.{SeparationIsDecided, SeparatedEnterOne}
 use Rattle.schema_leads.specs.Separation.{CanEnter}
 use Rattle.schema_leads.specs.Tags.{cores}
 use Rattle.accepted_schema.specs.Accepted.{IsAccepted, HasShortTags, AreAllSeparated, kept_cores}
+use Rattle.accepted_schema.specs.FirstCause.{cause_from, first_cause}
 use Rattle.accepted_schema.specs.Refusals.{TagRefusal, first_of, first_tag_refusal, tag_refusals}
 use Rattle.accepted_schema.proofs.Refused.{no_refusal, refused_none}
 
@@ -51,3 +54,43 @@ one_constructor enter s ok i j d e ns bits first second same few by_d by_e =
   where
     order : (i < j → ⊥) → (j < i → ⊥) → i ≡ j
     order a b = omega (arith, a, b)
+
+-- ---- the first refusal
+
+none_first : {X : Type 0} (xs : List X) → first xs ≡ None → xs ≡ []
+none_first [] e = refl
+none_first (x ∷ xs) e = absurd (grind (arith, e))
+
+none_tag : (rs : List TagRefusal) → first_of rs ≡ None → rs ≡ []
+none_tag [] e = refl
+none_tag (r ∷ rs) e = absurd (grind (arith, e))
+
+record NoCause (a : Option KindError) (b : Option TagRefusal) : Type 0 where
+  kinds : a ≡ None
+  tags : b ≡ None
+
+no_cause : (a : Option KindError) (b : Option TagRefusal) → cause_from a b ≡ None → NoCause a b
+no_cause (Some e) b h = absurd (grind (arith, h))
+no_cause None (Some r) h = absurd (grind (arith, h))
+no_cause None None h = record { kinds = refl; tags = refl }
+
+uncaused : (a : Option KindError) (b : Option TagRefusal) → a ≡ None → b ≡ None → cause_from a b ≡ None
+uncaused a b no_kinds no_tags = ap (λ x. cause_from x b) no_kinds ∙ ap (cause_from None) no_tags
+
+accepted_from : SeparationIsDecided → (s : SchemaView) → IsWithinLimits s → first_cause s ≡ None → IsAccepted s
+accepted_from decided s within none =
+    let both = no_cause (first_refusal s) (first_tag_refusal (kept_cores s)) none in
+    let good = no_refusal decided (kept_cores s) (none_tag (tag_refusals (kept_cores s)) both.tags) in
+    record {
+      within = within;
+      kinded = none_first (refusals s) both.kinds;
+      short_tags = good.short;
+      separated = good.separated;
+    }
+
+accepted_uncaused : SeparationIsDecided → (s : SchemaView) → IsAccepted s → first_cause s ≡ None
+accepted_uncaused decided s ok =
+    uncaused (first_refusal s) (first_tag_refusal (kept_cores s)) (ap first ok.kinded) (ap first_of (accepted_none decided s ok))
+
+pub accepted_without_cause : SeparationIsDecided → (s : SchemaView) → IsWithinLimits s → IsAccepted s ↔ (first_cause s ≡ None)
+accepted_without_cause decided s within = (accepted_uncaused decided s, accepted_from decided s within)

@@ -1,11 +1,12 @@
 -- What the laws say: facts about the definitions alone.
-use Rattle.std.specs.Prelude.{ℕ, ◌≡◌, ◌⊎◌, ◌^◌, ◌<◌, List, [], All, Some, slice_get}
+use Rattle.std.specs.Prelude.{ℕ, ◌≡◌, ◌⊎◌, ◌↔◌, ◌^◌, ◌<◌, List, [], All, Some, None, slice_get}
 use Rattle.tlb_syntax.specs.Limits.{IsWithinLimits}
 use Rattle.tlb_syntax.specs.Tree.{SchemaView}
 use Rattle.tlb_kinds.specs.Refusals.{IsKinded, kept_of}
 use Rattle.core_form.specs.Core.{Declaration}
 use Rattle.schema_leads.specs.Separation.{CanEnter}
 use Rattle.accepted_schema.specs.Accepted.{IsAccepted, kept_cores}
+use Rattle.accepted_schema.specs.FirstCause.{first_cause}
 use Rattle.accepted_schema.specs.Refusals.{TagRefusal, tag_refusals, first_tag_refusal}
 
 -- a schema without a refusal by its kinds is accepted, or has a first refusal by its tags
@@ -14,7 +15,11 @@ AcceptedOrRefused =
     (s : SchemaView) → IsWithinLimits s → IsKinded s
     → IsAccepted s ⊎ ((r : TagRefusal) × (first_tag_refusal (kept_cores s) ≡ Some r))
 
--- an accepted one has none
+-- a schema within the limits of a text is accepted exactly where it has no first refusal
+abbrev pub AcceptedWithoutCause : Type 0
+AcceptedWithoutCause = (s : SchemaView) → IsWithinLimits s → IsAccepted s ↔ (first_cause s ≡ None)
+
+-- an accepted one has no refusal by its tags
 abbrev pub AcceptedHasNoRefusal : Type 0
 AcceptedHasNoRefusal = (s : SchemaView) → IsAccepted s → tag_refusals (kept_cores s) ≡ []
 

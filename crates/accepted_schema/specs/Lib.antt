@@ -1,5 +1,6 @@
 pub mod Accepted
 pub mod Refusals
+pub mod FirstCause
 pub mod Laws
 pub mod GuardLaws
 pub mod SeparatedLaws

@@ -1,5 +1,5 @@
 //! What follows from the definitions alone.
-ghost use Rattle.accepted_schema.specs.Laws.{AcceptedHasNoRefusal, AcceptedOrRefused, AcceptedStays, OneConstructor};
+ghost use Rattle.accepted_schema.specs.Laws.{AcceptedHasNoRefusal, AcceptedOrRefused, AcceptedStays, AcceptedWithoutCause, OneConstructor};
 
 use schema_leads::laws::{separated_enter_one, separation_is_decided};
 use tlb_kinds::laws::{kept_stays_within, kinded_stays, passed_over};
@@ -7,6 +7,13 @@ use tlb_kinds::laws::{kept_stays_within, kinded_stays, passed_over};
 /// A schema without a refusal by its kinds is accepted or has a first refusal by its tags.
 pub fn accepted_or_refused()
     ensures { AcceptedOrRefused }
+{
+    separation_is_decided();
+}
+
+/// A schema within the limits of a text is accepted exactly where it has no first refusal.
+pub fn accepted_without_cause()
+    ensures { AcceptedWithoutCause }
 {
     separation_is_decided();
 }
