@@ -1,3 +1,6 @@
 pub mod Clean
 pub mod CleanLaws
 pub mod NumberLaws
+pub mod TypeLaws
+pub mod EquationLaws
+pub mod ItemLaws

@@ -88,7 +88,7 @@ number_known s most q x c =
     cases false k n h = cc
 
 -- a name with arguments is no number
-number_args : (s : Scope) (most : ℕ) (q : Option Word) (x : Word) (e : ExprView) (es : ExprList)
+pub number_args : (s : Scope) (most : ℕ) (q : Option Word) (x : Word) (e : ExprView) (es : ExprList)
     → CleanUse (use_of s (a_number most q) (named x (an_expr e es))) → ⊥
 number_args s most q x e es c =
     let low : nat_lt 0 (count (an_expr e es)) ≡ true = lt-ltb 0 (count (an_expr e es)) (omega arith) in
@@ -182,7 +182,7 @@ none_of_product (Some m) (Some n) e = cc
 pub any_left : {X : Type 0} (p : X → Bool) (xs ys : List X) → list_any p xs ≡ true → list_any p (xs ++ ys) ≡ true
 any_left p xs ys h = list_any-append p xs ys ∙ ap (λ b. b || list_any p ys) h
 
-or_true : (b : Bool) → (b || true) ≡ true
+pub or_true : (b : Bool) → (b || true) ≡ true
 or_true true = refl
 or_true false = refl
 
@@ -239,7 +239,7 @@ factor_closed e f a most q h i j =
 
 -- ---- numbers
 
-both_true : (m n : Bool) → m ≡ true → n ≡ true → (m && n) ≡ true
+pub both_true : (m n : Bool) → m ≡ true → n ≡ true → (m && n) ≡ true
 both_true true n i j = j
 both_true false n i j = cc
 
