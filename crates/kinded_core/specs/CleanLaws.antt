@@ -1,5 +1,5 @@
 -- What follows for an expression of which no cause holds.
-use Rattle.std.proofs.Common.{◌≡◌, ℕ, List, [], ◌∷◌, ◌++◌, Option, Some, None, Bool, true, false, not, refl, sym, ap, ◌∙◌, subst}
+use Rattle.std.proofs.Common.{◌≡◌, List, [], ◌∷◌, ◌++◌, Bool, true, false, refl}
 use Rattle.std.proofs.Common.{map}
 use Rattle.std.specs.Prelude.{filter, cond}
 use Rattle.std.proofs.lemmas.Bool.{or_parts}
@@ -7,8 +7,8 @@ use Rattle.kind_declarations.specs.declared.error.Cause.{Cause}
 use Rattle.kind_declarations.specs.declared.error.Cause.TheVariants.{Reserved, UnknownType, UnknownName, Arity}
 use Rattle.kind_declarations.specs.declared.error.Cause.TheVariants.{KindMismatch, OutputUnderRef, NotLinear}
 use Rattle.kind_declarations.specs.declared.error.Cause.TheVariants.{TwiceNamed, Undetermined, TooWide}
-use Rattle.kind_declarations.specs.Faults.{has, causes, in_order, FaultAt, fault_at, faults}
-use Rattle.kind_declarations.specs.Nodes.{Node, Judged, a_use, a_field}
+use Rattle.kind_declarations.specs.Faults.{has, causes, in_order, fault_at, faults}
+use Rattle.kind_declarations.specs.Nodes.{Node, Judged, a_use}
 use Rattle.kind_rules.specs.ExpectedKinds.{Use}
 use Rattle.kind_rules.specs.Names.{is_unknown_type, is_unknown_name, is_other_arity, is_other_field_used}
 use Rattle.kind_rules.specs.Numbers.{is_product_of_variables, is_type_for_number, is_number_for_type, is_other_basic_arity}
@@ -23,11 +23,11 @@ pub clean_both : (xs ys : List Judged) → AreClean (xs ++ ys) → AreClean xs �
 clean_both [] ys h = (tt, h)
 clean_both (x ∷ xs) ys h = let p = clean_both xs ys h.1 in ((h.0, p.0), p.1)
 
-append_none : {X : Type 0} (xs ys : List X) → xs ++ ys ≡ [] → (xs ≡ []) × (ys ≡ [])
+pub append_none : {X : Type 0} (xs ys : List X) → xs ++ ys ≡ [] → (xs ≡ []) × (ys ≡ [])
 append_none [] ys e = (refl, e)
 append_none (x ∷ xs) ys e = cc
 
-map_none : {X Y : Type 0} (f : X → Y) (xs : List X) → map f xs ≡ [] → xs ≡ []
+pub map_none : {X Y : Type 0} (f : X → Y) (xs : List X) → map f xs ≡ [] → xs ≡ []
 map_none f [] e = refl
 map_none f (x ∷ xs) e = cc
 

@@ -1,8 +1,8 @@
 -- Constraints of which no cause holds: an equation that seeks a variable has its slot as the one unknown of its sides, and
 -- the sides of any other constraint are numbers.
-use Rattle.std.proofs.Common.{◌≡◌, ℕ, List, [], ◌∷◌, ◌++◌, map, Option, Some, None, Bool, true, false, not, ◌&&◌, ◌||◌, ◌==◌}
+use Rattle.std.proofs.Common.{◌≡◌, ℕ, List, [], ◌∷◌, ◌++◌, map, Option, Some, None, Bool, true, false, not, ◌&&◌, ◌==◌}
 use Rattle.std.proofs.Common.{refl, sym, ap, ◌∙◌, subst, inl, inr, ◌⊎◌, cond}
-use Rattle.std.specs.Prelude.{filter, bytes_eq, nat_eq}
+use Rattle.std.specs.Prelude.{filter, nat_eq}
 use Rattle.std.specs.List.{list_any}
 use Rattle.std.proofs.lemmas.Bool.{or_parts}
 use Rattle.std.proofs.lemmas.List.Folds.{list_any-append}
@@ -10,19 +10,19 @@ use Rattle.nat_solver.specs.Number.{Expr, unknowns, cancelled, is_empty}
 use Rattle.nat_solver.specs.Number as num
 use Rattle.nat_solver.specs.declared.compare.Op.{Op}
 use Rattle.nat_solver.specs.declared.compare.Op.TheVariants.{Eq, Lt, Le, Gt, Ge}
-use Rattle.nat_solver.specs.SolutionLaws.{append_nil, nil_left, nil_right}
-use Rattle.tlb_syntax.specs.Tree.{ExprView, ExprList, lit, named, nat32, bits, below, up_to, plus, star, out, ref, group}
+use Rattle.nat_solver.specs.SolutionLaws.{append_nil}
+use Rattle.tlb_syntax.specs.Tree.{ExprView, lit, named, nat32, bits, below, up_to, plus, star, out, ref, group}
 use Rattle.tlb_syntax.specs.Tree.{no_exprs, an_expr}
 use Rattle.kind_terms.specs.Words.{Word}
 use Rattle.kind_terms.specs.Closed.{closed, exact_product, is_zero}
-use Rattle.kind_terms.specs.Forms.{parts, is_out, out_name}
+use Rattle.kind_terms.specs.Forms.{parts, is_out}
 use Rattle.kind_terms.specs.Params.{bare_name, greatest}
-use Rattle.kind_terms.specs.Scopes.{Scope, meaning_of, is_number_meaning}
+use Rattle.kind_terms.specs.Scopes.{meaning_of, is_number_meaning}
 use Rattle.kind_terms.specs.Sought.{sides, only_out_name, unknown_of, holds_out, cancels, occurrences, can_be_sought, sought_if}
-use Rattle.kind_terms.specs.Sought.{sought_in, equation, sought}
+use Rattle.kind_terms.specs.Sought.{sought}
 use Rattle.kind_rules.specs.ExpectedKinds.{a_number}
 use Rattle.kind_declarations.specs.Nodes.{ItemContext, expr_nodes}
-use Rattle.core_form.specs.Determined.{Known, is_in, is_valued, is_valued_side}
+use Rattle.core_form.specs.Determined.{Known, is_valued_side}
 use Rattle.schema_core.specs.Names.{Names, a_number as numbered, meaning, number_called, number_slot}
 use Rattle.schema_core.specs.Numbers.{number_of, side_of, variable_or_none, sought_or_none, product, named_number, only_one}
 use Rattle.schema_core.specs.Numbers.{unknown_by}
@@ -63,7 +63,7 @@ side_set (plus e f) a names k g most q h =
 side_set (star e f) a names k g most q h =
     let p = clean_both (expr_nodes e a (Some (a_number greatest q))) _ h.1 in
     product_side k (closed e) (closed f) _ _ (side_set e a names k g greatest q p.0) (side_set f a names k g greatest q p.1)
-      (factor_closed e f a most q h)
+    (factor_closed e f a most q h)
 side_set (out e) a names k g most q h =
     let w = out_slot e a names k g most q (clean_use _ h.0) in ap (λ o. is_valued_side k (sought_or_none o)) w.1
 side_set nat32 a names k g most q h = let b : true ≡ false = (clean_use _ h.0).type_for_number in cc
@@ -113,8 +113,8 @@ pub no_unknown : (x : ExprView) (op : Op) (y : ExprView) (a : ItemContext) (name
     → unknown_by op (side_of names x) (side_of names y) ≡ None
 no_unknown x Eq y a names h i =
     none_sought (side_of names x) (side_of names y)
-      (ap unknowns (side_is_number x a names greatest h) ∙ plain_number names x)
-      (ap unknowns (side_is_number y a names greatest i) ∙ plain_number names y)
+    (ap unknowns (side_is_number x a names greatest h) ∙ plain_number names x)
+    (ap unknowns (side_is_number y a names greatest i) ∙ plain_number names y)
 no_unknown x Lt y a names h i = refl
 no_unknown x Le y a names h i = refl
 no_unknown x Gt y a names h i = refl
@@ -193,7 +193,7 @@ unknowns_are_outs (plus e f) a names most x v c h =
 unknowns_are_outs (star e f) a names most x v c h =
     let p = clean_both (expr_nodes e a (Some (a_number greatest (Some x)))) _ h.1 in
     cases (closed e) (closed f) refl refl (unknowns_are_outs e a names greatest x v c p.0) (unknowns_are_outs f a names greatest x v c p.1)
-      (factor_closed e f a most (Some x) h)
+    (factor_closed e f a most (Some x) h)
     ∙ sym (each_both v (parts e) (parts f))
   where
     cases : (m n : Option ℕ) → closed e ≡ m → closed f ≡ n → unknowns (side_of names e) ≡ each_out v (parts e)
@@ -257,7 +257,7 @@ none_cancelled (star e f) a names most x v c h i =
     let j = or_parts (list_any cancels (parts e)) (list_any cancels (parts f)) (sym (list_any-append cancels (parts e) (parts f)) ∙ o.1) in
     let z = or_parts (is_zero (closed e) && holds_out f) (is_zero (closed f) && holds_out e) o.0 in
     cases (closed e) (closed f) refl refl (unknowns_are_outs e a names greatest x v c p.0) (unknowns_are_outs f a names greatest x v c p.1)
-      (none_cancelled e a names greatest x v c p.0 j.0) (none_cancelled f a names greatest x v c p.1 j.1) z.0 z.1
+    (none_cancelled e a names greatest x v c p.0 j.0) (none_cancelled f a names greatest x v c p.1 j.1) z.0 z.1
   where
     cases : (m n : Option ℕ) → closed e ≡ m → closed f ≡ n → unknowns (side_of names e) ≡ each_out v (parts e)
         → unknowns (side_of names f) ≡ each_out v (parts f) → cancelled (side_of names e) ≡ [] → cancelled (side_of names f) ≡ []
@@ -265,10 +265,10 @@ none_cancelled (star e f) a names most x v c h i =
         → cancelled (product m n (side_of names e) (side_of names f)) ≡ []
     cases (Some m) n i j p q r s y z =
         times_kept m (side_of names f)
-          (λ t. q ∙ none_passes (parts f) (other_has_none (is_zero (closed e)) (holds_out f) y (ap is_zero i ∙ t)) v) s
+        (λ t. q ∙ none_passes (parts f) (other_has_none (is_zero (closed e)) (holds_out f) y (ap is_zero i ∙ t)) v) s
     cases None (Some n) i j p q r s y z =
         times_kept n (side_of names e)
-          (λ t. p ∙ none_passes (parts e) (other_has_none (is_zero (closed f)) (holds_out e) z (ap is_zero j ∙ t)) v) r
+        (λ t. p ∙ none_passes (parts e) (other_has_none (is_zero (closed f)) (holds_out e) z (ap is_zero j ∙ t)) v) r
     cases None None i j p q r s y z = refl
 none_cancelled (out e) a names most x v c h i = kept (named_number names (bare_name e))
   where
@@ -377,11 +377,13 @@ unknown_found x l op r a names k g s h i =
     let kept = or_parts (list_any cancels (parts l)) (list_any cancels (parts r)) (sym (list_any-append cancels (parts l) (parts r)) ∙ e.1.kept) in
     let all : unknowns (side_of names l) ++ unknowns (side_of names r) ≡ w.0 ∷ [] =
     (λ t. unknowns_are_outs l a names greatest x w.0 c h t ++ unknowns_are_outs r a names greatest x w.0 c i t)
-    ∙ sym (each_both w.0 (parts l) (parts r)) ∙ ap (map (λ (p : ExprView). w.0)) e.1.outs.1 in
-    (w.0, w.1,
-     ap (λ o. unknown_by o (side_of names l) (side_of names r)) e.0
-     ∙ found (side_of names l) (side_of names r) w.0 all (none_cancelled l a names greatest x w.0 c h kept.0)
-       (none_cancelled r a names greatest x w.0 c i kept.1))
+    ∙ sym (each_both w.0 (parts l) (parts r)) ∙ ap (map (λ (p : ExprView). w.0)) e.1.outs.1 in (
+      w.0,
+      w.1,
+      ap (λ o. unknown_by o (side_of names l) (side_of names r)) e.0
+          ∙ found (side_of names l) (side_of names r) w.0 all (none_cancelled l a names greatest x w.0 c h kept.0)
+          (none_cancelled r a names greatest x w.0 c i kept.1),
+    )
   where
     number : (filter is_out (parts l) ≡ []) ⊎ (is_number_meaning (meaning_of a.scope x) ≡ true)
         → (filter is_out (parts r) ≡ []) ⊎ (is_number_meaning (meaning_of a.scope x) ≡ true) → SoughtIn x l r

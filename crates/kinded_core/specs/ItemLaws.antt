@@ -1,13 +1,12 @@
 -- Items of which no cause holds: each variable is set before it is used.
-use Rattle.std.proofs.Common.{◌≡◌, ℕ, ◌+◌, List, [], ◌∷◌, ◌++◌, Option, Some, None, Bool, true, false, not, ◌&&◌, ◌||◌}
-use Rattle.std.proofs.Common.{refl, sym, ap, ◌∙◌, subst, cond, append_assoc}
+use Rattle.std.proofs.Common.{◌≡◌, ℕ, ◌+◌, List, [], ◌∷◌, ◌++◌, Option, Some, None, Bool, true, false, ◌||◌}
+use Rattle.std.proofs.Common.{refl, sym, ap, ◌∙◌, subst, cond}
 use Rattle.std.specs.Prelude.{bytes_eq, nat_eq}
 use Rattle.std.specs.List.{list_any}
 use Rattle.std.proofs.lemmas.List.Folds.{list_any-append}
 use Rattle.std.proofs.lemmas.Slice.Eq.{bytes_eq-Decides}
 use Rattle.nat_solver.specs.declared.compare.Op.{Op}
-use Rattle.tlb_syntax.specs.declared.tree.ParamKind.{ParamKind}
-use Rattle.tlb_syntax.specs.Tree.{ExprView, ExprList, ItemView, ItemList, TypeView, SchemaView, lit, named, nat32, bits}
+use Rattle.tlb_syntax.specs.Tree.{ExprView, ItemView, ItemList, TypeView, SchemaView, lit, named, nat32, bits}
 use Rattle.tlb_syntax.specs.Tree.{below, up_to, plus, star, out, ref, group, plain, when, when_bit, implicit, check, explicit}
 use Rattle.tlb_syntax.specs.Tree.{no_items, an_item}
 use Rattle.kind_rules.specs.declared.expected.TypePosition.{TypePosition}
@@ -24,8 +23,7 @@ use Rattle.kind_declarations.specs.declared.error.Cause.TheVariants.{TwiceNamed}
 use Rattle.kind_declarations.specs.Nodes.{RecordContext, ItemContext, Judged, at, first_inside, expr_nodes, type_nodes, item_nodes}
 use Rattle.kind_declarations.specs.Nodes.{record_nodes, name_at}
 use Rattle.kind_declarations.specs.Nodes as nodes
-use Rattle.core_form.specs.Core.{Item, Items, sets, type_outs, slot_list, no_condition}
-use Rattle.core_form.specs.Core as core
+use Rattle.core_form.specs.Core.{Item, Items, sets, type_outs, slot_list}
 use Rattle.core_form.specs.Determined.{Known, is_in, is_valued, is_valued_condition, is_set_type, is_set_item, are_set_items}
 use Rattle.core_form.specs.Determined.{with_numbers, after_all}
 use Rattle.core_form.specs.Determined as set
@@ -36,20 +34,20 @@ use Rattle.std.proofs.lemmas.Bool.{eq-eqb}
 use Rattle.field_path.specs.declared.part.Part.{Part}
 use Rattle.kind_rules.specs.Records.{takes_no_record}
 use Rattle.schema_core.specs.Slots.{next_slot, field_slots}
-use Rattle.schema_core.specs.Numbers.{number_of, side_of, unknown_by}
-use Rattle.schema_core.specs.CoreOf.{type_of, items_of, field_of, body_of, under_ref, constraint_of, constraint_by, own_slot}
+use Rattle.schema_core.specs.Numbers.{side_of, unknown_by}
+use Rattle.schema_core.specs.CoreOf.{items_of, field_of, body_of, under_ref, constraint_of, constraint_by, own_slot}
 use Rattle.schema_core.specs.CoreOf.{names_after, unnamed_by}
 use Rattle.schema_core.specs.SameLaws.{same_after}
-use Rattle.kinded_core.specs.Clean.{IsClean, AreClean, Agrees}
+use Rattle.kinded_core.specs.Clean.{AreClean, Agrees}
 use Rattle.kinded_core.specs.CleanLaws.{clean_both}
 use Rattle.kinded_core.specs.NumberLaws.{number_set, both_true, or_true}
-use Rattle.kinded_core.specs.TypeLaws.{Placed, type_set, outputs_set, IsSetBy}
+use Rattle.kinded_core.specs.TypeLaws.{type_set, outputs_set, IsSetBy}
 use Rattle.kinded_core.specs.EquationLaws.{side_set, no_unknown, unknown_found}
 
 -- ---- names
 
 -- what a name stands for stays when more come into scope
-meaning_stays : (names more : Names) (x : Word) (v : Variable) → meaning names x ≡ Some v → meaning (names ++ more) x ≡ Some v
+pub meaning_stays : (names more : Names) (x : Word) (v : Variable) → meaning names x ≡ Some v → meaning (names ++ more) x ≡ Some v
 meaning_stays [] more x v h = cc
 meaning_stays (e ∷ es) more x v h = cases (bytes_eq e.0 x) h (meaning_stays es more x v)
   where
@@ -59,7 +57,7 @@ meaning_stays (e ∷ es) more x v h = cases (bytes_eq e.0 x) h (meaning_stays es
     cases false h r = r h
 
 -- a name that is new stands for what is declared last
-meaning_new : (names more : Names) (x : Word) → meaning names x ≡ None → meaning (names ++ more) x ≡ meaning more x
+pub meaning_new : (names more : Names) (x : Word) → meaning names x ≡ None → meaning (names ++ more) x ≡ meaning more x
 meaning_new [] more x h = refl
 meaning_new (e ∷ es) more x h = cases (bytes_eq e.0 x) h (meaning_new es more x)
   where
@@ -68,10 +66,10 @@ meaning_new (e ∷ es) more x h = cases (bytes_eq e.0 x) h (meaning_new es more 
     cases true h r = cc
     cases false h r = r h
 
-same_word : (x : Word) → bytes_eq x x ≡ true
+pub same_word : (x : Word) → bytes_eq x x ≡ true
 same_word x = (bytes_eq-Decides x x).1 refl
 
-one_declared : (x : Word) (v : Variable) → meaning ((x, v) ∷ []) x ≡ Some v
+pub one_declared : (x : Word) (v : Variable) → meaning ((x, v) ∷ []) x ≡ Some v
 one_declared x v = ap (λ b. cond b (Some v) None) (same_word x)
 
 -- at the end of a record a name stands for what it stands for before
@@ -85,20 +83,20 @@ meaning_after (an_item i is) names next x v h =
 abbrev pub AreFields : Names → List Word → Type 0
 AreFields names fields = (x : Word) (v : Variable) → meaning names x ≡ Some v → is_among fields x ≡ true
 
-not_among : (names : Names) (fields : List Word) → AreFields names fields → (x : Word) → is_among fields x ≡ false → meaning names x ≡ None
+pub not_among : (names : Names) (fields : List Word) → AreFields names fields → (x : Word) → is_among fields x ≡ false → meaning names x ≡ None
 not_among names fields h x n = cases (meaning names x) refl
   where
     cases : (o : Option Variable) → meaning names x ≡ o → o ≡ None
     cases None i = refl
     cases (Some v) i = let b : true ≡ false = sym (h x v i) ∙ n in cc
 
-among_left : (xs ys : List Word) (x : Word) → is_among xs x ≡ true → is_among (xs ++ ys) x ≡ true
+pub among_left : (xs ys : List Word) (x : Word) → is_among xs x ≡ true → is_among (xs ++ ys) x ≡ true
 among_left xs ys x h = list_any-append (bytes_eq x) xs ys ∙ ap (λ b. b || is_among ys x) h
 
-among_right : (xs ys : List Word) (x : Word) → is_among ys x ≡ true → is_among (xs ++ ys) x ≡ true
+pub among_right : (xs ys : List Word) (x : Word) → is_among ys x ≡ true → is_among (xs ++ ys) x ≡ true
 among_right xs ys x h = list_any-append (bytes_eq x) xs ys ∙ ap (λ b. is_among xs x || b) h ∙ or_true (is_among xs x)
 
-not_among_left : (xs ys : List Word) (x : Word) → is_among (xs ++ ys) x ≡ false → is_among xs x ≡ false
+pub not_among_left : (xs ys : List Word) (x : Word) → is_among (xs ++ ys) x ≡ false → is_among xs x ≡ false
 not_among_left xs ys x h = cases (is_among xs x) refl
   where
     cases : (b : Bool) → is_among xs x ≡ b → b ≡ false
@@ -121,7 +119,7 @@ fields_of (check a op b) next y v h = cc
 fields_of (explicit None t) next y v h = cc
 fields_of (explicit (Some x) t) next y v h = one_field x y (declared_is x y _ v h)
 
-fields_more : (names : Names) (fields : List Word) (i : ItemView) (next : ℕ) → AreFields names fields
+pub fields_more : (names : Names) (fields : List Word) (i : ItemView) (next : ℕ) → AreFields names fields
     → AreFields (names ++ declares i next) (fields ++ field_names i)
 fields_more names fields i next h y v m = cases (meaning names y) refl
   where
@@ -141,10 +139,10 @@ no_inputs end k = record { numbers = λ x v h m. cc; types = λ x v h m. cc }
 
 -- ---- more that is set
 
-in_more : (vs ws : List ℕ) (v : ℕ) → is_in ws v ≡ true → is_in (vs ++ ws) v ≡ true
+pub in_more : (vs ws : List ℕ) (v : ℕ) → is_in ws v ≡ true → is_in (vs ++ ws) v ≡ true
 in_more vs ws v h = list_any-append (nat_eq v) vs ws ∙ ap (λ b. list_any (nat_eq v) vs || b) h ∙ or_true (list_any (nat_eq v) vs)
 
-in_these : (vs ws : List ℕ) (v : ℕ) → is_in vs v ≡ true → is_in (vs ++ ws) v ≡ true
+pub in_these : (vs ws : List ℕ) (v : ℕ) → is_in vs v ≡ true → is_in (vs ++ ws) v ≡ true
 in_these vs ws v h = list_any-append (nat_eq v) vs ws ∙ ap (λ b. b || list_any (nat_eq v) ws) h
 
 -- at least as much is set
@@ -225,7 +223,7 @@ agrees_after s i names next k l g more new = record {
         let f : w.variable ≡ typed v = cc in w.types v f
 
 -- what an item makes known is one thing
-only_among : (x y : Word) → is_among (x ∷ []) y ≡ true → y ≡ x
+pub only_among : (x y : Word) → is_among (x ∷ []) y ≡ true → y ≡ x
 only_among x y h = cases (bytes_eq y x) refl h
   where
     cases : (b : Bool) → bytes_eq y x ≡ b → (b || false) ≡ true → y ≡ x
@@ -233,7 +231,7 @@ only_among x y h = cases (bytes_eq y x) refl h
     cases false i h = cc
 
 -- the name of a field is none of those before it
-new_name : (others : List Word) (path : List Part) (x : Word) → AreClean (name_at path others (Some x)) → is_among others x ≡ false
+pub new_name : (others : List Word) (path : List Part) (x : Word) → AreClean (name_at path others (Some x)) → is_among others x ≡ false
 new_name others path x h = h.0 TwiceNamed
 
 new_meaning : (names : Names) (fields inner : List Word) → AreFields names fields → (x : Word) → is_among (fields ++ inner) x ≡ false
@@ -270,7 +268,7 @@ record ConstraintSet (names : Names) (k : Known) (known : List Word) (i : Item) 
   grows : Grows k (set.after i k)
   settled : (y : Word) → is_among known y ≡ true → Settled (names ++ []) (set.after i k) y
 
-in_one : (v : ℕ) (vs : List ℕ) → is_in (v ∷ vs) v ≡ true
+pub in_one : (v : ℕ) (vs : List ℕ) → is_in (v ∷ vs) v ≡ true
 in_one v vs = ap (λ b. b || is_in vs v) (eq-eqb v v refl)
 
 constraint_set : (l : ExprView) (op : Op) (r : ExprView) (a : ItemContext) (names : Names) (k : Known) (place : ℕ) → Agrees a.scope names k
@@ -353,20 +351,20 @@ field_settled : (t : TypeView) (a : ItemContext) (names : Names) (k : Known) (ne
     → ((z : Word) → x ≡ Some z → (v : Variable) → meaning (names ++ (z, v) ∷ []) z ≡ Some v)
     → (y : Word) → is_among (own_number (is_field_of_numbers t) x ++ type_outputs a.scope.types t) y ≡ true
     → Settled (names ++ declares (explicit x t) next)
-      (set.after (field_of a.scope.types names shown_name (own_slot x (is_field_of_numbers t) next) inner t) k) y
+    (set.after (field_of a.scope.types names shown_name (own_slot x (is_field_of_numbers t) next) inner t) k) y
 field_settled t a names k next inner shown_name x g h new y m =
     either (is_among (own_number (is_field_of_numbers t) x) y) refl
-      (sym (list_any-append (bytes_eq y) (own_number (is_field_of_numbers t) x) (type_outputs a.scope.types t)) ∙ m)
+    (sym (list_any-append (bytes_eq y) (own_number (is_field_of_numbers t) x) (type_outputs a.scope.types t)) ∙ m)
   where
     own : (b : Bool) → is_field_of_numbers t ≡ b → (o : Option Word) → x ≡ o → is_among (own_number b o) y ≡ true
         → Settled (names ++ declares (explicit x t) next)
-          (set.after (field_of a.scope.types names shown_name (own_slot x (is_field_of_numbers t) next) inner t) k) y
+        (set.after (field_of a.scope.types names shown_name (own_slot x (is_field_of_numbers t) next) inner t) k) y
     own true i (Some z) j m =
         let same : y ≡ z = only_among z y m in
         let P : Bool → Type 0 = λ b. Settled (names ++ (z, field_variable b next) ∷ [])
-          (set.after (field_of a.scope.types names shown_name (own_slot (Some z) b next) inner t) k) y in
+        (set.after (field_of a.scope.types names shown_name (own_slot (Some z) b next) inner t) k) y in
         let Q : Option Word → Type 0 = λ o. Settled (names ++ declares (explicit o t) next)
-          (set.after (field_of a.scope.types names shown_name (own_slot o (is_field_of_numbers t) next) inner t) k) y in
+        (set.after (field_of a.scope.types names shown_name (own_slot o (is_field_of_numbers t) next) inner t) k) y in
         subst Q (sym j) (subst P (sym i) (record {
           variable = numbered next;
           is = ap (meaning (names ++ (z, numbered next) ∷ [])) same ∙ new z j (numbered next);
@@ -380,17 +378,20 @@ field_settled t a names k next inner shown_name x g h new y m =
 
     outputs : (t : TypeView) → AreClean (type_nodes t a) → is_among (type_outputs a.scope.types t) y ≡ true → (slot : Option ℕ)
         → (v : ℕ) × (meaning names y ≡ Some (numbered v))
-          × (is_in (set.after (field_of a.scope.types names shown_name slot inner t) k).numbers v ≡ true)
+        × (is_in (set.after (field_of a.scope.types names shown_name slot inner t) k).numbers v ≡ true)
     outputs (plain e) h m slot =
-        let w = body_outs e a names k inner g Whole h y m in
-        (w.slot, w.is, in_these (sets slot (body_of a.scope.types names inner e)) k.numbers w.slot
-          (in_more (slot_list slot) (type_outs (body_of a.scope.types names inner e)) w.slot w.there))
+        let w = body_outs e a names k inner g Whole h y m in (
+          w.slot,
+          w.is,
+          in_these (sets slot (body_of a.scope.types names inner e)) k.numbers w.slot
+              (in_more (slot_list slot) (type_outs (body_of a.scope.types names inner e)) w.slot w.there),
+        )
     outputs (when c e) h m slot = cc
     outputs (when_bit c b e) h m slot = cc
 
     either : (b : Bool) → is_among (own_number (is_field_of_numbers t) x) y ≡ b → (b || is_among (type_outputs a.scope.types t) y) ≡ true
         → Settled (names ++ declares (explicit x t) next)
-          (set.after (field_of a.scope.types names shown_name (own_slot x (is_field_of_numbers t) next) inner t) k) y
+        (set.after (field_of a.scope.types names shown_name (own_slot x (is_field_of_numbers t) next) inner t) k) y
     either true i m = own (is_field_of_numbers t) refl x refl i
     either false i m =
         let w = outputs t h m (own_slot x (is_field_of_numbers t) next) in
@@ -440,17 +441,17 @@ mutual
       let m = new_meaning names h.fields h.inner f x n (implicit_variable kind next) in
       let e = meaning_after is (names ++ declares (implicit x kind) next) (next_slot next (implicit x kind)) x (implicit_variable kind next) m in
       let g' = agrees_after h.scope (implicit x kind) names next k k g (grows_not k)
-        (λ y j. implicit_settled h.scope.inputs x y (implicit_variable kind next) names _ k m e i j) in
+      (λ y j. implicit_settled h.scope.inputs x y (implicit_variable kind next) names _ k m e i j) in
       let r = items_set is (nodes.next h (implicit x kind)) (names ++ declares (implicit x kind) next) k (next_slot next (implicit x kind))
-        (place + 1) unnamed g' (fields_more names h.fields (implicit x kind) next f) i p.1 in
+      (place + 1) unnamed g' (fields_more names h.fields (implicit x kind) next f) i p.1 in
       record { all = r.all; end = r.end }
   items_set (an_item (check l op r) is) h names k next place unnamed g f i c =
       let p = clean_both (item_nodes (check l op r) (at h (check l op r)) (h.fields ++ h.inner)) _ c in
       let s = constraint_set l op r (at h (check l op r)) names k place g p.0 in
       let g' = agrees_after h.scope (check l op r) names next k (set.after (constraint_of names l op r place) k) g s.grows s.settled in
       let q = items_set is (nodes.next h (check l op r)) (names ++ declares (check l op r) next) (set.after (constraint_of names l op r place) k)
-        (next_slot next (check l op r)) (place + 1) unnamed g' (fields_more names h.fields (check l op r) next f)
-        (inputs_grow h.scope.inputs _ k _ s.grows i) p.1 in
+      (next_slot next (check l op r)) (place + 1) unnamed g' (fields_more names h.fields (check l op r) next f)
+      (inputs_grow h.scope.inputs _ k _ s.grows i) p.1 in
       record { all = both_true _ _ s.item q.all; end = q.end }
   items_set (an_item (explicit x t) is) h names k next place unnamed g f i c =
       let p = clean_both (item_nodes (explicit x t) (at h (explicit x t)) (h.fields ++ h.inner)) _ c in
@@ -459,14 +460,14 @@ mutual
       let core_item = field_of h.scope.types names (shown x unnamed) (own_slot x (is_field_of_numbers t) next) inner t in
       let grows = field_grows h.scope.types names (shown x unnamed) (own_slot x (is_field_of_numbers t) next) inner t k in
       let settled = field_settled t (at h (explicit x t)) names k next inner (shown x unnamed) x g q.1
-        (λ z j v. new_meaning names h.fields h.inner f z (named_new (h.fields ++ h.inner) (at h (explicit x t)).path x z j q.0) v) in
+      (λ z j v. new_meaning names h.fields h.inner f z (named_new (h.fields ++ h.inner) (at h (explicit x t)).path x z j q.0) v) in
       let g' = agrees_after h.scope (explicit x t) names next k (set.after core_item k) g grows settled in
       let r = items_set is (nodes.next h (explicit x t)) (names ++ declares (explicit x t) next) (set.after core_item k)
-        (next_slot next (explicit x t)) (place + 1) (unnamed_by (is_unnamed (explicit x t)) unnamed) g'
-        (fields_more names h.fields (explicit x t) next f) (inputs_grow h.scope.inputs _ k _ grows i) p.1 in
+      (next_slot next (explicit x t)) (place + 1) (unnamed_by (is_unnamed (explicit x t)) unnamed) g'
+      (fields_more names h.fields (explicit x t) next f) (inputs_grow h.scope.inputs _ k _ grows i) p.1 in
       record {
         all = both_true _ _ (field_set t (at h (explicit x t)) names k inner (shown x unnamed) (own_slot x (is_field_of_numbers t) next) g
-          (λ y v m. among_left h.fields (field_names (explicit x t)) y (f y v m)) q.1) r.all;
+            (λ y v m. among_left h.fields (field_names (explicit x t)) y (f y v m)) q.1) r.all;
         end = r.end;
       }
 

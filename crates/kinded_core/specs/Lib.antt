@@ -4,3 +4,8 @@ pub mod NumberLaws
 pub mod TypeLaws
 pub mod EquationLaws
 pub mod ItemLaws
+pub mod ResultLaws
+pub mod ConstructorLaws
+pub mod Resolved
+pub mod Laws
+pub mod KindedLaws

@@ -1,33 +1,30 @@
 -- Numbers of which no cause holds: their variables are in scope and set.
-use Rattle.std.proofs.Common.{◌≡◌, ℕ, List, [], ◌∷◌, ◌++◌, Option, Some, None, Bool, true, false, not, ◌&&◌, ◌||◌, refl}
-use Rattle.std.proofs.Common.{sym, ap, ◌∙◌, subst, inl, inr, ◌⊎◌, arith, ◌<◌}
+use Rattle.std.proofs.Common.{◌≡◌, ℕ, List, ◌++◌, Option, Some, None, Bool, true, false, not, ◌&&◌, ◌||◌, refl}
+use Rattle.std.proofs.Common.{sym, ap, ◌∙◌, subst, inl, inr, ◌⊎◌, arith}
 use Rattle.std.specs.Prelude.{nat_lt, bytes_eq}
 use Rattle.std.specs.List.{list_any}
 use Rattle.std.proofs.lemmas.Bool.{or_parts, lt-ltb}
 use Rattle.std.proofs.lemmas.List.Folds.{list_any-append}
 use Rattle.std.proofs.lemmas.Slice.Eq.{bytes_eq-Decides}
 use Rattle.nat_solver.specs.Number.{Expr, exact_sum}
-use Rattle.nat_solver.specs.Number as num
 use Rattle.tlb_syntax.specs.Tree.{ExprView, ExprList, SchemaView, lit, named, nat32, bits, below, up_to, plus, star, out, ref}
 use Rattle.tlb_syntax.specs.Tree.{group, no_exprs, an_expr}
 use Rattle.kind_terms.specs.declared.scope.Meaning.{Meaning}
 use Rattle.kind_terms.specs.declared.scope.Meaning.TheVariants.{ImplicitNumber, FieldNumber, TypeVariable, OtherField}
-use Rattle.kind_terms.specs.declared.words.WordClass.{WordClass}
 use Rattle.kind_terms.specs.Words.{Word}
 use Rattle.kind_terms.specs.Classes.{word_class, name_class}
 use Rattle.kind_terms.specs.Closed.{closed, exact_product}
-use Rattle.kind_terms.specs.Forms.{parts, parts_of_all}
+use Rattle.kind_terms.specs.Forms.{parts}
 use Rattle.kind_terms.specs.Params.{bare_name, greatest}
 use Rattle.kind_terms.specs.Scopes.{Scope, meaning_of, is_known, is_number_meaning, is_type_meaning}
 use Rattle.kind_terms.specs.Types.{TypeNamed, no_type, basic, declared, count, type_of_class}
-use Rattle.kind_rules.specs.ExpectedKinds.{Expected, Use, a_number, an_output, type_in_class, is_type_expected}
-use Rattle.kind_rules.specs.Names.{names_none, is_for_type, is_no_variable}
-use Rattle.kind_rules.specs.Numbers.{is_variable_in, holds_variable, is_some_type, is_type_shaped}
+use Rattle.kind_rules.specs.ExpectedKinds.{Expected, Use, a_number, type_in_class}
+use Rattle.kind_rules.specs.Names.{names_none, is_no_variable}
+use Rattle.kind_rules.specs.Numbers.{is_variable_in, holds_variable, is_some_type}
 use Rattle.kind_rules.specs.Known.{seeks}
-use Rattle.kind_declarations.specs.Nodes.{ItemContext, a_use, expr_nodes}
+use Rattle.kind_declarations.specs.Nodes.{ItemContext, expr_nodes}
 use Rattle.core_form.specs.Determined.{Known, is_in, is_valued}
 use Rattle.schema_core.specs.Names.{Names, Variable, a_number, a_type, other, meaning, number_called, number_slot}
-use Rattle.schema_core.specs.Names as core
 use Rattle.schema_core.specs.Numbers.{number_of, variable_or_none, product}
 use Rattle.schema_core.specs.Same.{IsSameMeaning}
 use Rattle.schema_core.specs.SameLaws.{meanings_agree}
@@ -262,7 +259,7 @@ number_set (plus e f) a names k g most h =
 number_set (star e f) a names k g most h =
     let p = clean_both (expr_nodes e a (Some (a_number greatest None))) _ h.1 in
     product_set k (closed e) (closed f) _ _ (number_set e a names k g greatest p.0) (number_set f a names k g greatest p.1)
-      (factor_closed e f a most None h)
+    (factor_closed e f a most None h)
 number_set (out e) a names k g most h =
     let w = out_sought a.scope most None e (clean_use _ h.0) in let b : None ≡ Some w.name = w.sought in cc
 number_set nat32 a names k g most h = let b : true ≡ false = (clean_use _ h.0).type_for_number in cc

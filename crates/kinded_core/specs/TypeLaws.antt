@@ -1,14 +1,13 @@
 -- Types of which no cause holds: their names are types, and their variables are in scope and set.
 use Rattle.std.proofs.Common.{◌≡◌, ℕ, suc, List, [], ◌∷◌, ◌++◌, Option, Some, None, Bool, true, false, not, ◌&&◌, ◌||◌, ◌==◌}
-use Rattle.std.proofs.Common.{refl, sym, ap, ◌∙◌, subst, arith, ◌<◌, length}
-use Rattle.std.specs.Prelude.{nat_lt, nat_eq, bytes_eq, is_some}
-use Rattle.std.specs.List.{list_any}
+use Rattle.std.proofs.Common.{refl, sym, ap, ◌∙◌, subst, arith}
+use Rattle.std.specs.Prelude.{nat_lt, nat_eq, bytes_eq}
 use Rattle.std.proofs.lemmas.Bool.{or_parts, eqb-true, eq-eqb}
 use Rattle.std.proofs.lemmas.List.Folds.{list_any-append}
 use Rattle.std.proofs.lemmas.Slice.Eq.{bytes_eq-Decides}
 use Rattle.nat_solver.specs.Number.{Expr}
 use Rattle.nat_solver.specs.Number as num
-use Rattle.tlb_syntax.specs.Tree.{ExprView, ExprList, SchemaView, ConstructorView, lit, named, nat32, bits, below, up_to, plus}
+use Rattle.tlb_syntax.specs.Tree.{ExprView, ExprList, SchemaView, lit, named, nat32, bits, below, up_to, plus}
 use Rattle.tlb_syntax.specs.Tree.{star, out, ref, group, no_exprs, an_expr}
 use Rattle.kind_rules.specs.declared.expected.TypePosition.{TypePosition}
 use Rattle.kind_rules.specs.declared.expected.TypePosition.TheVariants.{Whole, Conditional, FieldRef, UnderRef, Inner}
@@ -24,16 +23,16 @@ use Rattle.kind_terms.specs.declared.words.WordClass.TheVariants.{HashmapE, Hash
 use Rattle.kind_terms.specs.Words.{Word, is_among, width_in, widest}
 use Rattle.kind_terms.specs.Classes.{word_class, name_class}
 use Rattle.kind_terms.specs.Dictionaries.{of_type}
-use Rattle.kind_terms.specs.Params.{bare_name, greatest, kinds, option_list}
+use Rattle.kind_terms.specs.Params.{greatest, kinds, option_list}
 use Rattle.kind_terms.specs.Forms.{out_name}
-use Rattle.kind_terms.specs.Scopes.{Scope, meaning_of, is_known, is_number_meaning, is_type_meaning, given_out, all_given_out}
+use Rattle.kind_terms.specs.Scopes.{Scope, meaning_of, is_known, is_number_meaning, is_type_meaning, all_given_out}
 use Rattle.kind_terms.specs.Scopes.{outputs_of}
-use Rattle.kind_terms.specs.Types.{TypeNamed, no_type, basic, declared, count, type_of_class, type_named, parameters, declared_as}
-use Rattle.kind_rules.specs.ExpectedKinds.{Expected, Use, a_number, an_output, a_type, type_in_class, under}
-use Rattle.kind_rules.specs.Names.{names_none, is_for_type, is_no_variable, takes_others}
-use Rattle.kind_rules.specs.Numbers.{is_some_type, takes_other_basic}
+use Rattle.kind_terms.specs.Types.{count, type_of_class, type_named, parameters, declared_as}
+use Rattle.kind_rules.specs.ExpectedKinds.{a_number, an_output, a_type, type_in_class, under}
+use Rattle.kind_rules.specs.Names.{names_none, is_no_variable, takes_others}
+use Rattle.kind_rules.specs.Numbers.{takes_other_basic}
 use Rattle.kind_rules.specs.Records.{takes_no_record}
-use Rattle.kind_declarations.specs.Nodes.{ItemContext, a_use, expr_nodes, arg_nodes, expected_argument}
+use Rattle.kind_declarations.specs.Nodes.{ItemContext, expr_nodes, arg_nodes}
 use Rattle.core_form.specs.Core.{Ty, Args, outs, type_outs}
 use Rattle.core_form.specs.Core as core
 use Rattle.core_form.specs.Determined.{Known, is_in, is_valued, is_set_type, are_set_args}
@@ -95,7 +94,7 @@ pub alone_set : (s : Scope) (names : Names) (k : Known) → Agrees s names k →
     → CleanUse (use_of s (a_type w) (named x no_exprs)) → is_set_type k (type_of s.types names (named x no_exprs)) ≡ true
 alone_set s names k g w x c =
     cases (meaning_of s x) (meaning names x) (meanings_agree (s.around ++ s.own) names x g.same) refl
-      c.unknown_type c.arity c.basic_arity c.number_for_type c.other_field c.unknown
+    c.unknown_type c.arity c.basic_arity c.number_for_type c.other_field c.unknown
   where
     known : (b : Bool) → (true && not b) ≡ false → b ≡ true
     known true h = refl
@@ -135,7 +134,7 @@ class_applied : (types : SchemaView) (a : ItemContext) (names : Names) (k : Know
     → takes_other_basic (Some (type_of_class types x true w)) (count (an_expr e es)) ≡ false
     → AreClean (arg_nodes (an_expr e es) a (parameters (type_of_class types x true w)) [])
     → is_set_type k (applied (type_by types x w) x (number_of names e) (first_type types names es)
-      (args_of types names (declared_kinds (type_by types x w)) (an_expr e es))) ≡ true
+    (args_of types names (declared_kinds (type_by types x w)) (an_expr e es))) ≡ true
 class_applied types a names k x e es r TypeWord u o b h =
     let n : 0 ≡ suc (count es) = not_equal 0 (suc (count es)) b in absurd (omega (arith, n))
 class_applied types a names k x e es r Any u o b h = refl
@@ -159,13 +158,13 @@ class_applied types a names k x e es r Free u o b h = cases (of_type types x) re
         → (names_none (Some (declared_as (of_type types x))) && (true || nat_lt 0 (count (an_expr e es)))) ≡ false
         → AreClean (arg_nodes (an_expr e es) a (parameters (declared_as (of_type types x))) [])
         → is_set_type k (applied (declared_by (of_type types x)) x (number_of names e) (first_type types names es)
-          (args_of types names (declared_kinds (declared_by (of_type types x))) (an_expr e es))) ≡ true
+        (args_of types names (declared_kinds (declared_by (of_type types x))) (an_expr e es))) ≡ true
     cases [] is u h =
         let b : true ≡ false = sym (ap (λ s. names_none (Some (declared_as s)) && (true || nat_lt 0 (count (an_expr e es)))) is) ∙ u in cc
     cases (c ∷ cs) is u h =
         let P : SchemaView → Type 0 = λ s. AreClean (arg_nodes (an_expr e es) a (parameters (declared_as s)) []) in
         ap (λ s. is_set_type k (applied (declared_by s) x (number_of names e) (first_type types names es)
-          (args_of types names (declared_kinds (declared_by s)) (an_expr e es)))) is
+        (args_of types names (declared_kinds (declared_by s)) (an_expr e es)))) is
         ∙ r.all (kinds c) [] (subst P is h)
 
 pub applied_set : (a : ItemContext) (names : Names) (k : Known) (w : TypePosition) (x : Word) (e : ExprView) (es : ExprList)
@@ -245,12 +244,12 @@ mutual
   type_set (named x no_exprs) a names k g w p h = alone_set a.scope names k g w x (clean_use _ h.0)
   type_set (named x (an_expr e es)) a names k g w p h =
       applied_set a names k w x e es
-        (record {
-          first = λ most. number_set e a names k g most;
-          second = λ before. second_set es a names k g before;
-          all = λ ks before. args_set (an_expr e es) a names k g ks before;
-        })
-        (clean_use _ h.0) h.1
+      (record {
+        first = λ most. number_set e a names k g most;
+        second = λ before. second_set es a names k g before;
+        all = λ ks before. args_set (an_expr e es) a names k g ks before;
+      })
+      (clean_use _ h.0) h.1
   type_set (lit n) a names k g w p h = let b : true ≡ false = (clean_use _ h.0).number_for_type in cc
   type_set (plus e f) a names k g w p h = let b : true ≡ false = (clean_use _ h.0).number_for_type in cc
   type_set (out e) a names k g w p h = let b : true ≡ false = (clean_use _ h.0).number_for_type in cc
@@ -360,7 +359,7 @@ args_out (an_expr e es) a names k g (NumberOut ∷ ks) before h y m =
     let both = among_either (option_list (out_name e)) (all_given_out ks es) y m in
     let P : List ℕ → Type 0 = λ vs. IsSetBy names vs y in
     subst P (sym (ap (λ o. outs (onto_out o (args_of a.scope.types names ks es))) arg))
-      (cases both.0 both.1 (λ f. args_out es a names k g ks _ q.1 y (both.2 f)) x.0 x.1 v.0 v.1)
+    (cases both.0 both.1 (λ f. args_out es a names k g ks _ q.1 y (both.2 f)) x.0 x.1 v.0 v.1)
   where
     here : (v : ℕ) (vs : List ℕ) → is_in (v ∷ vs) v ≡ true
     here v vs = ap (λ b. b || is_in vs v) (eq-eqb v v refl)
@@ -381,11 +380,11 @@ args_out (an_expr e es) a names k g (NumberOut ∷ ks) before h y m =
 -- at a name of a class, with arguments
 class_outs : (a : ItemContext) (types : SchemaView) (names : Names) (x : Word) (e : ExprView) (es : ExprList) (y : Word)
     → ((ks : List TermKind) → AreClean (arg_nodes (an_expr e es) a ks []) → is_among (all_given_out ks (an_expr e es)) y ≡ true
-      → IsSetBy names (outs (args_of types names ks (an_expr e es))) y)
+    → IsSetBy names (outs (args_of types names ks (an_expr e es))) y)
     → (w : WordClass) → AreClean (arg_nodes (an_expr e es) a (parameters (type_of_class types x true w)) [])
     → is_among (all_given_out (parameters (type_of_class types x true w)) (an_expr e es)) y ≡ true
     → IsSetBy names (type_outs (applied (type_by types x w) x (number_of names e) (first_type types names es)
-      (args_of types names (declared_kinds (type_by types x w)) (an_expr e es)))) y
+    (args_of types names (declared_kinds (type_by types x w)) (an_expr e es)))) y
 class_outs a types names x e es y r TypeWord h m = cc
 class_outs a types names x e es y r Any h m = cc
 class_outs a types names x e es y r Cell h m = cc
@@ -404,13 +403,13 @@ class_outs a types names x e es y r Free h m = cases (of_type types x) refl h m
     cases : (s : SchemaView) → of_type types x ≡ s → AreClean (arg_nodes (an_expr e es) a (parameters (declared_as (of_type types x))) [])
         → is_among (all_given_out (parameters (declared_as (of_type types x))) (an_expr e es)) y ≡ true
         → IsSetBy names (type_outs (applied (declared_by (of_type types x)) x (number_of names e) (first_type types names es)
-          (args_of types names (declared_kinds (declared_by (of_type types x))) (an_expr e es)))) y
+        (args_of types names (declared_kinds (declared_by (of_type types x))) (an_expr e es)))) y
     cases [] is h m =
         let b : false ≡ true = sym (ap (λ s. is_among (all_given_out (parameters (declared_as s)) (an_expr e es)) y) is) ∙ m in cc
     cases (c ∷ cs) is h m =
         let n = sym (ap (λ s. is_among (all_given_out (parameters (declared_as s)) (an_expr e es)) y) is) ∙ m in
         let P : SchemaView → Type 0 = λ s. IsSetBy names (type_outs (applied (declared_by s) x (number_of names e) (first_type types names es)
-          (args_of types names (declared_kinds (declared_by s)) (an_expr e es)))) y in
+        (args_of types names (declared_kinds (declared_by s)) (an_expr e es)))) y in
         let Q : SchemaView → Type 0 = λ s. AreClean (arg_nodes (an_expr e es) a (parameters (declared_as s)) []) in
         subst P (sym is) (r (kinds c) (subst Q is h) n)
 
