@@ -9,3 +9,4 @@ pub mod Plain
 pub mod Bounds
 pub mod Laws
 pub mod FitLaws
+pub mod ValueLaws

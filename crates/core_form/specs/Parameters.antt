@@ -1,7 +1,7 @@
 -- Inputs and outputs of a constructor, place by place.
 use Rattle.std.specs.Prelude.{List, [], ◌∷◌}
 use Rattle.nat_solver.specs.Number.{Expr}
-use Rattle.core_form.specs.Core.{Input, Parameter, number_in, type_in, number_out, no_parameter, number, type}
+use Rattle.core_form.specs.Core.{Input, Parameter, number_in, type_in, number_out, number, type}
 
 -- each parameter has its input or its output, and there are no others
 abbrev pub AreParameters : List Parameter → List Input → List Expr → Type 0
