@@ -1,5 +1,5 @@
 -- Core forms whose slots are among so many.
-use Rattle.std.specs.Prelude.{ℕ, ◌≡◌, ◌<◌, ◌⊎◌, List, Option, Some, None, All}
+use Rattle.std.specs.Prelude.{ℕ, ◌≡◌, ◌<◌, ◌⊎◌, Option, Some, None, All}
 use Rattle.nat_solver.specs.Number.{Expr, lit, var, sought, plus, times}
 use Rattle.nat_solver.specs.declared.pattern.Pattern.{Pattern}
 use Rattle.nat_solver.specs.declared.pattern.Pattern.TheVariants.{Lit, Var, Plus}

@@ -1,17 +1,17 @@
 -- The two forms in which a constructor fits arguments.
-use Rattle.std.proofs.Common.{◌≡◌, ℕ, ◌+◌, ◌-◌, ◌<◌, ◌≤◌, List, [], ◌∷◌, Option, Some, None, Bool, true, false, refl, sym, ap}
-use Rattle.std.proofs.Common.{◌∙◌, subst, arith, cond, inl, inr}
+use Rattle.std.proofs.Common.{◌≡◌, ℕ, ◌-◌, ◌≤◌, List, [], ◌∷◌, Option, Some, None, refl, sym, ap}
+use Rattle.std.proofs.Common.{◌∙◌, subst, arith, inl, inr}
 use Rattle.std.proofs.lemmas.Bool.{cases_lt, cond-true, cond-false, eq-eqb, lt-ltb, le-ltb}
 use Rattle.std.proofs.lemmas.Option.{cond_some}
-use Rattle.std.proofs.lemmas.Bool.{eqb-true, ltb-true}
+use Rattle.std.proofs.lemmas.Bool.{eqb-true}
 use Rattle.std.specs.Prelude.{nat_eq, nat_lt}
 use Rattle.nat_solver.specs.Pattern as patterns
 use Rattle.nat_solver.specs.declared.pattern.Pattern.{Pattern}
 use Rattle.nat_solver.specs.declared.pattern.Pattern.TheVariants.{Lit, Var, Plus}
-use Rattle.core_form.specs.Core.{Input, Constructor, number, type}
-use Rattle.core_form.specs.Closed.{Closed, ClosedArgs, no_args, nat_arg, ty_arg}
+use Rattle.core_form.specs.Core.{Input, number, type}
+use Rattle.core_form.specs.Closed.{ClosedArgs, no_args, nat_arg, ty_arg}
 use Rattle.core_form.specs.Scope.{Scope, with_number, with_type}
-use Rattle.core_form.specs.Fit.{with_pattern, InputsFit, Fits, onward, meet, meet_all, fit}
+use Rattle.core_form.specs.Fit.{with_pattern, InputsFit, onward, meet, meet_all}
 use Rattle.core_form.specs.Laws.{FitsAgree}
 
 -- what a pattern meets, it meets in one way

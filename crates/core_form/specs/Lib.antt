@@ -4,7 +4,9 @@ pub mod Scope
 pub mod Closing
 pub mod Fit
 pub mod Determined
+pub mod Parameters
 pub mod Plain
 pub mod Bounds
 pub mod Laws
 pub mod FitLaws
+pub mod ValueLaws

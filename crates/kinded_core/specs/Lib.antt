@@ -1,0 +1,11 @@
+pub mod Clean
+pub mod CleanLaws
+pub mod NumberLaws
+pub mod TypeLaws
+pub mod EquationLaws
+pub mod ItemLaws
+pub mod ResultLaws
+pub mod ConstructorLaws
+pub mod Resolved
+pub mod Laws
+pub mod KindedLaws
