@@ -128,9 +128,11 @@ reached_by : FirstIsExposed → (s : SchemaView) → IsGuarded s → (x y z : Wo
 reached_by exposed s ok x y z b r =
     let edge = edge_by exposed s x y ok b in
     let there = among_distinct y (map result_of s) (is_declared s y b.is_declared) in
-    let test = (λ (w : Word). is_edge (known s) x w && round (back_rules (known s) z) (suc r.0) w) in
-    (suc r.0, or_right (bytes_eq x z) (list_any test (declared_types s))
-      (any_among test (declared_types s) y there (and_from (is_edge (known s) x y) (round (back_rules (known s) z) (suc r.0) y) edge.there r.1)))
+    let test = (λ (w : Word). is_edge (known s) x w && round (back_rules (known s) z) (suc r.0) w) in (
+      suc r.0,
+      or_right (bytes_eq x z) (list_any test (declared_types s))
+          (any_among test (declared_types s) y there (and_from (is_edge (known s) x y) (round (back_rules (known s) z) (suc r.0) y) edge.there r.1)),
+    )
 
 -- each type of a chain is reached from its first
 reaches : FirstIsExposed → (s : SchemaView) → IsGuarded s → (n : ℕ) (x : Word) (c : Chain (cores s) n x) (z : Word) → is_among (nodes s n x c) z ≡ true

@@ -193,7 +193,7 @@ from_exposed k names next place unnamed n (an_item (explicit x (plain e)) is) y 
     let more = (cond (may_be_empty_item k.empty (names_in names) (explicit x (plain e))) (exposed_from k (names_in names ++ field_names (explicit x (plain e))) (n + 1) is) []) in
     list_any-append (λ (e : Exposed). is_type y e.term) (map (through n) (terms_of k (names_in names) e)) more
     ∙ or_left (list_any (λ (e : Exposed). is_type y e.term) (map (through n) (terms_of k (names_in names) e))) (list_any (λ (e : Exposed). is_type y e.term) more)
-      (by_item n y (terms_of k (names_in names) e) ∙ first)
+    (by_item n y (terms_of k (names_in names) e) ∙ first)
 from_exposed k names next place unnamed n (an_item (explicit x (when c e)) is) y h there = cc
 from_exposed k names next place unnamed n (an_item (explicit x (when_bit c b e)) is) y h there = cc
 

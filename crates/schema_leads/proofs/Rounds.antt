@@ -87,12 +87,12 @@ pub agree : (s : CoreSchema) (A B : ℕ → Word → Leads) → AreRounds s A �
 agree s A B a b zero x none = absurd (none tt)
 agree s A B a b (suc n) x none =
     let same = same_together (A n) (B n) x s
-        (λ i d there of_type.
-          let P : Word → Type 0 = λ w. (Chain s (suc n) w → ⊥) in
-          let none_of = subst P (sym of_type) none in
-          same_declaration s (A n) (B n) i d there
-          (λ y first. agree s A B a b n y (λ rest. none_of (y, first, rest)))
-          (λ y e. a.undeclared n y e ∙ sym (b.undeclared n y e))) in
+    (λ i d there of_type.
+    let P : Word → Type 0 = λ w. (Chain s (suc n) w → ⊥) in
+    let none_of = subst P (sym of_type) none in
+    same_declaration s (A n) (B n) i d there
+    (λ y first. agree s A B a b n y (λ rest. none_of (y, first, rest)))
+    (λ y e. a.undeclared n y e ∙ sym (b.undeclared n y e))) in
     a.step n x ∙ same ∙ sym (b.step n x)
 
 -- ---- the rounds of the leads

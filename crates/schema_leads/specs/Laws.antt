@@ -14,7 +14,7 @@ abbrev pub FirstIsExposed : Type 0
 FirstIsExposed =
     (s : SchemaView) (x y : Word) → BeginsWithType (cores s) x y
     → (c : ConstructorView) × (i : ℕ) × (slice_get s i ≡ Some c) × (c.result ≡ x)
-      × (list_any (λ (e : Exposed). is_type y e.term) (exposed_by (known s) c) ≡ true)
+    × (list_any (λ (e : Exposed). is_type y e.term) (exposed_by (known s) c) ≡ true)
 
 -- So in a guarded schema no type begins, by one type after another, with itself.
 abbrev pub NoCycle : Type 0

@@ -55,4 +55,3 @@ exclude_complete p q h = go (nat_lt m (2 ^ 32) && (meets p m && meets q m)) refl
         let f = fits_from p x s.0 in
         let g = fits_from q x s.1 in
         absurd (h x f.0 g.0 (ltb-true x (2 ^ 32) r.0) f.1 g.1)
-
