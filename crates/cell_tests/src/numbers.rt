@@ -61,16 +61,6 @@ fn numbers(rt: &impl Abort, alloc: Global) -> Env {
     env
 }
 
-#[test]
-fn copied_numbers_are_set_apart(rt: HostRuntime) {
-    let mut env = numbers(&rt, rt.alloc());
-    let copied = env.copy(rt.alloc()).expect(&rt, "memory");
-    env.set(2, 7);
-    assert!(rt; copied.len() == 4 && env.len() == 4);
-    assert!(rt; copied.get(0) == Some(5) && copied.get(2).is_none());
-    assert!(rt; env.get(2) == Some(7));
-}
-
 /// The value of an expression without an unknown.
 fn evaluated(e: &NatExpr, unknown: &NatExpr, env: &Env) -> Option<Result<u32, NatError>>
     requires { unknowns (expr unknown.now) ≡ 9 ∷ [] }
