@@ -68,7 +68,6 @@ ends_there DepthZero c h a n = refl
 ends_there DepthDigits c h a n = rw a.digit refl
 ends_there Signed c h a n = refl
 
-
 -- ---- a lexeme before other bytes
 
 take_front : (bytes after : List ℕ) → take (length bytes) (bytes ++ after) ≡ bytes
