@@ -1,7 +1,7 @@
 -- Lexemes are those of declarations of flat records, or of none. The declarations are guessed by the positions of lexemes,
 -- and then it is decided whether they are as the form asks and whether their lexemes are just these.
 use Rattle.std.proofs.Common.{◌≡◌, ◌∙◌, ◌⊎◌, ◌≤◌, ◌<◌, ◌+◌, ◌-◌, ap, subst, sym, refl, arith, inl, inr, ℕ, zero, suc, Bool, true, false, List, [], ◌∷◌, ◌++◌, length, map, drop, get_or, append_assoc, if◌then◌else◌}
-use Rattle.std.specs.Prelude.{codes, decimal, bytes_eq}
+use Rattle.std.specs.Prelude.{codes, decimal, bytes_eq, leb, eqb}
 use Rattle.std.specs.List.{flat_map, list_all}
 use Rattle.std.proofs.lemmas.Bool.{false≢true}
 use Rattle.std.proofs.lemmas.Fmt.{decimal_injective}
@@ -24,37 +24,37 @@ Either P = P ⊎ (P → ⊥)
 
 either-by : {P Q : Type 0} → (P → Q) → (Q → P) → Either P → Either Q
 either-by f g (inl p) = inl (f p)
-either-by f g (inr no) = inr (λ q. no (g q))
+either-by f g (inr never) = inr (λ q. never (g q))
 
 both : {P Q : Type 0} → Either P → Either Q → Either (P × Q)
 both (inl p) (inl q) = inl (p, q)
-both (inl p) (inr no) = inr (λ h. no h.1)
-both (inr no) other = inr (λ h. no h.0)
+both (inl p) (inr never) = inr (λ h. never h.1)
+both (inr never) other = inr (λ h. never h.0)
 
 true-or_not : (b : Bool) → Either (b ≡ true)
 true-or_not true = inl refl
 true-or_not false = inr false≢true
 
-of-test : {P Q : Type 0} (b : Bool) → ((b ≡ true) × P) ⊎ ((b ≡ false) × (P → ⊥)) → Either P
+of-test : {P : Type 0} (b : Bool) → ((b ≡ true) × P) ⊎ ((b ≡ false) × (P → ⊥)) → Either P
 of-test b (inl h) = inl h.1
 of-test b (inr h) = inr h.1
 
 same-number : (m n : ℕ) → Either (m ≡ n)
-same-number m n = of-test {Q = ⊤} _ (eqb_tells m n)
+same-number m n = of-test (eqb m n) (eqb_tells m n)
+
+by-order : (m n : ℕ) → ((leb m n ≡ true) × (m ≤ n)) ⊎ ((leb m n ≡ false) × (n < m)) → Either (m ≤ n)
+by-order m n (inl h) = inl h.1
+by-order m n (inr h) = inr (λ le. omega (arith, h.1, le))
 
 at-most : (m n : ℕ) → Either (m ≤ n)
-at-most m n = tested (leb_tells m n)
-  where
-    tested : ((leb m n ≡ true) × (m ≤ n)) ⊎ ((leb m n ≡ false) × (n < m)) → Either (m ≤ n)
-    tested (inl h) = inl h.1
-    tested (inr h) = inr (λ le. omega (arith, h.1))
+at-most m n = by-order m n (leb_tells m n)
 
 same-text : (a b : List ℕ) → Either (a ≡ b)
 same-text a b = either-by (bytes_eq-Decides a b).0 (bytes_eq-Decides a b).1 (true-or_not (bytes_eq a b))
 
 -- ---- lexemes
 
-number-of_kind : TokenKind → ℕ
+abbrev number-of_kind : TokenKind → ℕ
 number-of_kind Name = 0
 number-of_kind Blank = 1
 number-of_kind Number = 2
@@ -62,13 +62,13 @@ number-of_kind BinaryTag = 3
 number-of_kind HexTag = 4
 number-of_kind Symbol = 5
 
-kind-at : ℕ → TokenKind
-kind-at 0 = Name
-kind-at 1 = Blank
-kind-at 2 = Number
-kind-at 3 = BinaryTag
-kind-at 4 = HexTag
-kind-at n = Symbol
+abbrev kind-at : ℕ → TokenKind
+kind-at zero = Name
+kind-at (suc zero) = Blank
+kind-at (suc (suc zero)) = Number
+kind-at (suc (suc (suc zero))) = BinaryTag
+kind-at (suc (suc (suc (suc zero)))) = HexTag
+kind-at (suc (suc (suc (suc (suc n))))) = Symbol
 
 kind-again : (k : TokenKind) → kind-at (number-of_kind k) ≡ k
 kind-again Name = refl
@@ -106,8 +106,8 @@ bits-or_not [] = inl tt
 bits-or_not (b ∷ bits) = both (at-most (suc b) 2) (bits-or_not bits)
 
 field-or_not : (f : Field) → Either (IsShapedField f)
-field-or_not f = either-by {P = IsName f.name × (1 ≤ f.width) × (f.width ≤ 128)}
-    (λ h. record { name = h.0; least = h.1; most = h.2 }) (λ s. (s.name, s.least, s.most))
+field-or_not f = either-by {P = IsName f.name × ((1 ≤ f.width) × (f.width ≤ 128))}
+    (λ h. record { name = h.0; least = h.1.0; most = h.1.1 }) (λ s. (s.name, (s.least, s.most)))
     (both (true-or_not (is_name f.name)) (both (at-most 1 f.width) (at-most f.width 128)))
 
 fields-or_not : (fs : List Field) → Either (AreShapedFields fs)
@@ -115,9 +115,9 @@ fields-or_not [] = inl tt
 fields-or_not (f ∷ fs) = both (field-or_not f) (fields-or_not fs)
 
 shaped-or_not : (d : Declaration) → Either (IsShaped d)
-shaped-or_not d = either-by {P = IsName d.name × AreBits d.tag × (length d.tag ≤ 63) × AreShapedFields d.fields × IsName d.type_name}
-    (λ h. record { name = h.0; tag_bits = h.1; tag_len = h.2; fields = h.3; type_name = h.4 })
-    (λ s. (s.name, s.tag_bits, s.tag_len, s.fields, s.type_name))
+shaped-or_not d = either-by {P = IsName d.name × (AreBits d.tag × ((length d.tag ≤ 63) × (AreShapedFields d.fields × IsName d.type_name)))}
+    (λ h. record { name = h.0; tag_bits = h.1.0; tag_len = h.1.1.0; fields = h.1.1.1.0; type_name = h.1.1.1.1 })
+    (λ s. (s.name, (s.tag_bits, (s.tag_len, (s.fields, s.type_name)))))
     (both (true-or_not (is_name d.name)) (both (bits-or_not d.tag) (both (at-most (length d.tag) 63)
     (both (fields-or_not d.fields) (true-or_not (is_name d.type_name))))))
 
@@ -126,23 +126,23 @@ all-shaped_or_not [] = inl tt
 all-shaped_or_not (d ∷ ds) = both (shaped-or_not d) (all-shaped_or_not ds)
 
 declares-these : (ls : List Lexeme) (ds : List Declaration) → Either (Declares ls ds)
-declares-these ls ds = either-by {P = (ls ≡ flat_map declaration_lexemes ds) × AreShaped ds × (list_all is_flat ds ≡ true) × (are_apart type_name_of ds ≡ true)}
-    (λ h. record { lexemes = h.0; shaped = h.1; flat = h.2; own_types = h.3 }) (λ d. (d.lexemes, d.shaped, d.flat, d.own_types))
+declares-these ls ds = either-by {P = (ls ≡ flat_map declaration_lexemes ds) × (AreShaped ds × ((list_all is_flat ds ≡ true) × (are_apart type_name_of ds ≡ true)))}
+    (λ h. record { lexemes = h.0; shaped = h.1.0; flat = h.1.1.0; own_types = h.1.1.1 }) (λ d. (d.lexemes, (d.shaped, (d.flat, d.own_types))))
     (both (same-lexemes ls (flat_map declaration_lexemes ds)) (both (all-shaped_or_not ds)
     (both (true-or_not (list_all is_flat ds)) (true-or_not (are_apart type_name_of ds)))))
 
 -- ---- the guess
 
 -- the number from 1 to the greatest one whose field of this width has the text, or 0
-width-up_to : ℕ → List ℕ → ℕ
+abbrev width-up_to : ℕ → List ℕ → ℕ
 width-up_to zero text = 0
 width-up_to (suc n) text = if bytes_eq text (codes "uint" ++ decimal (suc n)) then suc n else width-up_to n text
 
 -- the bits of a tag's text
-bits-of : List ℕ → List ℕ
+abbrev bits-of : List ℕ → List ℕ
 bits-of text = if bytes_eq text (codes "$_") then [] else map (λ d. d - 48) (drop 1 text)
 
-field-of : Lexeme → Lexeme → Field
+abbrev field-of : Lexeme → Lexeme → Field
 field-of name type = record { name = name.text; width = width-up_to 128 type.text }
 
 data Place : Type 0 where
@@ -150,7 +150,7 @@ data Place : Type 0 where
   at_field : List ℕ → List ℕ → List Field → Place
 
 -- the declarations, from a place within them
-guess : Place → List Lexeme → List Declaration
+abbrev guess : Place → List Lexeme → List Declaration
 guess at_start (name ∷ tag ∷ ls) = guess (at_field name.text (bits-of tag.text) []) ls
 guess at_start ls = []
 guess (at_field name tag fields) (a ∷ b ∷ c ∷ ls) =
@@ -161,8 +161,8 @@ guess (at_field name tag fields) ls = []
 -- ---- the guess is right
 
 off : {P : Type 0} (b : Bool) → ((b ≡ true → P) × (P → b ≡ true)) → (P → ⊥) → b ≡ false
-off true d no = absurd (no (d.0 refl))
-off false d no = refl
+off true d never = absurd (never (d.0 refl))
+off false d never = refl
 
 abbrev width_text : ℕ → List ℕ
 width_text w = codes "uint" ++ decimal w
@@ -170,17 +170,17 @@ width_text w = codes "uint" ++ decimal w
 widths-same : (m n : ℕ) → m ≤ 128 → n ≤ 128 → width_text m ≡ width_text n → m ≡ n
 widths-same m n few few_too e = decimal_injective m n (omega (arith, few)) (omega (arith, few_too)) (ap (drop 4) e)
 
-width-at : (n w : ℕ) → 1 ≤ w → w ≤ n → n ≤ 128 → width-up_to n (width_text w) ≡ w
-width-at zero w some least few = omega arith
-width-at (suc n) w some least few = choose (same-number w (suc n))
-  where
-    chosen : Bool → ℕ
-    chosen b = if b then suc n else width-up_to n (width_text w)
-    choose : Either (w ≡ suc n) → width-up_to (suc n) (width_text w) ≡ w
-    choose (inl is) = ap chosen ((bytes_eq-Decides (width_text w) (width_text (suc n))).1 (ap width_text is)) ∙ sym is
-    choose (inr other) =
-        ap chosen (off _ (bytes_eq-Decides (width_text w) (width_text (suc n))) (λ e. other (widths-same w (suc n) (omega arith) few e)))
-        ∙ width-at n w some (omega (arith, other)) (omega arith)
+width-by : (n w : ℕ) → suc n ≤ 128 → (w ≤ n → width-up_to n (width_text w) ≡ w) → w ≤ suc n → Either (w ≡ suc n) → width-up_to (suc n) (width_text w) ≡ w
+width-by n w few others le (inl is) =
+    ap (λ b. if b then suc n else width-up_to n (width_text w)) ((bytes_eq-Decides (width_text w) (width_text (suc n))).1 (ap width_text is)) ∙ sym is
+width-by n w few others le (inr other) =
+    ap (λ b. if b then suc n else width-up_to n (width_text w))
+    (off _ (bytes_eq-Decides (width_text w) (width_text (suc n))) (λ e. other (widths-same w (suc n) (omega (arith, le, few)) few e)))
+    ∙ others (omega (arith, other, le))
+
+width-at : (n w : ℕ) → 1 ≤ w → n ≤ 128 → w ≤ n → width-up_to n (width_text w) ≡ w
+width-at zero w some few le = absurd (omega (arith, some, le))
+width-at (suc n) w some few le = width-by n w few (width-at n w some (omega (arith, few))) le (same-number w (suc n))
 
 undigits : (bits : List ℕ) → map (λ d. d - 48) (map (λ d. 48 + d) bits) ≡ bits
 undigits [] = refl
@@ -197,7 +197,7 @@ no-sign : (text : List ℕ) → IsName text → text ≡ codes "=" → ⊥
 no-sign text name e = false≢true (sym (ap is_name e) ∙ name)
 
 field-again : (f : Field) → IsShapedField f → record { name = f.name; width = width-up_to 128 (width_text f.width) } ≡ f
-field-again f s = let width = width-at 128 f.width s.least s.most (omega arith) in λ i. record { name = f.name; width = width i }
+field-again f s = let width = width-at 128 f.width s.least (omega arith) s.most in λ i. record { name = f.name; width = width i }
 
 abbrev made : List ℕ → List ℕ → List Field → List ℕ → Declaration
 made name tag fields type_name = record { name = name; tag = tag; fields = fields; type_name = type_name }
@@ -233,4 +233,4 @@ declares-or_not ls = decided (declares-these ls (guess at_start ls))
     guessed ds d = ap (guess at_start) d.lexemes ∙ guess-again ds d.shaped
     decided : Either (Declares ls (guess at_start ls)) → ((ds : List Declaration) × Declares ls ds) ⊎ ((ds : List Declaration) → Declares ls ds → ⊥)
     decided (inl d) = inl (guess at_start ls, d)
-    decided (inr no) = inr (λ ds d. no (subst (Declares ls) (sym (guessed ds d)) d))
+    decided (inr never) = inr (λ ds d. never (subst (Declares ls) (sym (guessed ds d)) d))
