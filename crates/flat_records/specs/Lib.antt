@@ -2,6 +2,7 @@ pub mod Lexemes
 pub mod Placed
 pub mod Words
 pub mod Form
+pub mod FormLaws
 pub mod Found
 pub mod Fields
 pub mod Spelling

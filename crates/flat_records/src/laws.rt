@@ -33,3 +33,8 @@ pub fn reading_or_stop()
 pub fn one_form()
     ensures { (ls : List Lexeme) (ds es : List Declaration) → Declares ls ds → Declares ls es → ds ≡ es }
 {}
+
+/// Lexemes are those of declarations, or of none.
+pub fn form_or_none()
+    ensures { (ls : List Lexeme) → ((ds : List Declaration) × Declares ls ds) ⊎ ((ds : List Declaration) → Declares ls ds → ⊥) }
+{}

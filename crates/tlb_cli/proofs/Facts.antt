@@ -2,11 +2,12 @@
 use Rattle.std.proofs.Common.{◌≡◌, ◌∙◌, ap, sym, subst, refl, arith, ℕ, List, Option, None, Some}
 use Rattle.std.proofs.lemmas.Bool.{false≢true}
 use Rattle.tlb_edge.specs.Files.{Name}
-use Rattle.bag_cells.proofs.Answered.{not_both, holds_once, refused_once}
+use Rattle.bag_cells.specs.Bag.{BagHolds, BagRefused}
+use Rattle.bag_cells.specs.declared.error.BagError.{BagError}
 use Rattle.cell_nodes.specs.declared.tree.Tree.{Tree}
-use Rattle.flat_records.proofs.Single.{form-once, reading-once, stop-once, reading-or_stuck}
 use Rattle.flat_records.specs.Form.{Declares}
-use Rattle.flat_records.specs.Lexemes.{lexemes}
+use Rattle.flat_records.specs.Lexemes.{Lexeme, lexemes}
+use Rattle.flat_records.specs.Spelling.{Reading, Stuck}
 use Rattle.flat_records.specs.declared.declaration.Declaration.{Declaration}
 use Rattle.flat_records.specs.declared.read.Cause.{Cause}
 use Rattle.flat_records.specs.declared.read.Spot.{Spot}
@@ -38,13 +39,26 @@ some-same d e o a b = let same : Some d ≡ Some e = sym a ∙ b in cc
 none-some : {X : Type 0} (d : X) (o : Option X) → o ≡ None → o ≡ Some d → ⊥
 none-some d o a b = let same : None ≡ Some d = sym a ∙ b in grind arith
 
--- what the laws of texts say of a schema's text
-pub record TextLaws : Type 0 where
+-- what the laws of the layers below say: one answer at most
+pub record OnceLaws : Type 0 where
   pub written : (text : List ℕ) (s t : SchemaView) → Writes text s → Writes text t → s ≡ t
   pub refused : (text : List ℕ) (e f : GrammarError) → Refuses text e → Refuses text f → e ≡ f
   pub not_both : (text : List ℕ) (s : SchemaView) (e : GrammarError) → Writes text s → Refuses text e → ⊥
+  pub tokenized : (text : List ℕ) (a b : List Token) → Tokenizes text a → Tokenizes text b → a ≡ b
+  pub form : (ls : List Lexeme) (ds es : List Declaration) → Declares ls ds → Declares ls es → ds ≡ es
+  pub tree : (file : List ℕ) (t u : Tree) → BagHolds file t → BagHolds file u → t ≡ u
+  pub bag_refused : (file : List ℕ) (e f : BagError) → BagRefused file e → BagRefused file f → e ≡ f
+  pub bag_not_both : (file : List ℕ) (t : Tree) (e : BagError) → BagHolds file t → BagRefused file e → ⊥
+  pub reading : (d : Declaration) (bits : List ℕ) (refs : ℕ) (v w : Plain)
+      → Reading d bits refs v → Reading d bits refs w → v ≡ w
+  pub spot : (d : Declaration) (bits : List ℕ) (refs : ℕ) (s t : Spot) (a b : Cause)
+      → Stuck d bits refs s a → Stuck d bits refs t b → s ≡ t
+  pub cause : (d : Declaration) (bits : List ℕ) (refs : ℕ) (s t : Spot) (a b : Cause)
+      → Stuck d bits refs s a → Stuck d bits refs t b → a ≡ b
+  pub not_stuck : (d : Declaration) (bits : List ℕ) (refs : ℕ) (v : Plain) (s : Spot) (a : Cause)
+      → Reading d bits refs v → Stuck d bits refs s a → ⊥
 
-pub text-once : TextLaws → (text : List ℕ) → IsOnce (SchemaText text)
+pub text-once : OnceLaws → (text : List ℕ) → IsOnce (SchemaText text)
 text-once laws text = stage-once (RefusesText text) _
     (λ r s a b. a.2 ∙ ap (λ e. schema (Text e)) (laws.refused text a.0 b.0 a.1 b.1) ∙ sym b.2)
     (λ s t a b. laws.written text s t a b)
@@ -59,36 +73,39 @@ kinds-once s = stage-once (RefusesKinds s) _
     (unit-once (IsKinded s))
     (λ r done a b. refused_not_kinded s a.0 a.1 b)
 
-forms-same : (text : List ℕ) (ds es : List Declaration) → FormOf text ds → FormOf text es → ds ≡ es
-forms-same text ds es a b =
+forms-same : OnceLaws → (text : List ℕ) (ds es : List Declaration) → FormOf text ds → FormOf text es → ds ≡ es
+forms-same laws text ds es a b =
     let P : List Token → Type 0 = λ ts. Declares (lexemes text ts) ds in
-    form-once (lexemes text b.tokens) ds es (subst P (tokens_once text a.tokens b.tokens a.tokenized b.tokenized) a.declares) b.declares
+    laws.form (lexemes text b.tokens) ds es
+    (subst P (laws.tokenized text a.tokens b.tokens a.tokenized b.tokenized) a.declares) b.declares
 
-pub form-judged-once : (text : List ℕ) → IsOnce (FlatForm text)
-form-judged-once text = stage-once (RefusesForm text) (FormOf text) (λ r s a b. a.1 ∙ sym b.1) (forms-same text) (λ r ds a b. a.0 ds b)
+pub form-judged-once : OnceLaws → (text : List ℕ) → IsOnce (FlatForm text)
+form-judged-once laws text = stage-once (RefusesForm text) (FormOf text) (λ r s a b. a.1 ∙ sym b.1) (forms-same laws text) (λ r ds a b. a.0 ds b)
 
 pub type-once : (word : Name) (ds : List Declaration) → IsOnce (TypeWord word ds)
 type-once word ds = stage-once (RefusesWord word ds) _ (λ r s a b. a.1 ∙ sym b.1) (λ d e a b. some-same d e _ a b) (λ r d a b. none-some d _ a.0 b)
 
-pub bag-once : (file : List ℕ) → IsOnce (Bag file)
-bag-once file = stage-once (RefusesBag file) _
-    (λ r s a b. a.2 ∙ ap bag (refused_once file a.0 b.0 a.1 b.1) ∙ sym b.2)
-    (λ t u a b. holds_once file t u a b)
-    (λ r t a b. not_both file t a.0 b a.1)
+pub bag-once : OnceLaws → (file : List ℕ) → IsOnce (Bag file)
+bag-once laws file = stage-once (RefusesBag file) _
+    (λ r s a b. a.2 ∙ ap bag (laws.bag_refused file a.0 b.0 a.1 b.1) ∙ sym b.2)
+    (λ t u a b. laws.tree file t u a b)
+    (λ r t a b. laws.bag_not_both file t a.0 b a.1)
 
 stop-same : (d : Declaration) (s t : Spot) (a b : Cause) → s ≡ t → a ≡ b → cell (spot_text d s) (ByReading a) ≡ cell (spot_text d t) (ByReading b)
 stop-same d s t a b spot cause = ap (λ x. cell (spot_text d x) (ByReading a)) spot ∙ ap (λ x. cell (spot_text d t) (ByReading x)) cause
 
-cell-refused_once : (d : Declaration) (t : Tree) (r s : Refusal) → RefusesCell d t r → RefusesCell d t s → r ≡ s
-cell-refused_once d t r s (exotic kind is) (exotic other same) = is ∙ sym same
-cell-refused_once d t r s (exotic kind is) (stuck spot cause other stops same) = absurd (false≢true (sym other ∙ kind))
-cell-refused_once d t r s (stuck spot cause kind stops is) (exotic other same) = absurd (false≢true (sym kind ∙ other))
-cell-refused_once d t r s (stuck spot cause kind stops is) (stuck place why other stops_too same) =
-    let one = stop-once d _ _ spot place cause why stops stops_too in is ∙ stop-same d spot place cause why one.spot one.cause ∙ sym same
+cell-refused_once : OnceLaws → (d : Declaration) (t : Tree) (r s : Refusal) → RefusesCell d t r → RefusesCell d t s → r ≡ s
+cell-refused_once laws d t r s (exotic kind is) (exotic other same) = is ∙ sym same
+cell-refused_once laws d t r s (exotic kind is) (stuck spot cause other stops same) = absurd (false≢true (sym other ∙ kind))
+cell-refused_once laws d t r s (stuck spot cause kind stops is) (exotic other same) = absurd (false≢true (sym kind ∙ other))
+cell-refused_once laws d t r s (stuck spot cause kind stops is) (stuck place why other stops_too same) =
+    is ∙ stop-same d spot place cause why (laws.spot d _ _ spot place cause why stops stops_too)
+    (laws.cause d _ _ spot place cause why stops stops_too) ∙ sym same
 
-cell-never_both : (d : Declaration) (t : Tree) (r : Refusal) (v : Plain) → RefusesCell d t r → SpellsValue d t v → ⊥
-cell-never_both d t r v (exotic kind is) spells = false≢true (sym spells.ordinary ∙ kind)
-cell-never_both d t r v (stuck spot cause kind stops is) spells = reading-or_stuck d _ _ v spot cause spells.reading stops
+cell-never_both : OnceLaws → (d : Declaration) (t : Tree) (r : Refusal) (v : Plain) → RefusesCell d t r → SpellsValue d t v → ⊥
+cell-never_both laws d t r v (exotic kind is) spells = false≢true (sym spells.ordinary ∙ kind)
+cell-never_both laws d t r v (stuck spot cause kind stops is) spells = laws.not_stuck d _ _ v spot cause spells.reading stops
 
-pub cell-once : (d : Declaration) (t : Tree) → IsOnce (Cell d t)
-cell-once d t = stage-once (RefusesCell d t) (SpellsValue d t) (cell-refused_once d t) (λ v w a b. reading-once d _ _ v w a.reading b.reading) (cell-never_both d t)
+pub cell-once : OnceLaws → (d : Declaration) (t : Tree) → IsOnce (Cell d t)
+cell-once laws d t = stage-once (RefusesCell d t) (SpellsValue d t) (cell-refused_once laws d t)
+    (λ v w a b. laws.reading d _ _ v w a.reading b.reading) (cell-never_both laws d t)

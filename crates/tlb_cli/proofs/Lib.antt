@@ -1,4 +1,5 @@
 mod Ending
+mod Answered
 mod Answering
 mod Facts
 mod Levels

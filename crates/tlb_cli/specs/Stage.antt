@@ -30,6 +30,10 @@ Answers judged view (Err NoMemory) = ⊤
 abbrev pub IsOnce : {X : Type 0} → (Result X Refusal → Type 0) → Type 0
 IsOnce judged = (a b : Result _ Refusal) → judged a → judged b → a ≡ b
 
+-- it refuses, or gives something
+abbrev pub IsAnswered : {X : Type 0} → (Result X Refusal → Type 0) → Type 0
+IsAnswered judged = (a : Result _ Refusal) × judged a
+
 -- where it is a refusal, it is so
 abbrev pub IfRefused : (Refusal → Type 0) → Stop → Type 0
 IfRefused P (Refused refusal) = P (refusal_by refusal)
