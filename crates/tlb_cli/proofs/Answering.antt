@@ -1,10 +1,10 @@
 -- From what the layers answer to what `run` did.
-use Rattle.std.proofs.Common.{◌≡◌, ◌∙◌, ap, sym, subst, refl, arith, ℕ, List, [], length, Option, None, Some, Result, Ok, Err, Vec}
+use Rattle.std.proofs.Common.{◌≡◌, sym, subst, refl, arith, ℕ, List, [], Option, None, Some, Result, Ok, Err, Vec}
 use Rattle.std.specs.declared.alloc.Global.{Global}
 use Rattle.tlb_edge.specs.Causes.{Rose}
-use Rattle.tlb_edge.specs.Files.{Files, Name}
+use Rattle.tlb_edge.specs.Files.{Files}
 use Rattle.tlb_files.specs.Contents.{IsLoading}
-use Rattle.tlb_files.specs.Counts.{Counts, FileName, Opens, RoseAtMost}
+use Rattle.tlb_files.specs.Counts.{Counts, FileName, RoseAtMost}
 use Rattle.tlb_files.specs.Loading.{loaded}
 use Rattle.tlb_files.specs.Loads.{LoadsAll, Stops}
 use Rattle.tlb_files.specs.Pieces.{Output, Puts, PutsPrefix}

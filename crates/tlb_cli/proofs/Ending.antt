@@ -1,5 +1,5 @@
 -- From what `run` did to each of its clauses.
-use Rattle.std.proofs.Common.{◌≡◌, ◌≢◌, ◌∙◌, ◌⊎◌, inl, inr, ap, sym, subst, refl, ℕ, List, [], ◌∷◌, length, Option, None, Some, IfSome, IsSome, IsNone, Result, Ok, Err, slice_get, arith}
+use Rattle.std.proofs.Common.{◌≡◌, ◌≢◌, ◌∙◌, ◌⊎◌, inl, inr, ap, sym, subst, refl, ℕ, List, [], length, Option, None, Some, IfSome, IsSome, IsNone, Ok, Err, slice_get, arith}
 use Rattle.std.proofs.lemmas.Bool.{false≢true}
 use Rattle.tlb_edge.specs.Causes.{Rose}
 use Rattle.tlb_edge.specs.Files.{Files, Name}
@@ -9,11 +9,11 @@ use Rattle.tlb_files.specs.Loading.{Loading, not_held, too_long, loaded, loading
 use Rattle.tlb_files.specs.Loads.{Fails, IsTooLong}
 use Rattle.tlb_files.specs.Pieces.{Output, Puts, PutsPrefix}
 use Rattle.tlb_cli.specs.Forms.{Form, files_of, form_of}
-use Rattle.tlb_cli.specs.Outcome.{CommandAnswers, FormAnswers, IsOutcome, LoadingAnswers}
+use Rattle.tlb_cli.specs.Outcome.{FormAnswers, IsOutcome, LoadingAnswers}
 use Rattle.tlb_cli.specs.Ran.{Answered, failed, longer, judged, Faults, Ran, put, unput, out_of_memory, PutsOutcome, IsJudged, IsLoaded, IsPut, IsRefusal, IsRefusalLine, OpensSome}
-use Rattle.tlb_cli.specs.Refusal.{Answer, Refusal, Verdict, usage, unread, schema, type_word, bag, cell, too_long as long_refusal, refusal_line, verdict_of, words_of}
+use Rattle.tlb_cli.specs.Refusal.{Answer, Verdict, usage, unread, schema, type_word, bag, cell, too_long as long_refusal, refusal_line, verdict_of, words_of}
 use Rattle.tlb_cli.specs.declared.status.Status.{Status}
-use Rattle.tlb_cli.specs.declared.status.Status.TheVariants.{Done, Usage, ReadFault, WriteFault, TooLong, NoMemory}
+use Rattle.tlb_cli.specs.declared.status.Status.TheVariants.{Usage, ReadFault, WriteFault, TooLong, NoMemory}
 use Rattle.tlb_cli.proofs.Loaded.{IsFound, command-found}
 
 -- ---- the status of an answer

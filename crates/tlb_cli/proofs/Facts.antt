@@ -15,7 +15,7 @@ use Rattle.tlb_grammar.specs.Answer.{Refuses}
 use Rattle.tlb_grammar.specs.declared.error.GrammarError.{GrammarError}
 use Rattle.tlb_kinds.specs.Refusals.{IsKinded}
 use Rattle.tlb_kinds.specs.RefusalLaws.{refused_not_kinded}
-use Rattle.tlb_lexer.proofs.Tokenization.{tokens_once}
+use Rattle.tlb_lexer.specs.Tokenization.{Tokenizes}
 use Rattle.tlb_lexer.specs.declared.Token.{Token}
 use Rattle.tlb_syntax.specs.Tree.{SchemaView}
 use Rattle.tlb_syntax.specs.Written.{Writes}

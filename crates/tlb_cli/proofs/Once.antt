@@ -1,5 +1,5 @@
 -- At most one outcome, where each file of the command is held.
-use Rattle.std.proofs.Common.{◌≡◌, ◌∙◌, ap, sym, refl, ℕ, List, [], ◌∷◌, Bool, true, false, length, nat_lt, Option, Some, None, IsSome, if◌then◌else◌}
+use Rattle.std.proofs.Common.{◌≡◌, ◌∙◌, ap, sym, ℕ, List, [], ◌∷◌, Bool, true, false, length, nat_lt, Option, Some, None, IsSome, if◌then◌else◌}
 use Rattle.std.proofs.lemmas.Bool.{false≢true}
 use Rattle.std.proofs.lemmas.List.Elements.{All-head, All-tail}
 use Rattle.tlb_edge.specs.Files.{Files, Name, file_at}
@@ -13,7 +13,7 @@ use Rattle.tlb_cli.specs.Hash.{Hashes}
 use Rattle.tlb_cli.specs.Lines.{level_lines, line_of}
 use Rattle.tlb_cli.specs.Outcome.{CommandAnswers, FormAnswers, IsOutcome, LoadingAnswers}
 use Rattle.tlb_cli.specs.Read.{Reads}
-use Rattle.tlb_cli.specs.Refusal.{Answer, Verdict, verdict_of}
+use Rattle.tlb_cli.specs.Refusal.{Verdict, verdict_of}
 use Rattle.tlb_cli.specs.Stage.{IsOnce}
 use Rattle.tlb_cli.specs.declared.form.Verb.{Verb}
 use Rattle.tlb_cli.specs.declared.form.Verb.TheVariants.{Read, Hash}

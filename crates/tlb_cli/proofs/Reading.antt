@@ -1,5 +1,5 @@
 -- The stages of `read`, from the first to the last.
-use Rattle.std.proofs.Common.{◌≡◌, ℕ, List, Result, Ok, Err, Vec}
+use Rattle.std.proofs.Common.{ℕ, List, Result, Ok, Err, Vec}
 use Rattle.std.specs.declared.alloc.Global.{Global}
 use Rattle.tlb_edge.specs.Files.{Name}
 use Rattle.cell_nodes.specs.declared.tree.Tree.{Tree}

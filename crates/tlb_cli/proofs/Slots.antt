@@ -1,5 +1,5 @@
 -- Words in slots.
-use Rattle.std.proofs.Common.{◌≡◌, ◌≤◌, ◌<◌, ◌+◌, ◌++◌, ◌∙◌, ap, sym, refl, suc, zero, arith, ℕ, Bool, true, false, List, [], ◌∷◌, drop, length, get_or, map, string_bytes, Option, None, Some, ◌&&◌}
+use Rattle.std.proofs.Common.{◌≡◌, ◌≤◌, ◌<◌, ◌+◌, ◌∙◌, ap, sym, refl, suc, arith, ℕ, Bool, true, false, List, [], ◌∷◌, drop, length, get_or, map, string_bytes, ◌&&◌}
 use Rattle.std.proofs.Math.ListN.{get_or-map}
 use Rattle.std.proofs.lemmas.List.{length-map}
 use Rattle.std.specs.Prelude.{String}
@@ -7,7 +7,6 @@ use Rattle.std.specs.declared.alloc.Global.{Global}
 use Rattle.std.proofs.Math.ListN.{drop_of_length-le}
 use Rattle.std.proofs.Math.Seq.{drop-cons}
 use Rattle.tlb_edge.specs.Files.{Name}
-use Rattle.tlb_files.specs.Counts.{FileName}
 use Rattle.tlb_cli.specs.Forms.{are_taken, files_in, limit_of, named, takes}
 use Rattle.tlb_cli.specs.declared.form.Slot.{Slot}
 

@@ -1,5 +1,5 @@
 -- The stage of a cell at a declaration.
-use Rattle.std.specs.Prelude.{◌≡◌, ℕ, true, false, List, length, Result}
+use Rattle.std.specs.Prelude.{◌≡◌, true, false, length, Result}
 use Rattle.cell_nodes.specs.Tree.{is_exotic}
 use Rattle.cell_nodes.specs.declared.tree.Tree.{Tree, out-Tree}
 use Rattle.flat_records.specs.Spelling.{Reading, Stuck}

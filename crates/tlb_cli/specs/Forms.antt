@@ -1,5 +1,5 @@
 -- The command forms, as a table of verbs and slots. This project's own.
-use Rattle.std.specs.Prelude.{◌≡◌, ℕ, ◌&&◌, Bool, true, false, List, [], ◌∷◌, length, not, nat_lt, Option, None, Some, if◌then◌else◌, codes, unwrap_or, slice_get, All, IsSome}
+use Rattle.std.specs.Prelude.{ℕ, ◌&&◌, Bool, true, false, List, [], ◌∷◌, length, not, nat_lt, Option, None, Some, if◌then◌else◌, codes, unwrap_or, slice_get, All, IsSome}
 use Rattle.std.specs.Str.{bytes_eq}
 use Rattle.tlb_edge.specs.Files.{Name, Files, file_at}
 use Rattle.tlb_files.specs.Counts.{FileName}

@@ -17,7 +17,7 @@ use Rattle.tlb_cli.specs.View.{refusal_by}
 use Rattle.tlb_cli.specs.declared.refusal.Stop.{Stop}
 use Rattle.tlb_cli.specs.declared.refusal.Stop.TheVariants.{Refused, NoMemory as Ended}
 use Rattle.tlb_cli.specs.declared.status.Status.{Status}
-use Rattle.tlb_cli.specs.declared.status.Status.TheVariants.{Done, Usage, ReadFault, WriteFault, TooLong, NoMemory}
+use Rattle.tlb_cli.specs.declared.status.Status.TheVariants.{Done, ReadFault, WriteFault, TooLong, NoMemory}
 
 -- What a command answers over a shelf: a file failed, or one is too long, or all are loaded and the command is judged.
 pub data Answered (form : Option Form) (held : Option Files) (before now : Counts) (verdict : Verdict) : Type 0 where

@@ -5,7 +5,9 @@ ghost use Rattle.tlb_cli.specs.Forms.{HoldsAll, files_of, form_of};
 ghost use Rattle.tlb_cli.specs.Outcome.{IsOutcome};
 ghost use Rattle.tlb_cli.specs.Refusal.{Verdict};
 
-use flat_records::laws::{form_or_none, one_form, one_reading, one_stop, read_or_stuck, reading_or_stop};
+use flat_records::laws::{
+    form_or_none, one_form, one_reading, one_stop, read_or_stuck, reading_or_stop,
+};
 use tlb_grammar::laws::{at_most_one_answer, written_or_refused};
 
 /// A command has one outcome at most over files that hold each file that it names.

@@ -1,4 +1,4 @@
-use Rattle.std.proofs.Common.{sym, arith, map, length, string_bytes}
+use Rattle.std.proofs.Common.{sym, arith, map, string_bytes}
 use Rattle.std.proofs.lemmas.List.{length-map}
 use Rattle.tlb_cli.specs.declared.form.Slot.TheVariants.{Schema}
 use Rattle.tlb_cli.proofs.Slots.{not-taken, turn-refused, turn-taken}
