@@ -231,6 +231,7 @@ declares-or_not ls = decided (declares-these ls (guess at_start ls))
   where
     guessed : (ds : List Declaration) → Declares ls ds → guess at_start ls ≡ ds
     guessed ds d = ap (guess at_start) d.lexemes ∙ guess-again ds d.shaped
+
     decided : Either (Declares ls (guess at_start ls)) → ((ds : List Declaration) × Declares ls ds) ⊎ ((ds : List Declaration) → Declares ls ds → ⊥)
     decided (inl d) = inl (guess at_start ls, d)
     decided (inr never) = inr (λ ds d. never (subst (Declares ls) (sym (guessed ds d)) d))
