@@ -6,6 +6,8 @@ mod judgements;
 #[cfg(test)]
 mod records;
 #[cfg(test)]
+mod separations;
+#[cfg(test)]
 mod terms;
 #[cfg(test)]
 mod texts;

@@ -15,3 +15,4 @@ mod users;
 
 pub use cycles::first_unguarded;
 pub use edges::Unguarded;
+pub use types::Types;

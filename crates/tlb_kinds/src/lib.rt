@@ -12,4 +12,5 @@ mod spot;
 pub use check::{Kinded, kind_check};
 pub use error::KindError;
 pub use kind_terms::Part;
+pub use places::spot;
 pub use spot::{FieldPath, Spot};

@@ -1,0 +1,32 @@
+//! The tags of constructors.
+use bit_slice::{BitString, BitWriter};
+use std::alloc::Global;
+use tlb_memory::NoMemory;
+use tlb_sums::crc32;
+use tlb_syntax::{Constructor, Tag, canonical};
+
+fn empty_tag(alloc: Global) -> Result<BitString, NoMemory> {
+    BitString::from_bytes(alloc, &[], 0)
+}
+
+fn computed_tag(alloc: Global, text: &[u8]) -> Result<BitString, NoMemory> {
+    let mut bits = BitWriter::new(alloc)?;
+    match bits.push_number(u128::from(crc32(text)), 32) {
+        Ok(()) => Ok(bits.finish()),
+        Err(_) => Err(NoMemory),
+    }
+}
+
+/// The tag of a constructor, as it is written or computed.
+pub fn tag_of(alloc: Global, constructor: &Constructor) -> Result<BitString, NoMemory> {
+    match &constructor.tag {
+        Tag::Given(bits) => BitString::from_slice(alloc, bits.slice()),
+        Tag::Computed => {
+            if constructor.name.is_none() {
+                return empty_tag(alloc);
+            }
+            let text = canonical(alloc, constructor)?;
+            computed_tag(alloc, text.as_slice())
+        }
+    }
+}
