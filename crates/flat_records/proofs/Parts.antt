@@ -5,7 +5,7 @@ use Rattle.std.proofs.lemmas.Bool.{false≢true}
 use Rattle.std.proofs.lemmas.List.{length-map, length-append}
 use Rattle.tlb_lexer.specs.declared.Token.{Token}
 use Rattle.tlb_lexer.specs.declared.TokenKind.TheVariants.{BinaryTag}
-use Rattle.tlb_lexer.specs.Cut.{PlacedFrom}
+use Rattle.tlb_lexer.specs.Tokenization.{PlacedFrom}
 use Rattle.flat_records.specs.Placed.{AreWithin}
 use Rattle.flat_records.specs.Lexemes.{Lexeme, lexeme, lexeme_of, lexemes}
 use Rattle.flat_records.specs.Form.{tag_text, field_lexemes, declaration_lexemes, AreShapedFields, AreShaped, is_flat, are_apart, type_name_of, Declares}

@@ -2,7 +2,7 @@
 use Rattle.std.specs.Prelude.{ℕ, List, map}
 use Rattle.tlb_lexer.specs.declared.Token.{Token}
 use Rattle.tlb_lexer.specs.declared.TokenKind.{TokenKind}
-use Rattle.tlb_lexer.specs.Cut.{token_bytes}
+use Rattle.tlb_lexer.specs.Tokenization.{token_bytes}
 
 -- a token's kind and its bytes
 pub record Lexeme : Type 0 where

@@ -1,6 +1,6 @@
 //! The form of schema that `read` takes: its declarations, found among the tokens of a text.
 ghost use Rattle.std.specs.Prelude.{◌≡◌, ◌<◌, ◌++◌, ◌∷◌, ℕ, List, length, IfOk, MatchOption, IsTrue, ◌↔◌};
-ghost use Rattle.tlb_lexer.specs.Cut.{PlacedFrom};
+ghost use Rattle.tlb_lexer.specs.Tokenization.{PlacedFrom};
 ghost use Rattle.tlb_lexer.specs.declared.Token.{Token};
 ghost use Rattle.flat_records.specs.Lexemes.{lexemes};
 ghost use Rattle.flat_records.specs.Placed.{AreWithin};

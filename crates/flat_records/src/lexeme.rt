@@ -2,7 +2,7 @@
 ghost use Rattle.std.specs.Prelude.{◌≡◌, ◌==◌, ◌||◌, ◌≤◌, ◌<◌, ◌+◌, ◌-◌, ◌++◌, ◌∷◌, ℕ, List, length, map, decimal, IfOk, MatchOption, IsTrue, ◌↔◌, codes};
 ghost use Rattle.std.specs.List.{list_all};
 ghost use Rattle.std.specs.Char.{is_ascii_digit};
-ghost use Rattle.tlb_lexer.specs.Cut.{token_bytes};
+ghost use Rattle.tlb_lexer.specs.Tokenization.{token_bytes};
 ghost use Rattle.bit_slice.specs.Bits.{AreBits};
 ghost use Rattle.bit_slice.specs.Names.{IsName};
 ghost use Rattle.flat_records.specs.Lexemes.{lexeme, lexeme_of};

@@ -7,8 +7,8 @@ use Rattle.tlb_syntax.specs.declared.tree.Expr.{Expr}
 use Rattle.tlb_syntax.specs.declared.tree.Item.{Item}
 use Rattle.tlb_syntax.specs.View.{constructor, exprs, items}
 use Rattle.tlb_syntax.specs.Tree.{ConstructorView, SchemaView}
-use Rattle.kind_terms.specs.declared.part.Part.{Part}
-use Rattle.kind_terms.specs.declared.part.Part.TheVariants as places
+use Rattle.field_path.specs.declared.part.Part.{Part}
+use Rattle.field_path.specs.declared.part.Part.TheVariants as places
 use Rattle.kind_terms.specs.Params.{inputs}
 use Rattle.kind_terms.specs.Words.{Word}
 use Rattle.kind_terms.specs.Scopes.{Scope, at_end, made_known}
@@ -62,10 +62,10 @@ all_outputs s t c list ps q p r same params pushed follows scope passed j =
 
 -- ---- at the beginning
 
-no_bindings : (types : SchemaView) (known : List Word)
-    → scope_of types [] 0 known ≡ record { types = types; around = []; own = []; known = known }
+no_bindings : (types : SchemaView) (inputs : List Word)
+    → scope_of types [] 0 inputs [] ≡ record { types = types; around = []; own = []; inputs = inputs; known = [] }
 unfolding scope_of
-no_bindings types known = refl
+no_bindings types inputs = refl
 
 nodes_from : ConstructorView → List Part → Scope → List Word → List Judged
 nodes_from c path scope fields =
@@ -77,42 +77,45 @@ unfolding nodes_from
 all_from s c = refl
 
 all_here : (types : SchemaView) (c : ConstructorView)
-    → nodes_from c [] (record { types = types; around = []; own = []; known = inputs c.params }) [] ≡ record_and_outputs types c
+    → nodes_from c [] (record { types = types; around = []; own = []; inputs = inputs c.params; known = [] }) []
+    ≡ record_and_outputs types c
 unfolding nodes_from
 all_here types c = refl
 
 pub all_first : (s : State) (types : SchemaView) (c : ConstructorView) → map constructor s.types.now ≡ types → s.path ≡ [] → s.bindings ≡ []
-    → s.around ≡ 0 → words s.known ≡ inputs c.params → s.fields ≡ [] → all_by s c ≡ record_and_outputs types c
-all_first s types c same path bindings around known fields =
+    → s.around ≡ 0 → words s.inputs.now ≡ inputs c.params → s.known ≡ [] → s.fields ≡ []
+    → all_by s c ≡ record_and_outputs types c
+all_first s types c same path bindings around given known fields =
     all_from s c
     ∙ ap (λ p. nodes_from c (map part_by p) (scope_by s) (words s.fields)) path
     ∙ ap (λ f. nodes_from c [] (scope_by s) (words f)) fields
-    ∙ ap (λ t. nodes_from c [] (scope_of t s.bindings s.around (words s.known)) []) same
-    ∙ ap (λ e. nodes_from c [] (scope_of types e s.around (words s.known)) []) bindings
-    ∙ ap (λ a. nodes_from c [] (scope_of types [] a (words s.known)) []) around
-    ∙ ap (λ k. nodes_from c [] (scope_of types [] 0 k) []) known
+    ∙ ap (λ t. nodes_from c [] (scope_of t s.bindings s.around (words s.inputs.now) (words s.known)) []) same
+    ∙ ap (λ e. nodes_from c [] (scope_of types e s.around (words s.inputs.now) (words s.known)) []) bindings
+    ∙ ap (λ a. nodes_from c [] (scope_of types [] a (words s.inputs.now) (words s.known)) []) around
+    ∙ ap (λ g. nodes_from c [] (scope_of types [] 0 g (words s.known)) []) given
+    ∙ ap (λ k. nodes_from c [] (scope_of types [] 0 (inputs c.params) (words k)) []) known
     ∙ ap (λ x. nodes_from c [] x []) (no_bindings types (inputs c.params))
     ∙ all_here types c
 
 pub all_judged : (s : State) (types : SchemaView) (c : ConstructorView) (p q : List Part) (r : Result (Unit {0}) Fault)
     → map constructor s.types.now ≡ types → s.path ≡ [] → s.bindings ≡ []
-    → s.around ≡ 0 → words s.known ≡ inputs c.params → s.fields ≡ [] → p ≡ q
+    → s.around ≡ 0 → words s.inputs.now ≡ inputs c.params → s.known ≡ [] → s.fields ≡ [] → p ≡ q
     → Judges (all_by s c) p r → Judges (record_and_outputs types c) q r
-all_judged s types c p q r same path bindings around known fields there j =
+all_judged s types c p q r same path bindings around given known fields there j =
     subst (λ x. Judges (record_and_outputs types c) x r) there
-    (judged_from _ _ p r (ap verdict (all_first s types c same path bindings around known fields)) j)
+    (judged_from _ _ p r (ap verdict (all_first s types c same path bindings around given known fields)) j)
 
 -- ---- the whole constructor
 
-pub endings_judged : (types : SchemaView) (c : Constructor) (list : List Item) (q : List Shown) (known : List Word) (p : List Part)
-    (r : Result (Unit {0}) Fault) → list ≡ c.items → q ≡ [] → known ≡ inputs (exprs c.params)
+pub endings_judged : (types : SchemaView) (c : Constructor) (list : List Item) (q : List Shown) (given : List Word) (p : List Part)
+    (r : Result (Unit {0}) Fault) → list ≡ c.items → q ≡ [] → given ≡ inputs (exprs c.params)
     → verdict (record_and_outputs types (constructor c)) ≡ None
-    → Judges (record_endings (items list) types (first_position (map part_by q)) (known ++ made_known types (items list))) p r
+    → Judges (record_endings (items list) types (first_position (map part_by q)) (made_known types given (items list))) p r
     → Judges (constructor_nodes types (constructor c)) p r
-endings_judged types c list q known p r same path inputs_are passed j =
+endings_judged types c list q given p r same path inputs_are passed j =
     passed_then (record_and_outputs types (constructor c)) _ p r passed
     (judged_from _ _ p r
-    (ap (λ x. verdict (record_endings (items x) types (first_position (map part_by q)) (known ++ made_known types (items x)))) same
-    ∙ ap (λ x. verdict (record_endings (items c.items) types (first_position (map part_by x)) (known ++ made_known types (items c.items)))) path
-    ∙ ap (λ x. verdict (record_endings (items c.items) types (first_position []) (x ++ made_known types (items c.items)))) inputs_are)
+    (ap (λ x. verdict (record_endings (items x) types (first_position (map part_by q)) (made_known types given (items x)))) same
+    ∙ ap (λ x. verdict (record_endings (items c.items) types (first_position (map part_by x)) (made_known types given (items c.items)))) path
+    ∙ ap (λ x. verdict (record_endings (items c.items) types (first_position []) (made_known types x (items c.items)))) inputs_are)
     j)

@@ -2,7 +2,7 @@
 use Rattle.std.proofs.Common.{◌≡◌, ap, sym, ◌∙◌, refl, List, [], ◌∷◌, ◌++◌, Bool, true, false, ◌||◌}
 use Rattle.std.specs.Prelude.{Some, None, Ok, Err, if◌then◌else◌, bytes_eq}
 use Rattle.std.proofs.lemmas.List.Folds.{list_any-append}
-use Rattle.kind_terms.specs.declared.part.Part.{Part}
+use Rattle.field_path.specs.declared.part.Part.{Part}
 use Rattle.kind_terms.specs.Words.{Word, is_among}
 use Rattle.kind_declarations.specs.declared.error.Cause.TheVariants.{TwiceNamed}
 use Rattle.kind_declarations.specs.declared.error.Fault.TheVariants.{Refused}

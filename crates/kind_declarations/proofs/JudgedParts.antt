@@ -1,7 +1,7 @@
 -- Nodes judged part by part.
 use Rattle.std.proofs.Common.{◌≡◌, ◌∙◌, ap, sym, subst}
 use Rattle.std.specs.Prelude.{List, ◌∷◌, ◌++◌, map, Some, None, Result, Err, IsErrAnd}
-use Rattle.kind_terms.specs.declared.part.Part.{Part}
+use Rattle.field_path.specs.declared.part.Part.{Part}
 use Rattle.kind_declarations.specs.declared.error.Cause.{Cause}
 use Rattle.kind_declarations.specs.declared.error.Fault.{Fault}
 use Rattle.kind_terms.specs.declared.shown.Shown.{Shown}

@@ -6,7 +6,7 @@ use Rattle.tlb_syntax.specs.declared.tree.Item.{Item}
 use Rattle.tlb_syntax.specs.declared.tree.Expr.TheVariants.{Lit, Named, Nat32, Bits, Below, UpTo, Star, Out, Ref, Group}
 use Rattle.tlb_syntax.specs.View.{expr, exprs}
 use Rattle.tlb_syntax.specs.Tree.{ExprView, ExprList, lit, named, nat32, bits, below, up_to, plus, star, out, ref, group, no_exprs, an_expr}
-use Rattle.kind_terms.specs.declared.part.Part.{Part}
+use Rattle.field_path.specs.declared.part.Part.{Part}
 use Rattle.kind_terms.specs.Words.{Word}
 use Rattle.kind_terms.specs.Params.{greatest}
 use Rattle.kind_declarations.specs.declared.error.Fault.{Fault}

@@ -15,16 +15,16 @@ use Rattle.kind_rules.specs.ExpectedKinds.{a_number}
 use Rattle.tlb_syntax.specs.Limits.{AreExprs, AreItems, IsExpr, IsItem, item_count}
 use Rattle.tlb_syntax.specs.View.{constructor, expr, exprs, field_type, item, items}
 use Rattle.tlb_syntax.specs.Tree.{an_expr, explicit, ItemList, ItemView, SchemaView}
-use Rattle.kind_terms.specs.declared.part.Part.{Part}
+use Rattle.field_path.specs.declared.part.Part.{Part}
 use Rattle.kind_terms.specs.declared.kind.TermKind.{TermKind}
 use Rattle.kind_terms.specs.declared.scope.Binding.{Binding as ProgramBinding}
 use Rattle.kind_terms.specs.Words.{Word}
 use Rattle.kind_terms.specs.Views.{binding_of}
-use Rattle.kind_terms.specs.Scopes.{at_end, after, inside, declares, given_out, makes_known, field_names}
+use Rattle.kind_terms.specs.Scopes.{Binding, Scope, at_end, after, inside, declares, given_out, makes_known, field_names}
 use Rattle.kind_declarations.specs.declared.error.Fault.{Fault}
 use Rattle.kind_declarations.specs.declared.row.Row.{Row}
 use Rattle.kind_declarations.specs.declared.scope.Scope.{Scope as State}
-use Rattle.kind_declarations.specs.Nodes.{Judged, arg_nodes, at, expr_nodes, first_inside, item_nodes, expected_argument, name_at, next, record_nodes, type_nodes}
+use Rattle.kind_declarations.specs.Nodes.{Judged, RecordContext, arg_nodes, at, expr_nodes, first_inside, item_nodes, expected_argument, name_at, next, record_nodes, type_nodes}
 use Rattle.kind_terms.specs.Positions.{is_unnamed}
 use Rattle.kind_declarations.specs.Faults.{Judges, verdict}
 use Rattle.kind_declarations.specs.Views.{Follows, HasNamed, item_context, after_name, first_by, path_by, record_context, scope_by, scope_of, words}
@@ -172,32 +172,39 @@ around_follows s t f h = omega (arith, ap (λ (v : State). v.around) f.same, fro
 
 -- ---- the first item of a record inside
 
-bindings_inside : (types : SchemaView) (es : List ProgramBinding) (a : ℕ) (known : List Word)
-    → scope_of types es (length es) known ≡ inside (scope_of types es a known)
+bindings_inside : (types : SchemaView) (es : List ProgramBinding) (a : ℕ) (inputs known : List Word)
+    → scope_of types es (length es) [] known ≡ inside (scope_of types es a inputs known)
 unfolding scope_of
-bindings_inside types es a known =
-    ap (λ xs. record { types = types; around = map binding_of xs; own = map binding_of (drop (length es) es); known = known }) (take-length es)
-    ∙ ap (λ xs. record { types = types; around = map binding_of es; own = map binding_of xs; known = known }) (drop-length es)
-    ∙ ap (λ xs. record { types = types; around = xs; own = []; known = known })
+bindings_inside types es a inputs known =
+    let seen : List Binding → List Binding → Scope = λ xs ys.
+    record { types = types; around = xs; own = ys; inputs = []; known = known } in
+    ap (λ xs. seen (map binding_of xs) (map binding_of (drop (length es) es))) (take-length es)
+    ∙ ap (λ xs. seen (map binding_of es) (map binding_of xs)) (drop-length es)
+    ∙ ap (λ xs. seen xs [])
     (sym (ap (map binding_of) (take-append-drop a es)) ∙ map-append binding_of (take a es) (drop a es))
 
-pub first_of_inner : (s : State) (n : ℕ) → n ≡ length s.bindings → first_by (record s { around = n }) ≡ first_inside (item_context s)
-first_of_inner s n is =
-    ap (λ k. first_by (record s { around = k })) is
-    ∙ ap (λ c. record { place = (first_by s).place; scope = c; fields = words s.fields; inner = [] })
-    (bindings_inside (map constructor s.types.now) s.bindings s.around (words s.known))
+pub first_of_inner : (s : State) (n : ℕ) (none : Bor (List (Bor Word))) → n ≡ length s.bindings → none.now ≡ []
+    → first_by (record s { around = n; inputs = none }) ≡ first_inside (item_context s)
+first_of_inner s n none is empty =
+    let first : Scope → RecordContext = λ c. record { place = (first_by s).place; scope = c; fields = words s.fields; inner = [] } in
+    let types = map constructor s.types.now in
+    ap (λ k. first (scope_of types s.bindings k (words none.now) (words s.known))) is
+    ∙ ap (λ g. first (scope_of types s.bindings (length s.bindings) (words g) (words s.known))) empty
+    ∙ ap first (bindings_inside types s.bindings s.around (words s.inputs.now) (words s.known))
 
 -- ---- after an item
 
-pub after_seen : (types : SchemaView) (es xs : List ProgramBinding) (a : ℕ) (known more : List Word) (i : ItemView)
-    → a ≤ length es → map binding_of xs ≡ declares i → more ≡ known ++ makes_known types i
-    → scope_of types (es ++ xs) a more ≡ after (scope_of types es a known) i
+pub after_seen : (types : SchemaView) (es xs : List ProgramBinding) (a : ℕ) (inputs known more : List Word) (i : ItemView)
+    → a ≤ length es → map binding_of xs ≡ declares i → more ≡ known ++ makes_known types inputs i
+    → scope_of types (es ++ xs) a inputs more ≡ after (scope_of types es a inputs known) i
 unfolding scope_of
-after_seen types es xs a known more i h own new =
-    ap (λ ys. record { types = types; around = map binding_of ys; own = map binding_of (drop a (es ++ xs)); known = more }) (take-append-le a es xs h)
-    ∙ ap (λ ys. record { types = types; around = map binding_of (take a es); own = ys; known = more })
+after_seen types es xs a inputs known more i h own new =
+    let seen : List Binding → List Binding → List Word → Scope = λ around here now.
+    record { types = types; around = around; own = here; inputs = inputs; known = now } in
+    ap (λ ys. seen (map binding_of ys) (map binding_of (drop a (es ++ xs))) more) (take-append-le a es xs h)
+    ∙ ap (λ ys. seen (map binding_of (take a es)) ys more)
     (ap (map binding_of) (drop-append-le a es xs h) ∙ map-append binding_of (drop a es) xs ∙ ap (λ z. map binding_of (drop a es) ++ z) own)
-    ∙ ap (λ ys. record { types = types; around = map binding_of (take a es); own = map binding_of (drop a es) ++ declares i; known = ys }) new
+    ∙ ap (seen (map binding_of (take a es)) (map binding_of (drop a es) ++ declares i)) new
 
 -- ---- after the name of an item
 
@@ -235,9 +242,12 @@ pub on_ok_always : {E : Type 0} {P : Type 0} (r : Result (Unit {0}) E) → P →
 on_ok_always (Ok u) h = h
 on_ok_always (Err e) h = tt
 
-pub inner_judged : (s : State) (n : ℕ) (is : ItemList) (p : List Part) (r : Result (Unit {0}) Fault) → n ≡ length s.bindings
-    → Judges (record_nodes is (first_by (record s { around = n }))) p r → Judges (record_nodes is (first_inside (item_context s))) p r
-inner_judged s n is p r len j = judged_from _ _ p r (ap (λ h. verdict (record_nodes is h)) (first_of_inner s n len)) j
+pub inner_judged : (s : State) (n : ℕ) (none : Bor (List (Bor Word))) (is : ItemList) (p : List Part) (r : Result (Unit {0}) Fault)
+    → n ≡ length s.bindings → none.now ≡ []
+    → Judges (record_nodes is (first_by (record s { around = n; inputs = none }))) p r
+    → Judges (record_nodes is (first_inside (item_context s))) p r
+inner_judged s n none is p r len empty j =
+    judged_from _ _ p r (ap (λ h. verdict (record_nodes is h)) (first_of_inner s n none len empty)) j
 
 -- ---- one item
 
@@ -305,11 +315,11 @@ explicit_passed s m i x n t others p r is some added h j =
 abbrev pub IsAdded : List ProgramBinding → List ProgramBinding → ItemView → Type 0
 IsAdded es more i = (xs : List ProgramBinding) × (more ≡ es ++ xs) × (map binding_of xs ≡ declares i)
 
-pub added_scope : (types : SchemaView) (es more : List ProgramBinding) (a : ℕ) (known new : List Word) (i : ItemView)
-    → a ≤ length es → IsAdded es more i → new ≡ known ++ makes_known types i
-    → scope_of types more a new ≡ after (scope_of types es a known) i
-added_scope types es more a known new i h added is =
-    ap (λ z. scope_of types z a new) added.1 ∙ after_seen types es added.0 a known new i h added.2 is
+pub added_scope : (types : SchemaView) (es more : List ProgramBinding) (a : ℕ) (inputs known new : List Word) (i : ItemView)
+    → a ≤ length es → IsAdded es more i → new ≡ known ++ makes_known types inputs i
+    → scope_of types more a inputs new ≡ after (scope_of types es a inputs known) i
+added_scope types es more a inputs known new i h added is =
+    ap (λ z. scope_of types z a inputs new) added.1 ∙ after_seen types es added.0 a inputs known new i h added.2 is
 
 pub added_front : (es more : List ProgramBinding) (i : ItemView) → IsAdded es more i → take (length es) more ≡ es
 added_front es more i added = ap (take (length es)) added.1 ∙ take-append_seam es added.0

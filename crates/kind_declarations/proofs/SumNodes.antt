@@ -8,7 +8,7 @@ use Rattle.tlb_syntax.specs.View.{expr, exprs}
 use Rattle.kind_terms.specs.ViewLaws.{seen_sum}
 use Rattle.tlb_syntax.specs.Tree.{ExprView, lit, plus, exprs_of, nested, sum_of}
 use Rattle.kind_terms.specs.Closed.{closed, exceeds}
-use Rattle.kind_terms.specs.declared.part.Part.{Part}
+use Rattle.field_path.specs.declared.part.Part.{Part}
 use Rattle.kind_terms.specs.Params.{greatest}
 use Rattle.kind_terms.specs.Scopes.{Scope}
 use Rattle.kind_terms.specs.Words.{Word}

@@ -1,7 +1,7 @@
 -- What the code that judges implicit fields works with.
 use Rattle.std.specs.Prelude.{ℕ, List, ◌++◌}
 use Rattle.tlb_syntax.specs.Tree.{ItemView, SchemaView}
-use Rattle.kind_terms.specs.declared.part.Part.{Part}
+use Rattle.field_path.specs.declared.part.Part.{Part}
 use Rattle.kind_terms.specs.Words.{Word}
 use Rattle.kind_declarations.specs.Nodes.{Judged, ending_at, item_endings}
 use Rattle.kind_terms.specs.Positions.{ItemPosition, path_at}

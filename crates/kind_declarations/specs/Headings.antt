@@ -3,8 +3,9 @@ use Rattle.std.specs.Prelude.{ℕ, ◌&&◌, ◌||◌, not, List, Bool, true, fa
 use Rattle.std.specs.Prelude.{slice_get, nat_lt}
 use Rattle.std.specs.List.{list_any}
 use Rattle.tlb_syntax.specs.Tree.{ExprView, ExprList, ConstructorView, SchemaView}
-use Rattle.kind_terms.specs.Words.{Word, is_among, is_built_in, x_alone}
-use Rattle.kind_terms.specs.Dictionaries.{is_dictionary, is_allowed}
+use Rattle.kind_terms.specs.Words.{Word, is_among, x_alone}
+use Rattle.kind_terms.specs.Classes.{is_built_in, is_dictionary}
+use Rattle.kind_terms.specs.Dictionaries.{is_allowed}
 use Rattle.kind_terms.specs.declared.kind.TermKind.{TermKind}
 use Rattle.kind_terms.specs.Params.{kind_of, has_kind, is_same_kind, variable_of, inputs}
 use Rattle.kind_terms.specs.Types.{count, first_kinds}

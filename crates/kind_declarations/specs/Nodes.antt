@@ -4,8 +4,8 @@ use Rattle.std.specs.Prelude.{if◌then◌else◌}
 use Rattle.tlb_syntax.specs.Tree.{ExprView, ExprList, ItemView, ItemList, TypeView, ConstructorView, SchemaView, lit}
 use Rattle.tlb_syntax.specs.Tree.{named, nat32, bits, below, up_to, plus, star, out, ref, group, no_exprs, an_expr}
 use Rattle.tlb_syntax.specs.Tree.{plain, when, when_bit, implicit, check, explicit, no_items, an_item}
-use Rattle.kind_terms.specs.declared.part.Part.{Part}
-use Rattle.kind_terms.specs.declared.part.Part.TheVariants as places
+use Rattle.field_path.specs.declared.part.Part.{Part}
+use Rattle.field_path.specs.declared.part.Part.TheVariants as places
 use Rattle.kind_terms.specs.Positions.{ItemPosition, first_position, next_position, path_at}
 use Rattle.kind_terms.specs.Words.{Word}
 use Rattle.kind_terms.specs.declared.kind.TermKind.{TermKind}
@@ -75,11 +75,11 @@ next h i = record {
   inner = h.inner ++ names_inside i;
 }
 
--- the items of a constructor, whose inputs are known from the start
+-- the items of a constructor, to which its inputs belong
 abbrev pub first : SchemaView → ConstructorView → RecordContext
 first types c = record {
   place = first_position [];
-  scope = record { types = types; around = []; own = []; known = inputs c.params };
+  scope = record { types = types; around = []; own = []; inputs = inputs c.params; known = [] };
   fields = [];
   inner = [];
 }
@@ -199,7 +199,7 @@ abbrev mutual
   expr_endings (star x y) types path = expr_endings x types path ++ expr_endings y types path
   expr_endings (out e) types path = expr_endings e types path
   expr_endings (ref e) types path = expr_endings e types path
-  expr_endings (group is) types path = record_endings is types (first_position path) (made_known types is)
+  expr_endings (group is) types path = record_endings is types (first_position path) (made_known types [] is)
 
   pub arg_endings : ExprList → SchemaView → List Part → List Judged
   arg_endings no_exprs types path = []
@@ -270,4 +270,4 @@ record_and_outputs types c = record_nodes c.items (first types c) ++ output_node
 abbrev pub constructor_nodes : SchemaView → ConstructorView → List Judged
 constructor_nodes types c =
     record_and_outputs types c
-    ++ record_endings c.items types (first_position []) (inputs c.params ++ made_known types c.items)
+    ++ record_endings c.items types (first_position []) (made_known types (inputs c.params) c.items)

@@ -1,8 +1,8 @@
 -- What the program's values stand for.
 use Rattle.std.specs.Prelude.{◌≡◌, ℕ, List, [], ◌∷◌, ◌++◌, length, map, take, drop}
 use Rattle.std.specs.Borrow.{Bor}
-use Rattle.kind_terms.specs.declared.part.Part.{Part}
-use Rattle.kind_terms.specs.declared.part.Part.TheVariants as places
+use Rattle.field_path.specs.declared.part.Part.{Part}
+use Rattle.field_path.specs.declared.part.Part.TheVariants as places
 use Rattle.kind_terms.specs.Words.{Word}
 use Rattle.kind_rules.specs.ExpectedKinds.{Expected, Use}
 use Rattle.kind_terms.specs.Positions.{first_position}
@@ -16,11 +16,12 @@ use Rattle.kind_declarations.specs.declared.row.Row.{Row}
 use Rattle.kind_declarations.specs.declared.scope.Scope.{Scope as State}
 
 -- What is seen with these bindings, of which so many are of the records around.
-unfoldable pub scope_of : SchemaView → List ProgramBinding → ℕ → List Word → Scope
-scope_of types bindings around known = record {
+unfoldable pub scope_of : SchemaView → List ProgramBinding → ℕ → List Word → List Word → Scope
+scope_of types bindings around inputs known = record {
   types = types;
   around = map binding_of (take around bindings);
   own = map binding_of (drop around bindings);
+  inputs = inputs;
   known = known;
 }
 
@@ -28,7 +29,7 @@ abbrev pub words : List (Bor Word) → List Word
 words xs = map (λ x. x.now) xs
 
 abbrev pub scope_by : State → Scope
-scope_by s = scope_of (map constructor s.types.now) s.bindings s.around (words s.known)
+scope_by s = scope_of (map constructor s.types.now) s.bindings s.around (words s.inputs.now) (words s.known)
 
 abbrev pub path_by : State → List Part
 path_by s = map part_by s.path

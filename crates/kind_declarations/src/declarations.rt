@@ -27,6 +27,12 @@ pub fn judge_constructor<'a>(
         (map part_by path.new) result }
 {
     judge_record(alloc, types, constructor, path)?;
-    let known = inputs(alloc, constructor)?;
-    judge_endings(alloc, types, constructor.items.as_slice(), known, path)
+    let inputs = inputs(alloc, constructor)?;
+    judge_endings(
+        alloc,
+        types,
+        constructor.items.as_slice(),
+        inputs.as_slice(),
+        path,
+    )
 }

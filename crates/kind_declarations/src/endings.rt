@@ -18,20 +18,20 @@ use sqlite_items::Items;
 use std::alloc::{AllocError, Global};
 use tlb_syntax::{Expr, FieldType, Item};
 
-// What is known at the end of a record: these variables, and those that its items make known.
+// What the items of a record make known, to which these inputs belong.
 fn known_at_end<'a>(
+    alloc: Global,
     types: &Types<'_>,
+    inputs: &[&Name],
     items: &'a [Item],
-    inputs: Items<&'a Name>,
 ) -> Result<Items<&'a Name>, AllocError>
     ensures { IfOk result
         (λ known. map (λ n. n.now) known
-        ≡ map (λ n. n.now) inputs.entry
-        ++ made_known (map view_spec.constructor types.now) (view_spec.items items.now)) }
+        ≡ made_known (map view_spec.constructor types.now) (map (λ n. n.now) inputs.now) (view_spec.items items.now)) }
 {
-    let mut known = inputs;
+    let mut known = Items::new(alloc);
     for item in items {
-        add_known(types, item, &mut known)?;
+        add_known(types, inputs, item, &mut known)?;
     }
     Ok(known)
 }
@@ -48,14 +48,14 @@ fn unnamed_after(item: &Item, unnamed: u32) -> u32
     }
 }
 
-/// The first implicit field of a record, and of the records in it, that is known neither from the start nor by an
-/// item of its own record, is refused; the path leads to it then.
+/// The first implicit field of a record, and of the records in it, that is neither one of the inputs that belong to the
+/// record nor known by another item of it, is refused; the path leads to it then.
 #[cycle(ending)]
 pub fn judge_endings<'a>(
     alloc: Global,
     types: &Types<'a>,
     items: &'a [Item],
-    inputs: Items<&'a Name>,
+    inputs: &[&'a Name],
     path: &mut Items<Shown<'a>>,
 ) -> Result<(), Fault>
     requires bounded { item_count (view_spec.items items.now) ≤ 255 }
@@ -63,11 +63,11 @@ pub fn judge_endings<'a>(
     ensures judged { Judges
         (record_endings (view_spec.items items.now) (map view_spec.constructor types.now)
         (first_position (map part_by path.old))
-        (map (λ n. n.now) inputs.entry ++ made_known (map view_spec.constructor types.now) (view_spec.items items.now)))
+        (made_known (map view_spec.constructor types.now) (map (λ n. n.now) inputs.now) (view_spec.items items.now)))
         (map part_by path.new) result }
     ensures kept { OnOk result (path.new ≡ path.old) }
 {
-    let known = known_at_end(types, items, inputs)?;
+    let known = known_at_end(alloc, types, inputs, items)?;
     judge_items(alloc, types, items, known.as_slice(), path)
 }
 
@@ -204,13 +204,7 @@ fn endings_in<'a>(
             endings_in(alloc, types, right.get(), path)
         }
         Expr::Out(inner) | Expr::Ref(inner) => endings_in(alloc, types, inner.get(), path),
-        Expr::Group(items) => judge_endings(
-            alloc,
-            types,
-            items.as_slice(),
-            Items::new(alloc),
-            path,
-        ),
+        Expr::Group(items) => judge_endings(alloc, types, items.as_slice(), &[], path),
     }
 }
 

@@ -43,6 +43,13 @@ fn kinds_of(named: TypeNamed<'_>) -> &[TermKind]
     }
 }
 
+// The inputs that belong to a record inside.
+fn no_inputs<'t, 'a>() -> &'t [&'a Name]
+    ensures { result.now ≡ [] }
+{
+    &[]
+}
+
 impl<'a, 't> Scope<'a, 't> {
     // The parameters of the type that a name is, with arguments or without.
     #[tactic(auto, using(crate::proofs::ScopeViews::types_seen))]
@@ -234,7 +241,7 @@ impl<'a, 't> Scope<'a, 't> {
         ensures scope { OnOk result (scope_by self.new ≡ after (scope_by self.old) (item_view item.now)) }
     {
         add_binding(item, &mut self.bindings)?;
-        add_known(self.types, item, &mut self.known)?;
+        add_known(self.types, self.inputs, item, &mut self.known)?;
         Ok(())
     }
 
@@ -265,12 +272,15 @@ impl<'a, 't> Scope<'a, 't> {
         ensures kept { OnOk result (self.new ≡ self.old) }
     {
         let around = self.around;
+        let inputs = self.inputs;
         let bindings = self.bindings.len();
         let known = self.known.len();
         let fields = self.fields.len();
         self.around = bindings;
+        self.inputs = no_inputs();
         self.judge_items(list)?;
         self.around = around;
+        self.inputs = inputs;
         keep_first(&mut self.bindings, bindings);
         keep_first(&mut self.known, known);
         keep_first(&mut self.fields, fields);

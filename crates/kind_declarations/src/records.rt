@@ -74,8 +74,8 @@ pub fn judge_record<'a, 't>(
         (map part_by path.new) result }
     ensures kept { OnOk result (path.new ≡ []) }
 {
-    let known = inputs(alloc, constructor)?;
-    let mut scope = Scope::new(alloc, types, known);
+    let inputs = inputs(alloc, constructor)?;
+    let mut scope = Scope::new(alloc, types, inputs.as_slice());
     let judged = scope.judge_all(constructor);
     std::mem::swap(path, &mut scope.path);
     judged

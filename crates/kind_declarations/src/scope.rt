@@ -8,7 +8,8 @@ ghost use Rattle.kind_terms.specs.Scopes.{in_scope, is_implicit_number};
 ghost use Rattle.kind_terms.specs.Scopes as scopes_spec;
 ghost use Rattle.kind_terms.specs.Types.{type_named};
 ghost use Rattle.kind_terms.specs.Views.{named_by};
-ghost use Rattle.kind_rules.specs.ExpectedKinds.{as_type, type_unless, meaning_by};
+ghost use Rattle.kind_rules.specs.ExpectedKinds.{as_type, meaning_by};
+ghost use Rattle.kind_rules.specs.NameLaws.{type_unless};
 ghost use Rattle.kind_rules.specs.Numbers.{is_variable_in, holds_variable as holds_variable_in};
 ghost use Rattle.kind_declarations.specs.Views.{scope_by};
 
@@ -28,6 +29,9 @@ pub struct Scope<'a, 't> {
     pub bindings: Items<Binding<'a>>,
     /// How many of them are of the records around.
     pub around: usize,
+    /// The inputs that belong to the record: those of a constructor belong to no record in it.
+    pub inputs: &'t [&'a Name],
+    /// The variables in scope that are known.
     pub known: Items<&'a Name>,
     /// The fields so far of the record and of those around it.
     pub fields: Items<&'a Name>,
@@ -40,8 +44,8 @@ fn is_implicit(meaning: Option<Meaning>) -> bool
 }
 
 impl<'a, 't> Scope<'a, 't> {
-    /// The first item of a constructor, of which the inputs are known from the start.
-    pub fn new(alloc: Global, types: &'t Types<'a>, inputs: Items<&'a Name>) -> Scope<'a, 't>
+    /// The first item of a constructor with these inputs.
+    pub fn new(alloc: Global, types: &'t Types<'a>, inputs: &'t [&'a Name]) -> Scope<'a, 't>
         ensures { result
             ≡ record {
               alloc = alloc;
@@ -49,7 +53,8 @@ impl<'a, 't> Scope<'a, 't> {
               path = [];
               bindings = [];
               around = 0;
-              known = inputs.entry;
+              inputs = inputs.entry;
+              known = [];
               fields = [];
             } }
     {
@@ -59,7 +64,8 @@ impl<'a, 't> Scope<'a, 't> {
             path: Items::new(alloc),
             bindings: Items::new(alloc),
             around: 0,
-            known: inputs,
+            inputs,
+            known: Items::new(alloc),
             fields: Items::new(alloc),
         }
     }

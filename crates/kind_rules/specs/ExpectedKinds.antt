@@ -1,14 +1,15 @@
 -- What is expected where an expression stands.
-use Rattle.std.specs.Prelude.{ℕ, ◌&&◌, not, List, Bool, true, false, Option, Some, None, is_some, if◌then◌else◌}
-use Rattle.tlb_syntax.specs.Tree.{ExprView, ExprList, lit, named, nat32, bits, below, up_to, plus, star, out, ref}
+use Rattle.std.specs.Prelude.{ℕ, List, Bool, true, false, Option, Some, None, is_some, if◌then◌else◌}
+use Rattle.tlb_syntax.specs.Tree.{ExprView, ExprList, SchemaView, lit, named, nat32, bits, below, up_to, plus, star, out, ref}
 use Rattle.tlb_syntax.specs.Tree.{group, no_exprs}
 use Rattle.kind_rules.specs.declared.expected.TypePosition.{TypePosition}
 use Rattle.kind_rules.specs.declared.expected.TypePosition.TheVariants.{Whole, Conditional, FieldRef, UnderRef, Inner}
 use Rattle.kind_terms.specs.declared.scope.Meaning.{Meaning}
 use Rattle.kind_terms.specs.Words.{Word}
 use Rattle.kind_terms.specs.Params.{bare_name}
-use Rattle.kind_terms.specs.Types.{TypeNamed, type_named, has_exprs}
-use Rattle.kind_terms.specs.Scopes.{Scope, in_scope, meaning_of}
+use Rattle.kind_terms.specs.Classes.{NameClass, of_scope, of_word, name_class}
+use Rattle.kind_terms.specs.Types.{TypeNamed, type_of_class, has_exprs}
+use Rattle.kind_terms.specs.Scopes.{Scope, meaning_of}
 
 pub data Expected : Type 0 where
   -- a number, which without variables is at most so much; of an equation that seeks a variable, or of none
@@ -56,13 +57,17 @@ used (a_type w) e = e
 used (a_number n q) e = operand e
 used (an_output before) e = operand e
 
+-- what a name with these arguments is where it stands
+abbrev pub class_at : Scope → Word → ExprList → NameClass Meaning
+class_at s x es = name_class (meaning_of s x) x (has_exprs es)
+
 -- A name is used as a type unless it stands alone and is in scope.
-abbrev pub type_unless : Bool → TypeNamed → Option TypeNamed
-type_unless true t = None
-type_unless false t = Some t
+abbrev pub type_in_class : SchemaView → Word → Bool → NameClass Meaning → Option TypeNamed
+type_in_class types x has_arguments (of_scope m) = None
+type_in_class types x has_arguments (of_word w) = Some (type_of_class types x has_arguments w)
 
 abbrev pub as_type : Scope → ExprView → Option TypeNamed
-as_type s (named x es) = type_unless (not (has_exprs es) && in_scope s x) (type_named s.types x (has_exprs es))
+as_type s (named x es) = type_in_class s.types x (has_exprs es) (class_at s x es)
 as_type s (lit n) = None
 as_type s nat32 = None
 as_type s (bits es) = None

@@ -23,8 +23,7 @@ is_unknown_variable u (Some x) = is_expected_variable u.expected u.scope x && no
 abbrev pub is_used_unknown : Use → Bool
 is_used_unknown u = is_unknown_variable u (bare_name u.at)
 
--- An implicit field, and the variables that the items of its record make known, with the inputs in the constructor's
--- own.
+-- An implicit field, and the variables that the items of its record make known.
 pub record Ending : Type 0 where
   pub name : Word
   pub known : List Word

@@ -1,4 +1,6 @@
 pub mod ExpectedKinds
+pub mod NameLaws
+pub mod Laws
 pub mod Names
 pub mod Numbers
 pub mod Widths

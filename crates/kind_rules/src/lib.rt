@@ -2,6 +2,7 @@
 #![tactic(auto)]
 
 mod expected;
+pub mod laws;
 mod names;
 mod rules;
 mod sums;

@@ -3,7 +3,8 @@
 use Rattle.std.specs.Prelude.{ℕ, ◌*◌, ◌==◌, List, [], ◌∷◌, Bool, false, Option, Some, None, nat_lt}
 use Rattle.nat_solver.specs.Number.{exact_sum}
 use Rattle.tlb_syntax.specs.Tree.{ExprView, lit, named, nat32, bits, below, up_to, plus, star, out, ref, group}
-use Rattle.kind_terms.specs.Words.{Word, Family, width_in}
+use Rattle.kind_terms.specs.declared.words.Family.{Family}
+use Rattle.kind_terms.specs.Words.{Word, widest, width_in}
 
 abbrev pub exact_product : Option ℕ → Option ℕ → Option ℕ
 exact_product (Some m) (Some n) = Some (m * n)
@@ -40,4 +41,4 @@ is_zero (Some n) = n == 0
 
 -- the name is that of the family with a width beyond its greatest
 abbrev pub is_wide_in : Word → Family → Bool
-is_wide_in x f = exceeds f.most (width_in f x)
+is_wide_in x f = exceeds (widest f) (width_in f x)

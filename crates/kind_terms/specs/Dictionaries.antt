@@ -3,17 +3,9 @@
 use Rattle.std.specs.Prelude.{ℕ, List, [], ◌∷◌, ◌++◌, Bool, false, not, Option, Some, None, codes, bytes_eq, slice_get}
 use Rattle.std.specs.Prelude.{length, filter, if◌then◌else◌}
 use Rattle.tlb_syntax.specs.Tree.{ConstructorView, SchemaView}
-use Rattle.kind_terms.specs.Words.{Word, is_among}
+use Rattle.kind_terms.specs.Words.{Word, hashmap, hashmap_e, hashmap_node}
+use Rattle.kind_terms.specs.Classes.{is_dictionary}
 use Rattle.tlb_syntax.specs.Text.{constructor_text}
-
-abbrev pub hashmap : Word
-hashmap = codes "Hashmap"
-
-abbrev pub hashmap_node : Word
-hashmap_node = codes "HashmapNode"
-
-abbrev pub hashmap_e : Word
-hashmap_e = codes "HashmapE"
 
 abbrev pub hashmap_lines : List (List ℕ)
 hashmap_lines =
@@ -29,9 +21,6 @@ abbrev pub hashmap_e_lines : List (List ℕ)
 hashmap_e_lines =
     codes "hme_empty$0 {n:#} {X:Type} = HashmapE n X"
     ∷ codes "hme_root$1 {n:#} {X:Type} root:^(Hashmap n X) = HashmapE n X" ∷ []
-
-abbrev pub is_dictionary : Word → Bool
-is_dictionary x = is_among (hashmap ∷ hashmap_node ∷ hashmap_e ∷ []) x
 
 -- the canonical texts of the declarations of such a type
 abbrev pub lines_of : Word → List (List ℕ)

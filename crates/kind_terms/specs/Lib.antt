@@ -1,4 +1,6 @@
 pub mod Words
+pub mod Classes
+pub mod Laws
 pub mod Dictionaries
 pub mod Params
 pub mod Types

@@ -3,8 +3,8 @@
 use Rattle.std.specs.Prelude.{ℕ, ◌+◌, ◌==◌, List, [], ◌∷◌, ◌++◌, Bool, true, false, Option, Some, None, codes, decimal}
 use Rattle.std.specs.Prelude.{if◌then◌else◌}
 use Rattle.tlb_syntax.specs.Tree.{ItemView, implicit, check, explicit}
-use Rattle.kind_terms.specs.declared.part.Part.{Part}
-use Rattle.kind_terms.specs.declared.part.Part.TheVariants as places
+use Rattle.field_path.specs.declared.part.Part.{Part}
+use Rattle.field_path.specs.declared.part.Part.TheVariants as places
 use Rattle.kind_terms.specs.Words.{Word}
 
 -- the name that the k-th unnamed field of a record is shown by

@@ -87,16 +87,21 @@ type_outputs types (plain e) = outputs_of types e
 type_outputs types (when c e) = []
 type_outputs types (when_bit c k e) = []
 
--- An explicit number field is known after itself, an output after its field, the unknown of an equation after it.
-abbrev pub makes_known : SchemaView → ItemView → List Word
-makes_known types (implicit x k) = []
-makes_known types (check a op b) = option_list (sought a op b)
-makes_known types (explicit x t) = own_number (is_field_of_numbers t) x ++ type_outputs types t
+-- the name, where it is that of an input
+abbrev pub if_input : List Word → Word → List Word
+if_input inputs x = if is_among inputs x then x ∷ [] else []
+
+-- What an item of a record makes known, to which these inputs belong: an implicit field of an input is known after
+-- itself, and so is an explicit number field; an output after its field; the unknown of an equation after it.
+abbrev pub makes_known : SchemaView → List Word → ItemView → List Word
+makes_known types inputs (implicit x k) = if_input inputs x
+makes_known types inputs (check a op b) = option_list (sought a op b)
+makes_known types inputs (explicit x t) = own_number (is_field_of_numbers t) x ++ type_outputs types t
 
 -- what the items of a record make known
-abbrev pub made_known : SchemaView → ItemList → List Word
-made_known types no_items = []
-made_known types (an_item i is) = makes_known types i ++ made_known types is
+abbrev pub made_known : SchemaView → List Word → ItemList → List Word
+made_known types inputs no_items = []
+made_known types inputs (an_item i is) = makes_known types inputs i ++ made_known types inputs is
 
 -- ---- scopes
 
@@ -108,12 +113,14 @@ pub record Scope : Type 0 where
   pub around : List Binding
   -- the names in scope of the same record
   pub own : List Binding
-  -- the variables that are known
+  -- the inputs that belong to the same record: those of a constructor belong to its own record, and to no record in it
+  pub inputs : List Word
+  -- the variables in scope that are known
   pub known : List Word
 
 -- after an item
 abbrev pub after : Scope → ItemView → Scope
-after s i = record s { own = s.own ++ declares i; known = s.known ++ makes_known s.types i }
+after s i = record s { own = s.own ++ declares i; known = s.known ++ makes_known s.types s.inputs i }
 
 -- after all items of a record
 abbrev pub at_end : Scope → ItemList → Scope
@@ -122,7 +129,7 @@ at_end s (an_item i is) = at_end (after s i) is
 
 -- at the beginning of a record inside
 abbrev pub inside : Scope → Scope
-inside s = record s { around = s.around ++ s.own; own = [] }
+inside s = record s { around = s.around ++ s.own; own = []; inputs = [] }
 
 -- what the first binding of that name stands for
 abbrev pub meaning_in : List Binding → Word → Option Meaning

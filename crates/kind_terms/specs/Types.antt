@@ -1,10 +1,14 @@
 -- What a name is as a type.
 -- Source: the TON documentation on TL-B (built-in types), and this project's rules.
-use Rattle.std.specs.Prelude.{ℕ, suc, List, [], ◌∷◌, Bool, true, false, Option, Some, None, find, codes, bytes_eq}
-use Rattle.std.specs.Prelude.{if◌then◌else◌}
+use Rattle.std.specs.Prelude.{ℕ, suc, List, [], ◌∷◌, Bool, true, false, Option, Some, None}
 use Rattle.tlb_syntax.specs.Tree.{SchemaView, ExprList, no_exprs, an_expr}
-use Rattle.kind_terms.specs.Words.{Word, Family, families, is_among, has_width}
-use Rattle.kind_terms.specs.Dictionaries.{hashmap, hashmap_e, of_type}
+use Rattle.kind_terms.specs.declared.words.Family.{Family}
+use Rattle.kind_terms.specs.declared.words.WordClass.{WordClass}
+use Rattle.kind_terms.specs.declared.words.WordClass.TheVariants.{TypeWord, Any, Cell, Sized, Numbered, Hashmap}
+use Rattle.kind_terms.specs.declared.words.WordClass.TheVariants.{HashmapE, HashmapNode, Free}
+use Rattle.kind_terms.specs.Words.{Word, widest}
+use Rattle.kind_terms.specs.Classes.{word_class}
+use Rattle.kind_terms.specs.Dictionaries.{of_type}
 use Rattle.kind_terms.specs.declared.kind.TermKind.{TermKind}
 use Rattle.kind_terms.specs.declared.kind.TermKind.TheVariants.{NumberIn, TypeIn}
 use Rattle.kind_terms.specs.Params.{kinds}
@@ -16,15 +20,8 @@ pub data TypeNamed : Type 0 where
   -- a declared type or a dictionary with its parameters: other arguments are a fault of arity
   declared : List TermKind → TypeNamed
 
-abbrev pub family_kinds : Option Family → List TermKind
-family_kinds None = []
-family_kinds (Some f) = NumberIn f.most ∷ []
-
-abbrev pub is_family : Word → Bool
-is_family x = is_among (codes "uint" ∷ codes "int" ∷ codes "bits" ∷ []) x
-
-abbrev pub family_named : Word → Option Family
-family_named x = find (λ (f : Family). bytes_eq x f.word) families
+abbrev pub family_kinds : Family → List TermKind
+family_kinds f = NumberIn (widest f) ∷ []
 
 -- the first declaration of a type fixes its parameters
 abbrev pub declared_as : SchemaView → TypeNamed
@@ -41,16 +38,21 @@ abbrev pub type_word : Bool → TypeNamed
 type_word true = basic []
 type_word false = no_type
 
--- What the name is, with arguments or without: one of the families without a width takes that width; Any, Cell, and the
--- families with a width, take nothing; Hashmap and HashmapE take a number and a type.
+-- What a name of this class is, with arguments or without: one of the families without a width takes that width; Any,
+-- Cell, and the families with a width, take nothing; Hashmap and HashmapE take a number and a type.
+abbrev pub type_of_class : SchemaView → Word → Bool → WordClass → TypeNamed
+type_of_class types x has_arguments TypeWord = type_word has_arguments
+type_of_class types x has_arguments Any = basic []
+type_of_class types x has_arguments Cell = basic []
+type_of_class types x has_arguments (Sized f) = basic (family_kinds f)
+type_of_class types x has_arguments (Numbered f) = basic []
+type_of_class types x has_arguments Hashmap = declared (NumberIn 1023 ∷ TypeIn ∷ [])
+type_of_class types x has_arguments HashmapE = declared (NumberIn 1023 ∷ TypeIn ∷ [])
+type_of_class types x has_arguments HashmapNode = no_type
+type_of_class types x has_arguments Free = declared_as (of_type types x)
+
 unfoldable pub type_named : SchemaView → Word → Bool → TypeNamed
-type_named types x has_arguments =
-    if bytes_eq x (codes "Type") then type_word has_arguments
-    else if is_among (codes "Any" ∷ codes "Cell" ∷ []) x then basic []
-    else if is_family x then basic (family_kinds (family_named x))
-    else if has_width x then basic []
-    else if is_among (hashmap ∷ hashmap_e ∷ []) x then declared (NumberIn 1023 ∷ TypeIn ∷ [])
-    else declared_as (of_type types x)
+type_named types x has_arguments = type_of_class types x has_arguments (word_class x)
 
 abbrev pub is_no_type : TypeNamed → Bool
 is_no_type no_type = true

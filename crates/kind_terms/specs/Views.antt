@@ -5,8 +5,8 @@ use Rattle.tlb_syntax.specs.declared.tree.Constructor.{Constructor}
 use Rattle.tlb_syntax.specs.Tree.{SchemaView}
 use Rattle.tlb_syntax.specs.View.{constructor}
 use Rattle.kind_terms.specs.declared.kind.TermKind.{TermKind}
-use Rattle.kind_terms.specs.declared.part.Part.{Part}
-use Rattle.kind_terms.specs.declared.part.Part.TheVariants as places
+use Rattle.field_path.specs.declared.part.Part.{Part}
+use Rattle.field_path.specs.declared.part.Part.TheVariants as places
 use Rattle.kind_terms.specs.declared.shown.Shown.{Shown}
 use Rattle.kind_terms.specs.declared.shown.Shown.TheVariants as parts
 use Rattle.kind_terms.specs.declared.scope.Binding.{Binding as ProgramBinding}

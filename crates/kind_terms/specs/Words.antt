@@ -1,10 +1,12 @@
 -- Names that the schema language has for itself.
 -- Source: the TON documentation on TL-B (built-in types).
-use Rattle.std.specs.Prelude.{ℕ, ◌==◌, ◌&&◌, ◌||◌, not, List, [], ◌∷◌, Bool, false, Option, Some, None, is_some, codes}
+use Rattle.std.specs.Prelude.{ℕ, ◌==◌, ◌&&◌, not, List, [], ◌∷◌, Bool, false, Option, Some, None, codes}
 use Rattle.std.specs.Prelude.{bytes_eq, drop, length, nat_eq, nat_le, if◌then◌else◌}
 use Rattle.std.specs.List.{list_all, list_any, starts_with}
 use Rattle.std.specs.Char.{is_ascii_digit}
 use Rattle.tlb_syntax.specs.Lexeme.{decimal_onto}
+use Rattle.kind_terms.specs.declared.words.Family.{Family}
+use Rattle.kind_terms.specs.declared.words.Family.TheVariants.{Uint, Int, Bits}
 
 abbrev pub Word : Type 0
 Word = List ℕ
@@ -27,45 +29,38 @@ plain_number digits = if is_plain_number digits then Some (decimal_onto 0 digits
 abbrev pub number_after : Word → Word → Option ℕ
 number_after word x = if starts_with nat_eq x word then plain_number (drop (length word) x) else None
 
--- a type of every width, by its word and its greatest width
-pub record Family : Type 0 where
-  pub word : Word
-  pub most : ℕ
+-- the word of a family, whose types have every width
+abbrev pub family_word : Family → Word
+family_word Uint = codes "uint"
+family_word Int = codes "int"
+family_word Bits = codes "bits"
 
-abbrev pub uint : Family
-uint = record { word = codes "uint"; most = 256 }
-
-abbrev pub int : Family
-int = record { word = codes "int"; most = 257 }
-
-abbrev pub bits : Family
-bits = record { word = codes "bits"; most = 1023 }
+-- the greatest of these widths
+abbrev pub widest : Family → ℕ
+widest Uint = 256
+widest Int = 257
+widest Bits = 1023
 
 abbrev pub families : List Family
-families = uint ∷ int ∷ bits ∷ []
+families = Uint ∷ Int ∷ Bits ∷ []
 
 -- a name's width, where it is the word of the family and then a number
 abbrev pub width_in : Family → Word → Option ℕ
-width_in f x = number_after f.word x
-
--- uint, int and bits with a width after them
-abbrev pub has_width : Word → Bool
-has_width x = list_any (λ f. is_some (width_in f x)) families
+width_in f x = number_after (family_word f) x
 
 abbrev pub is_at_least : ℕ → Option ℕ → Bool
 is_at_least least None = false
 is_at_least least (Some n) = nat_le least n
 
--- such a width of at least 1
-abbrev pub has_some_width : Word → Bool
-has_some_width x = list_any (λ f. is_at_least 1 (width_in f x)) families
+-- the words of dictionaries
+abbrev pub hashmap : Word
+hashmap = codes "Hashmap"
 
-abbrev pub built_in_words : List Word
-built_in_words = codes "Type" ∷ codes "Any" ∷ codes "Cell" ∷ codes "uint" ∷ codes "int" ∷ codes "bits" ∷ []
+abbrev pub hashmap_node : Word
+hashmap_node = codes "HashmapNode"
 
--- these words, and the last three with a width
-unfoldable pub is_built_in : Word → Bool
-is_built_in x = is_among built_in_words x || has_width x
+abbrev pub hashmap_e : Word
+hashmap_e = codes "HashmapE"
 
 -- no constructor is called x
 abbrev pub x_alone : Word

@@ -4,9 +4,9 @@
 #![tactic(auto)]
 
 mod kind;
+pub mod laws;
 mod numbers;
 mod outs;
-mod part;
 mod scope;
 mod shape;
 mod shown;
@@ -17,7 +17,6 @@ mod words;
 pub use kind::{GREATEST, TermKind, has_outputs, kind_of, kinds};
 pub use numbers::{closed, is_beyond};
 pub use outs::{add_known, sought};
-pub use part::Part;
 pub use scope::{Binding, Meaning, declares, field_name, is_among, meaning_in};
 pub use shape::{
     bare_name, is_field_of_numbers, is_literal, is_of_numbers, is_out, out_name, variable_of,
@@ -25,7 +24,4 @@ pub use shape::{
 pub use shown::{Shown, is_unnamed, show_item};
 pub use types::{Declared, Sort, TypeNamed, Types, no_type};
 pub use variables::{add_variable, inputs};
-pub use words::{
-    has_some_width, has_width, is_any_or_cell, is_built_in, is_dictionary, is_family, is_map,
-    is_wide,
-};
+pub use words::{Family, WordClass, is_built_in, is_dictionary, is_wide, word_class};

@@ -6,13 +6,15 @@ ghost use Rattle.tlb_syntax.specs.View.{constructor, expr, exprs, field_type, it
 ghost use Rattle.kind_terms.specs.Closed.{closed as closed_value, is_zero};
 ghost use Rattle.kind_terms.specs.Forms.{is_field_of_numbers as is_type_of_numbers, parts, parts_of_all};
 ghost use Rattle.kind_terms.specs.Outs.{joined as join, outs_by, outs_of};
-ghost use Rattle.kind_terms.specs.Scopes.{all_given_out, given_out, makes_known, outputs_of, own_number, type_outputs};
+ghost use Rattle.kind_terms.specs.Scopes.{all_given_out, given_out, if_input, makes_known, outputs_of, own_number};
+ghost use Rattle.kind_terms.specs.Scopes.{type_outputs};
 ghost use Rattle.kind_terms.specs.Sought.{can_be_sought as may_be_sought, cancels as is_cancelling};
 ghost use Rattle.kind_terms.specs.Sought.{holds_out as has_out, sides, sought as sought_by};
 ghost use Rattle.kind_terms.specs.Sought.{sought_in as sought_by_equation, unknown_of as unknown_by, uses};
 
 use crate::kind::TermKind;
 use crate::numbers::closed;
+use crate::scope::is_among;
 use crate::shape::{bare_name, is_field_of_numbers, out_name};
 use crate::types::Types;
 use bit_slice::Name;
@@ -321,19 +323,40 @@ fn add_number<'a>(
     }
 }
 
-/// Adds what an item makes known: a number field itself, the outputs of a field, the unknown of an equation.
+// Adds the name, where it is that of an input.
+fn add_input<'a>(
+    inputs: &[&Name],
+    name: &'a Name,
+    known: &mut Items<&'a Name>,
+) -> Result<(), AllocError>
+    ensures names { OnOk result
+        (map (λ x. x.now) known.new
+        ≡ map (λ x. x.now) known.old ++ if_input (map (λ x. x.now) inputs.now) name.now) }
+    ensures kept { OnOk result (take (length known.old) known.new ≡ known.old) }
+{
+    if is_among(inputs, name) {
+        known.push(name)
+    } else {
+        Ok(())
+    }
+}
+
+/// Adds what an item makes known, to whose record these inputs belong: the implicit field of an input and a number
+/// field itself, the outputs of a field, the unknown of an equation.
 pub fn add_known<'a>(
     types: &Types<'_>,
+    inputs: &[&Name],
     item: &'a Item,
     known: &mut Items<&'a Name>,
 ) -> Result<(), AllocError>
     ensures names { OnOk result
         (map (λ x. x.now) known.new
-        ≡ map (λ x. x.now) known.old ++ makes_known (map constructor types.now) (item_view item.now)) }
+        ≡ map (λ x. x.now) known.old
+        ++ makes_known (map constructor types.now) (map (λ x. x.now) inputs.now) (item_view item.now)) }
     ensures kept { OnOk result (take (length known.old) known.new ≡ known.old) }
 {
     match item {
-        Item::Implicit(_, _) => Ok(()),
+        Item::Implicit(name, _) => add_input(inputs, name, known),
         Item::Check(left, op, right) => match sought(left, *op, right) {
             Some(name) => known.push(name),
             None => Ok(()),

@@ -4,13 +4,13 @@ ghost use Rattle.tlb_syntax.specs.View.{constructor};
 ghost use Rattle.tlb_syntax.specs.Tree.{SchemaView};
 ghost use Rattle.kind_terms.specs.Dictionaries.{of_type};
 ghost use Rattle.kind_terms.specs.Types.{basic as is_basic_with, declared as is_declared_with};
-ghost use Rattle.kind_terms.specs.Types.{family_kinds as kinds_of_family, family_named, first_kinds};
+ghost use Rattle.kind_terms.specs.Types.{family_kinds as kinds_of_family, first_kinds};
 ghost use Rattle.kind_terms.specs.Types.{no_type as is_no_type, parameters as parameters_of, type_named};
 ghost use Rattle.kind_terms.specs.Views.{constructors_by, kinds_by, named_by};
 ghost use Rattle.kind_terms.specs.TypeIndex.{IsTypeIndex};
 
 use crate::kind::{TermKind, kinds};
-use crate::words::{has_width, is_any_or_cell, is_family, is_map};
+use crate::words::{Family, WordClass, word_class};
 use sqlite_items::Items;
 use std::alloc::{AllocError, Global};
 use std::collections::HashMap;
@@ -93,17 +93,13 @@ pub fn no_type<'t>() -> TypeNamed<'t>
 }
 
 // The parameters of a family of basic types.
-fn family_kinds<'t>(name: &[u8]) -> &'t [TermKind]
-    ensures { result.now ≡ kinds_of_family (family_named name.now) }
+fn family_kinds<'t>(family: Family) -> &'t [TermKind]
+    ensures { result.now ≡ kinds_of_family family }
 {
-    if name == b"uint".as_slice() {
-        OF_UINT
-    } else if name == b"int".as_slice() {
-        OF_INT
-    } else if name == b"bits".as_slice() {
-        OF_BITS
-    } else {
-        OF_NOTHING
+    match family {
+        Family::Uint => OF_UINT,
+        Family::Int => OF_INT,
+        Family::Bits => OF_BITS,
     }
 }
 
@@ -216,28 +212,22 @@ impl<'a> Types<'a> {
     pub fn named(&self, name: &[u8], has_arguments: bool) -> TypeNamed<'_>
         ensures { named_by result ≡ type_named (map constructor self.now) name.now has_arguments }
     {
-        if name == b"Type".as_slice() {
-            return if has_arguments {
-                basic_type(OF_NOTHING)
-            } else {
-                no_type()
-            };
-        }
-        if is_any_or_cell(name) {
-            return basic_type(OF_NOTHING);
-        }
-        if is_family(name) {
-            return basic_type(family_kinds(name));
-        }
-        if has_width(name) {
-            return basic_type(OF_NOTHING);
-        }
-        if is_map(name) {
-            return declared_type(OF_DICTIONARY);
-        }
-        match self.declared(name) {
-            None => no_type(),
-            Some(found) => declared_type(found.kinds.as_slice()),
+        match word_class(name) {
+            WordClass::TypeWord => {
+                if has_arguments {
+                    basic_type(OF_NOTHING)
+                } else {
+                    no_type()
+                }
+            }
+            WordClass::Any | WordClass::Cell | WordClass::Numbered(_) => basic_type(OF_NOTHING),
+            WordClass::Sized(family) => basic_type(family_kinds(family)),
+            WordClass::Hashmap | WordClass::HashmapE => declared_type(OF_DICTIONARY),
+            WordClass::HashmapNode => no_type(),
+            WordClass::Free => match self.declared(name) {
+                None => no_type(),
+                Some(found) => declared_type(found.kinds.as_slice()),
+            },
         }
     }
 }

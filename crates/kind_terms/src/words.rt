@@ -1,14 +1,14 @@
 //! Names that the schema language has for itself.
-ghost use Rattle.std.specs.Prelude.{◌≡◌, ◌∷◌, [], codes, is_some, length, nat_lt};
+ghost use Rattle.std.specs.Prelude.{◌≡◌, is_some, nat_lt};
 ghost use Rattle.std.specs.List.{list_all, list_any};
 ghost use Rattle.std.specs.Char.{is_ascii_digit};
 ghost use Rattle.tlb_syntax.specs.Lexeme.{decimal_onto};
-ghost use Rattle.kind_terms.specs.Dictionaries.{hashmap, hashmap_e, is_dictionary as is_dictionary_name};
+ghost use Rattle.kind_terms.specs.Classes.{is_built_in as is_built_in_name, is_dictionary as is_dictionary_name};
+ghost use Rattle.kind_terms.specs.Classes.{dictionary_class as class_of_dictionary, numbered_class as class_of_numbered};
+ghost use Rattle.kind_terms.specs.Classes.{word_class as class_of_word};
 ghost use Rattle.kind_terms.specs.Closed.{exceeds as is_past, is_wide_in as is_wide_of};
-ghost use Rattle.kind_terms.specs.Words.{families, is_among, has_width as has_a_width, is_built_in as is_built_in_name};
-ghost use Rattle.kind_terms.specs.Words.{is_plain_number as is_plain, number_after};
-ghost use Rattle.kind_terms.specs.Words.{has_some_width as has_a_positive_width};
-ghost use Rattle.kind_terms.specs.Types.{is_family as is_family_name};
+ghost use Rattle.kind_terms.specs.Words.{families, family_word, is_at_least, is_plain_number as is_plain, number_after};
+ghost use Rattle.kind_terms.specs.Words.{widest as widest_of, width_in};
 
 fn are_digits(bytes: &[u8]) -> bool
     ensures { result ≡ list_all is_ascii_digit bytes.now }
@@ -58,69 +58,160 @@ fn is_wide_in(word: &[u8], most: u32, name: &[u8]) -> bool
         && exceeds(&name[word.len()..], most)
 }
 
-/// Whether the name is that of a family and then a width.
-pub fn has_width(name: &[u8]) -> bool
-    ensures { result ≡ has_a_width name.now }
+/// A word whose types have every width, up to the greatest.
+#[derive(Clone, Copy, Debug, PartialEq, Eq)]
+pub enum Family {
+    Uint,
+    Int,
+    Bits,
+}
+
+impl Family {
+    fn word(self) -> &'static [u8]
+        ensures { result.now ≡ family_word self }
+    {
+        match self {
+            Family::Uint => b"uint",
+            Family::Int => b"int",
+            Family::Bits => b"bits",
+        }
+    }
+
+    /// The greatest width.
+    pub fn widest(self) -> u32
+        ensures { result ≡ widest_of self }
+    {
+        match self {
+            Family::Uint => 256,
+            Family::Int => 257,
+            Family::Bits => 1023,
+        }
+    }
+
+    /// Whether the name is the word and then a width.
+    pub fn has_width(self, name: &[u8]) -> bool
+        ensures { result ≡ is_some (width_in self name.now) }
+    {
+        is_numbered(self.word(), name)
+    }
+
+    /// Whether the name is the word and then a width that is greater.
+    pub fn is_wider(self, most: u32, name: &[u8]) -> bool
+        ensures { result ≡ is_past most (width_in self name.now) }
+    {
+        is_wide_in(self.word(), most, name)
+    }
+
+    /// Whether the name is the word and then a width of at least 1.
+    pub fn has_some_width(self, name: &[u8]) -> bool
+        ensures { result ≡ is_at_least 1 (width_in self name.now) }
+    {
+        self.is_wider(0, name)
+    }
+}
+
+/// What a word is by itself, in any schema.
+#[derive(Clone, Copy, Debug, PartialEq, Eq)]
+pub enum WordClass {
+    /// `Type`, which is no type.
+    TypeWord,
+    Any,
+    Cell,
+    /// `uint`, `int` or `bits`, whose width is an argument.
+    Sized(Family),
+    /// Such a word and then its width, in decimal digits without leading zeros.
+    Numbered(Family),
+    Hashmap,
+    HashmapE,
+    /// `HashmapNode`, which is no type where it is used.
+    HashmapNode,
+    /// A word that a declared type may have.
+    Free,
+}
+
+fn dictionary_class(name: &[u8]) -> WordClass
+    ensures { result ≡ class_of_dictionary name.now }
 {
-    is_numbered(b"uint", name) || is_numbered(b"int", name) || is_numbered(b"bits", name)
+    if name == b"Hashmap".as_slice() {
+        WordClass::Hashmap
+    } else if name == b"HashmapE".as_slice() {
+        WordClass::HashmapE
+    } else if name == b"HashmapNode".as_slice() {
+        WordClass::HashmapNode
+    } else {
+        WordClass::Free
+    }
+}
+
+// What a word is that is none of the six without a width.
+fn numbered_class(name: &[u8]) -> WordClass
+    ensures { result ≡ class_of_numbered name.now }
+{
+    if Family::Uint.has_width(name) {
+        WordClass::Numbered(Family::Uint)
+    } else if Family::Int.has_width(name) {
+        WordClass::Numbered(Family::Int)
+    } else if Family::Bits.has_width(name) {
+        WordClass::Numbered(Family::Bits)
+    } else {
+        dictionary_class(name)
+    }
+}
+
+/// What a word is by itself.
+#[tactic(auto, unfolding(crate::specs::Classes::word_class))]
+pub fn word_class(name: &[u8]) -> WordClass
+    ensures { result ≡ class_of_word name.now }
+{
+    if name == b"Type".as_slice() {
+        WordClass::TypeWord
+    } else if name == b"Any".as_slice() {
+        WordClass::Any
+    } else if name == b"Cell".as_slice() {
+        WordClass::Cell
+    } else if name == b"uint".as_slice() {
+        WordClass::Sized(Family::Uint)
+    } else if name == b"int".as_slice() {
+        WordClass::Sized(Family::Int)
+    } else if name == b"bits".as_slice() {
+        WordClass::Sized(Family::Bits)
+    } else {
+        numbered_class(name)
+    }
 }
 
 /// Whether the width after the name of a family is beyond its greatest.
 pub fn is_wide(name: &[u8]) -> bool
     ensures { result ≡ list_any (is_wide_of name.now) families }
 {
-    is_wide_in(b"uint", 256, name)
-        || is_wide_in(b"int", 257, name)
-        || is_wide_in(b"bits", 1023, name)
+    Family::Uint.is_wider(256, name)
+        || Family::Int.is_wider(257, name)
+        || Family::Bits.is_wider(1023, name)
 }
 
 /// Type, Any, Cell, and the families without a width and with one.
-#[tactic(auto, unfolding(crate::specs::Words::is_built_in))]
 pub fn is_built_in(name: &[u8]) -> bool
     ensures { result ≡ is_built_in_name name.now }
 {
-    name == b"Type".as_slice()
-        || name == b"Any".as_slice()
-        || name == b"Cell".as_slice()
-        || name == b"uint".as_slice()
-        || name == b"int".as_slice()
-        || name == b"bits".as_slice()
-        || has_width(name)
+    match word_class(name) {
+        WordClass::TypeWord
+        | WordClass::Any
+        | WordClass::Cell
+        | WordClass::Sized(_)
+        | WordClass::Numbered(_) => true,
+        WordClass::Hashmap
+        | WordClass::HashmapE
+        | WordClass::HashmapNode
+        | WordClass::Free => false,
+    }
 }
 
 /// Hashmap, HashmapNode and HashmapE.
 pub fn is_dictionary(name: &[u8]) -> bool
     ensures { result ≡ is_dictionary_name name.now }
 {
-    name == b"Hashmap".as_slice()
-        || name == b"HashmapNode".as_slice()
-        || name == b"HashmapE".as_slice()
-}
-
-/// Whether the name is uint, int or bits.
-pub fn is_family(name: &[u8]) -> bool
-    ensures { result ≡ is_family_name name.now }
-{
-    name == b"uint".as_slice() || name == b"int".as_slice() || name == b"bits".as_slice()
-}
-
-/// Whether the name is Any or Cell.
-pub fn is_any_or_cell(name: &[u8]) -> bool
-    ensures { result ≡ is_among (codes "Any" ∷ codes "Cell" ∷ []) name.now }
-{
-    name == b"Any".as_slice() || name == b"Cell".as_slice()
-}
-
-/// Whether the name is Hashmap or HashmapE.
-pub fn is_map(name: &[u8]) -> bool
-    ensures { result ≡ is_among (hashmap ∷ hashmap_e ∷ []) name.now }
-{
-    name == b"Hashmap".as_slice() || name == b"HashmapE".as_slice()
-}
-
-/// Whether the name is that of a family and then a width of at least 1.
-pub fn has_some_width(name: &[u8]) -> bool
-    ensures { result ≡ has_a_positive_width name.now }
-{
-    is_wide_in(b"uint", 0, name) || is_wide_in(b"int", 0, name) || is_wide_in(b"bits", 0, name)
+    matches!(
+        word_class(name),
+        WordClass::Hashmap | WordClass::HashmapE | WordClass::HashmapNode
+    )
 }

@@ -1,20 +1,22 @@
 //! What the rules on kinds speak of: names of the language, forms of expressions, kinds, types, scopes.
 use crate::texts::{expression, schema};
 use kind_terms::{
-    GREATEST, Meaning, Sort, TermKind, Types, add_known, bare_name, closed, declares, field_name,
-    has_outputs, has_some_width, has_width, is_among, is_any_or_cell, is_beyond, is_built_in,
-    is_dictionary, is_family, is_field_of_numbers, is_literal, is_map, is_of_numbers, is_out,
-    is_wide, kind_of, kinds, meaning_in, no_type, out_name, sought, variable_of,
+    Family, GREATEST, Meaning, Sort, TermKind, Types, WordClass, add_known, bare_name, closed,
+    declares, field_name, has_outputs, is_among, is_beyond, is_built_in, is_dictionary,
+    is_field_of_numbers, is_literal, is_of_numbers, is_out, is_wide, kind_of, kinds, meaning_in,
+    no_type, out_name, sought, variable_of, word_class,
 };
 use sqlite_items::Items;
 use tlb_grammar::{FieldType, Op};
 
 #[test]
 fn names_of_the_language(rt: HostRuntime) {
-    assert!(rt; has_width(b"uint0") && !has_some_width(b"uint0") && has_some_width(b"bits1"));
-    assert!(rt; is_wide(b"uint257") && !is_wide(b"uint256"));
-    assert!(rt; is_built_in(b"Type") && is_family(b"int") && is_any_or_cell(b"Cell"));
-    assert!(rt; is_map(b"HashmapE") && is_dictionary(b"HashmapNode"));
+    assert!(rt; Family::Uint.has_width(b"uint0") && !Family::Uint.has_some_width(b"uint0"));
+    assert!(rt; Family::Bits.has_some_width(b"bits1") && Family::Int.is_wider(7, b"int8"));
+    assert!(rt; is_wide(b"uint257") && !is_wide(b"uint256") && Family::Int.widest() == 257);
+    assert!(rt; is_built_in(b"Type") && is_built_in(b"uint0") && !is_built_in(b"uint00"));
+    assert!(rt; is_dictionary(b"HashmapNode") && word_class(b"HashmapE") == WordClass::HashmapE);
+    assert!(rt; word_class(b"int") == WordClass::Sized(Family::Int));
 }
 
 #[test]
@@ -94,7 +96,7 @@ fn what_items_declare_and_make_known(rt: HostRuntime) {
     let mut known = Items::new(rt.alloc());
     let mut scope = Items::new(rt.alloc());
     for item in last.items.as_slice() {
-        add_known(&types, item, &mut known).expect(&rt, "memory");
+        add_known(&types, &[], item, &mut known).expect(&rt, "memory");
         let entry = declares(item).expect(&rt, "a name");
         scope.push(entry).ok().expect(&rt, "memory");
     }

@@ -2,25 +2,25 @@
 use Rattle.std.proofs.Common.{◌≡◌, inl, inr, ℕ, zero, suc, ◌<◌, true, List, [], ◌∷◌, ◌++◌, length, Some, None, Ok, refl, sym, ap, ◌∙◌, subst, arith, length-append, append-nil, append_assoc}
 use Rattle.tlb_syntax.specs.Lexeme.{Lexeme}
 use Rattle.tlb_syntax.specs.Grammar.{Declarations}
-use Rattle.tlb_syntax.specs.Written.{Grammar, form_of, Splits, ended, Exceeds, HasFew, ComesFirst, SchemaRefusal, WordRefusal, rank, unbounded, standard, syntax, deep_type, too_many_constructors, too_many_fields, too_many_params, Cause as Reason}
+use Rattle.tlb_syntax.specs.Written.{Grammar, form_of, Splits, ended, Exceeds, WithinCounts, ComesFirst, SchemaRefusal, WordRefusal, rank, unbounded, standard, syntax, deep_type, too_many_constructors, too_many_fields, too_many_params, Cause as Reason}
 use Rattle.syntax_check.specs.Machine.{State, run, schema_start, is_schema_end}
 use Rattle.syntax_check.specs.Judge.{Verdict, schema_verdict, word_verdict}
 use Rattle.syntax_check.specs.Verdict.{cause_of, SchemaTaken, SchemaOneAnswer, WordTaken, WordOneAnswer, OneFirst}
-use Rattle.syntax_check.proofs.Forgetting.{every, without}
-use Rattle.syntax_check.proofs.Trail.{results, results_on}
-use Rattle.syntax_check.proofs.Runs.{schema_runs, schema_results, word_runs}
+use Rattle.syntax_check.proofs.WithoutCounts.{every, without}
+use Rattle.syntax_check.proofs.RunResults.{results, results_on}
+use Rattle.syntax_check.proofs.Completeness.{schema_runs, schema_results, word_runs}
 use Rattle.syntax_check.proofs.Stepwise.{run_front, run_more, one_run}
-use Rattle.syntax_check.proofs.Counts.{FewNames, types_few}
-use Rattle.syntax_check.proofs.Named.{results_more, results_without, named_form, end_without}
-use Rattle.syntax_check.proofs.Fronts.{Language, but_levels, but_items, but_params, runs_without, no_stop, no_excess}
-use Rattle.syntax_check.proofs.Firsts.{Plain}
-use Rattle.syntax_check.proofs.Few.{schemas, can_end}
-use Rattle.syntax_check.proofs.Going.{form_step}
-use Rattle.syntax_check.proofs.Words.{words, word_refused}
+use Rattle.syntax_check.proofs.NameCounts.{FewNames, types_few}
+use Rattle.syntax_check.proofs.ResultNames.{results_more, results_without, named_form, end_without}
+use Rattle.syntax_check.proofs.Prefixes.{Language, but_levels, but_items, but_params, runs_without, no_stop, no_excess}
+use Rattle.syntax_check.proofs.FirstRefusal.{Plain}
+use Rattle.syntax_check.proofs.ConstructorCounts.{schemas, can_end}
+use Rattle.syntax_check.proofs.SchemaPrefix.{form_step}
+use Rattle.syntax_check.proofs.TypeWords.{words, word_refused}
 use Rattle.syntax_check.proofs.Schemas.{schema_refused}
 
 split_below : (ls : List Lexeme) (place : ℕ) → Splits ls place → place < length ls
-split_below ls place sp = omega (arith, sp.size, ap length sp.whole, length-append sp.front (sp.at ∷ sp.later))
+split_below ls place sp = omega (arith, sp.size, ap length sp.whole, length-append sp.prefix (sp.next ∷ sp.later))
 
 -- ---- written within the bounds, and not refused
 
@@ -44,26 +44,26 @@ module _ {X : Type 0} {G : Grammar X} (l : Language G) where
 -- a text with few constructors has few at each place
 not_many : (ls : List Lexeme) (st : State) (place : ℕ) → run unbounded (schema_start unbounded) ls ≡ Ok st
     → is_schema_end st ≡ true → FewNames (results unbounded (schema_start unbounded) ls) → Exceeds Declarations
-    unbounded HasFew ls place → ⊥
+    unbounded WithinCounts ls place → ⊥
 not_many ls st place e ends few x =
     let sp = x.split in
-    let whole : ls ≡ (sp.front ++ sp.at ∷ []) ++ sp.later = sp.whole
-    ∙ sym (append_assoc sp.front (sp.at ∷ []) sp.later) in
+    let whole : ls ≡ (sp.prefix ++ sp.next ∷ []) ++ sp.later = sp.whole
+    ∙ sym (append_assoc sp.prefix (sp.next ∷ []) sp.later) in
     let P : List Lexeme → Type 0 = λ z. run unbounded (schema_start unbounded) z ≡ Ok st in
-    let far = run_front unbounded (schema_start unbounded) (sp.front ++ sp.at ∷ []) sp.later st (subst P whole e) in
-    let near = run_front unbounded (schema_start unbounded) sp.front (sp.at ∷ []) far.0 far.1 in
-    let one = one_run unbounded near.0 far.0 sp.at near.2 in
-    let form = form_step sp.front near.0 far.0 sp.at near.1 one in
-    let names = results_more unbounded sp.front sp.at (schema_start unbounded) near.0 far.0 near.1 one in
-    let form_names = results_more unbounded sp.front (form_of sp.at) (schema_start unbounded) near.0 far.0 near.1 form
+    let far = run_front unbounded (schema_start unbounded) (sp.prefix ++ sp.next ∷ []) sp.later st (subst P whole e) in
+    let near = run_front unbounded (schema_start unbounded) sp.prefix (sp.next ∷ []) far.0 far.1 in
+    let one = one_run unbounded near.0 far.0 sp.next near.2 in
+    let form = form_step sp.prefix near.0 far.0 sp.next near.1 one in
+    let names = results_more unbounded sp.prefix sp.next (schema_start unbounded) near.0 far.0 near.1 one in
+    let form_names = results_more unbounded sp.prefix (form_of sp.next) (schema_start unbounded) near.0 far.0 near.1 form
     in
-    let same = form_names ∙ ap (λ z. results unbounded (schema_start unbounded) sp.front ++ z)
-    (named_form near.0 sp.at) ∙ sym names in
+    let same = form_names ∙ ap (λ z. results unbounded (schema_start unbounded) sp.prefix ++ z)
+    (named_form near.0 sp.next) ∙ sym names in
     let all_names = ap (λ z. results unbounded (schema_start unbounded) z) whole ∙ results_on unbounded
-    (schema_start unbounded) (sp.front ++ sp.at ∷ []) sp.later far.0 far.1
+    (schema_start unbounded) (sp.prefix ++ sp.next ∷ []) sp.later far.0 far.1
     ∙ ap (λ z. z ++ results unbounded far.0 sp.later) (sym same) in
-    x.too_much (can_end (ended sp.front (form_of sp.at)) sp.later far.0 st (run_more unbounded (schema_start unbounded)
-    near.0 far.0 sp.front (form_of sp.at) near.1 form) far.2 ends (subst FewNames all_names few))
+    x.too_much (can_end (ended sp.prefix (form_of sp.next)) sp.later far.0 st (run_more unbounded (schema_start unbounded)
+    near.0 far.0 sp.prefix (form_of sp.next) near.1 form) far.2 ends (subst FewNames all_names few))
 
 pub schema_one_answer : SchemaOneAnswer
 schema_one_answer ls s c place w few refusal = go c refusal

@@ -5,14 +5,14 @@ use Rattle.syntax_check.specs.declared.machine.Side.{Side}
 use Rattle.syntax_check.specs.declared.machine.Side.TheVariants.{Paren, Left, Right, Word}
 use Rattle.syntax_check.specs.declared.machine.Spot.{Spot}
 use Rattle.syntax_check.specs.declared.machine.Spot.TheVariants.{Operand, Argument, Width, Field, Guarded, Param}
-use Rattle.syntax_check.specs.declared.machine.Mode.{Mode}
-use Rattle.syntax_check.specs.declared.machine.Mode.TheVariants.{Start, Marked, Headed, Term, Apply, Applied, Operated, Result as ResultName, Params}
+use Rattle.syntax_check.specs.declared.machine.ParserState.{ParserState}
+use Rattle.syntax_check.specs.declared.machine.ParserState.TheVariants.{Start, Marked, Headed, Term, Apply, Applied, Operated, Result as ResultName, Params}
 use Rattle.syntax_check.specs.declared.machine.Frame.{Frame}
 use Rattle.syntax_check.specs.declared.machine.Frame.TheVariants as frames
 use Rattle.syntax_check.specs.Machine.{State, at, given_to}
 use Rattle.syntax_check.specs.Judge.{is_result}
 
--- between declarations, behind the `!` of one, in one up to its result or behind that, in a type word, or in no text
+-- between declarations, after the `!` of one, in one up to its result or after that, in a type word, or in no text
 pub data Phase : Type 0 where
   between : Phase
   marked : Phase
@@ -54,7 +54,7 @@ frames_phase [] = before
 frames_phase (frames.Paren spot lv ∷ below) = spot_phase spot (is_nil below) (frames_phase below)
 frames_phase (frames.Record spot lv ∷ below) = spot_phase spot (is_nil below) (frames_phase below)
 
-abbrev pub mode_phase : Mode → Bool → Phase → Phase
+abbrev pub mode_phase : ParserState → Bool → Phase → Phase
 mode_phase Start nil rest = only nil between
 mode_phase Marked nil rest = only nil marked
 mode_phase Headed nil rest = only nil before
@@ -69,7 +69,7 @@ mode_phase _ nil rest = rest
 abbrev pub phase_of : State → Phase
 phase_of (at mode lv below) = mode_phase mode (is_nil below) (frames_phase below)
 
--- between declarations, and behind the `!` of one
+-- between declarations, and after the `!` of one
 abbrev pub is_start : State → Bool
 is_start (at Start lv below) = true
 is_start _ = false

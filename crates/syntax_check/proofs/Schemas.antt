@@ -4,34 +4,34 @@ use Rattle.tlb_syntax.specs.Lexeme.{Lexeme, word, blank, number, tag, sign, othe
 use Rattle.tlb_syntax.specs.declared.sign.Sign.TheVariants.{Bang}
 use Rattle.tlb_syntax.specs.Grammar.{Count, Bounds, Heads, by_name, by_blank, Declarations}
 use Rattle.tlb_syntax.specs.Tree.{SchemaView}
-use Rattle.tlb_syntax.specs.Written.{form_of, CanGoOn, ended, Exceeds, NameStands, at_once, after_mark, Begins, Declares, HasFew, IsFirst, ComesFirst, SchemaRefusal, unbounded, standard, syntax, deep_type, too_many_constructors, too_many_fields, too_many_params, Cause as Reason}
+use Rattle.tlb_syntax.specs.Written.{form_of, CanGoOn, ended, Exceeds, NameOffset, at_once, after_mark, Begins, Declares, WithinCounts, IsFirst, ComesFirst, SchemaRefusal, unbounded, standard, syntax, deep_type, too_many_constructors, too_many_fields, too_many_params, Cause as Reason}
 use Rattle.syntax_check.specs.declared.machine.Cause.{Cause}
 use Rattle.syntax_check.specs.declared.machine.Cause.TheVariants.{Syntax, DeepType, TooManyConstructors, TooManyFields, TooManyParams}
-use Rattle.syntax_check.specs.declared.machine.Mode.TheVariants.{Start, Marked}
+use Rattle.syntax_check.specs.declared.machine.ParserState.TheVariants.{Start, Marked}
 use Rattle.syntax_check.specs.declared.machine.Frame.{Frame}
 use Rattle.syntax_check.specs.Machine.{State, at, Outcome, step, run, schema_start, is_schema_end}
-use Rattle.syntax_check.specs.Judge.{Verdict, Stand, awaits_name, is_result, heads, count_of, counted, judged_result, judged_name, names_with, onward, freed, or_met, after_step, advance_past, finish, go_on, go, free}
+use Rattle.syntax_check.specs.Judge.{Verdict, Position, awaits_name, is_result, heads, count_of, counted, judged_result, judged_name, names_with, onward, freed, or_met, after_step, advance_past, finish, go_on, go, free}
 use Rattle.syntax_check.specs.Verdict.{cause_of, SchemaWritten, SchemaIsRefused}
-use Rattle.syntax_check.proofs.Forgetting.{every, without, free_is}
+use Rattle.syntax_check.proofs.WithoutCounts.{every, without, free_is}
 use Rattle.syntax_check.proofs.Phase.{Phase, between, marked, before, behind, unnamed, phase_of, is_start, is_marked, Turn}
 use Rattle.syntax_check.proofs.Steps.{IsOk, IsLimit}
-use Rattle.syntax_check.proofs.Runs.{schema_results}
-use Rattle.syntax_check.proofs.Said.{schema_said}
+use Rattle.syntax_check.proofs.Completeness.{schema_results}
+use Rattle.syntax_check.proofs.Soundness.{schema_said}
 use Rattle.syntax_check.proofs.Stepwise.{err_one, clash, shorter, run_more, step_ok, step_syntax, no_constructors, Sound, sound_run}
-use Rattle.syntax_check.proofs.Counts.{equal_number, number_equal, FewNames, few_types}
-use Rattle.syntax_check.proofs.Named.{named, result_without, start_without, marked_without, awaits_without, named_without, names_with_is, results_without, in_schema, schema_turn, before_turn, naming_turn, behind_turn, four, between_start, phase_marked, marked_between, awaits_none, not_at_start, not_at_mark, not_at_result, begins, heads_begins, begins_with, heads_name, start_goes, start_stops, marked_goes, marked_stops, result_goes, at_result}
-use Rattle.syntax_check.proofs.Fronts.{end_is}
-use Rattle.syntax_check.proofs.Firsts.{Plain, below_or, below_or_same, plain_later, plain_here, plain_first, end_first, no_limit}
-use Rattle.syntax_check.proofs.Judged.{is_false, awaits_not, awaits_start, awaits_marked, within_limits, past_limit, true_or_false, unjudged, advance_unjudged, finish_met, failed_met}
-use Rattle.syntax_check.proofs.Few.{schemas, Room}
-use Rattle.syntax_check.proofs.Going.{Going, drop_front, one_longer, one_further, next_turn, begins_here, declares_here, declares, here_exceeds, going_on, none_stopped, too_many_in_all, too_many_of_one, behind_far}
+use Rattle.syntax_check.proofs.NameCounts.{equal_number, number_equal, FewNames, few_types}
+use Rattle.syntax_check.proofs.ResultNames.{named, result_without, start_without, marked_without, awaits_without, named_without, names_with_is, results_without, in_schema, schema_turn, before_turn, naming_turn, behind_turn, four, between_start, phase_marked, marked_between, awaits_none, not_at_start, not_at_mark, not_at_result, begins, heads_begins, begins_with, heads_name, start_goes, start_stops, marked_goes, marked_stops, result_goes, at_result}
+use Rattle.syntax_check.proofs.Prefixes.{end_is}
+use Rattle.syntax_check.proofs.FirstRefusal.{Plain, below_or, below_or_same, plain_later, plain_here, plain_first, end_first, no_limit}
+use Rattle.syntax_check.proofs.JudgePositions.{is_false, awaits_not, awaits_start, awaits_marked, within_limits, past_limit, true_or_false, unjudged, advance_unjudged, finish_met, failed_met}
+use Rattle.syntax_check.proofs.ConstructorCounts.{schemas, Room}
+use Rattle.syntax_check.proofs.SchemaPrefix.{Going, drop_front, one_longer, one_further, next_turn, begins_here, declares_here, declares, here_exceeds, going_on, none_stopped, too_many_in_all, too_many_of_one, behind_far}
 
 -- ---- first refusals
 
 -- a place before all other refusals
 each_later : (ls : List Lexeme) (c : Reason) (place : ℕ) → ((d : Reason) (q : ℕ) → Plain Declarations ls d q
     → ComesFirst place c q d) →
-    ((q later : ℕ) → Exceeds Declarations unbounded HasFew ls later → Declares ls q later → ComesFirst place c q
+    ((q later : ℕ) → Exceeds Declarations unbounded WithinCounts ls later → Declares ls q later → ComesFirst place c q
     too_many_constructors) →
     (d : Reason) (q : ℕ) → SchemaRefusal ls d q → ComesFirst place c q d
 each_later ls c place plain many syntax q r = plain syntax q r
@@ -47,10 +47,10 @@ of_plain ls too_many_constructors q h = absurd h
 of_plain ls too_many_fields q h = h
 of_plain ls too_many_params q h = h
 
--- the first that is told by the grammar alone, where no declaration that begins up to it is one too many
+-- the first that is reported by the grammar alone, where no declaration that begins up to it is one too many
 met_first : (ls : List Lexeme) (c : Reason) (place : ℕ) → Plain Declarations ls c place
     → ((d : Reason) (q : ℕ) → Plain Declarations ls d q → ComesFirst place c q d) →
-    ((q later : ℕ) → Exceeds Declarations unbounded HasFew ls later → Declares ls q later → place < q)
+    ((q later : ℕ) → Exceeds Declarations unbounded WithinCounts ls later → Declares ls q later → place < q)
     → IsFirst (SchemaRefusal ls) c place
 met_first ls c place here plain many = record {
   refused = of_plain ls c place here;
@@ -61,24 +61,24 @@ met_first ls c place here plain many = record {
 no_mark_name : (s : List Lexeme) (x : Option (List ℕ)) → Heads (sign Bang) x → ⊥
 no_mark_name s x h = elim h [ ]
 
-one_offset : {s : List Lexeme} {a b : ℕ} → NameStands s a → NameStands s b → a ≡ b
+one_offset : {s : List Lexeme} {a b : ℕ} → NameOffset s a → NameOffset s b → a ≡ b
 one_offset (at_once h) (at_once k) = refl
 one_offset (at_once h) (after_mark k) = absurd (no_mark_name [] _ h)
 one_offset (after_mark h) (at_once k) = absurd (no_mark_name [] _ k)
 one_offset (after_mark h) (after_mark k) = refl
 
-offset_small : {s : List Lexeme} {a : ℕ} → NameStands s a → a ≤ 1
+offset_small : {s : List Lexeme} {a : ℕ} → NameOffset s a → a ≤ 1
 offset_small (at_once h) = omega arith
 offset_small (after_mark h) = omega arith
 
-same_offset : (s : List Lexeme) (starts others : ℕ) (a b : ℕ) → starts ≡ others → NameStands (drop starts s) a
-    → NameStands (drop others s) b → a ≡ b
+same_offset : (s : List Lexeme) (starts others : ℕ) (a b : ℕ) → starts ≡ others → NameOffset (drop starts s) a
+    → NameOffset (drop others s) b → a ≡ b
 same_offset s starts others a b e h k =
-    let P : ℕ → Type 0 = λ n. NameStands (drop n s) b in one_offset h (subst P (sym e) k)
+    let P : ℕ → Type 0 = λ n. NameOffset (drop n s) b in one_offset h (subst P (sym e) k)
 
 -- the first declaration that is one too many, where nothing is refused before it
-many_first : (ls : List Lexeme) (place begun : ℕ) → Exceeds Declarations unbounded HasFew ls place → Declares ls begun
-    place → ((later : ℕ) → later < place → Exceeds Declarations unbounded HasFew ls later → ⊥) →
+many_first : (ls : List Lexeme) (place begun : ℕ) → Exceeds Declarations unbounded WithinCounts ls place → Declares ls begun
+    place → ((later : ℕ) → later < place → Exceeds Declarations unbounded WithinCounts ls later → ⊥) →
     ((d : Reason) (q : ℕ) → Plain Declarations ls d q → begun < q) → IsFirst (SchemaRefusal ls) too_many_constructors
     begun
 many_first ls place begun s d none early = record {
@@ -87,7 +87,7 @@ many_first ls place begun s d none early = record {
       (below_or d_2.start d.start) (below_or later place));
 }
   where
-    go : (q later : ℕ) → Exceeds Declarations unbounded HasFew ls later → (e : Declares ls q later)
+    go : (q later : ℕ) → Exceeds Declarations unbounded WithinCounts ls later → (e : Declares ls q later)
         → (e.start < d.start) ⊎ (d.start ≤ e.start) → (later < place) ⊎ (place ≤ later) → ComesFirst begun
         too_many_constructors q too_many_constructors
     go q later s_2 d_2 (inl x) (inl y) = absurd (none later y s_2)
@@ -110,9 +110,9 @@ many_first ls place begun s d none early = record {
         at_or_behind (inl z) = inl z
         at_or_behind (inr z) = inr (z, omega arith)
 
--- behind the whole list nothing exceeds
+-- after the whole list nothing exceeds
 none_at_end : {ls front : List Lexeme} {st : State} {place begun : ℕ} {names : List (List ℕ)} → Going ls front [] st
-    place begun names → (later : ℕ) → Exceeds Declarations unbounded HasFew ls later → ⊥
+    place begun names → (later : ℕ) → Exceeds Declarations unbounded WithinCounts ls later → ⊥
 none_at_end {front = front} g later s =
     g.none_yet later (omega (
       arith,
@@ -121,7 +121,7 @@ none_at_end {front = front} g later s =
       ap length g.whole,
       length-append front [],
       ap length s.split.whole,
-      length-append s.split.front (s.split.at ∷ s.split.later),
+      length-append s.split.prefix (s.split.next ∷ s.split.later),
     )) s
 
 -- ---- names
@@ -131,12 +131,12 @@ awaits_no_result (at Start lv below) e = refl
 awaits_no_result (at Marked lv below) e = refl
 awaits_no_result (at mode lv below) e = cc
 
-counted_at : (a : Stand) → awaits_name a.state ≡ true → counted a ≡ (if length a.names == 4096 then or_met a.met
+counted_at : (a : Position) → awaits_name a.state ≡ true → counted a ≡ (if length a.names == 4096 then or_met a.met
     (TooManyConstructors, a.place) else a.met)
 counted_at a e = ap (λ b. if b then (if length a.names == 4096 then or_met a.met (TooManyConstructors, a.place) else
     a.met) else None) e
 
-judged_head : (a : Stand) (t : Lexeme) → awaits_name a.state ≡ true → heads t ≡ true
+judged_head : (a : Position) (t : Lexeme) → awaits_name a.state ≡ true → heads t ≡ true
     → judged_name a t ≡ (if length a.names == 4096 then or_met a.met (TooManyConstructors, a.place) else a.met)
 judged_head a (word x) e h = ap (λ b. if b then judged_result a x else counted a) (awaits_no_result a.state e)
     ∙ counted_at a e
@@ -146,7 +146,7 @@ judged_head a (tag b) e h = cc
 judged_head a (sign s) e h = cc
 judged_head a other e h = cc
 
-judged_no_name : (a : Stand) (t : Lexeme) → heads t ≡ false → judged_name a t ≡ None
+judged_no_name : (a : Position) (t : Lexeme) → heads t ≡ false → judged_name a t ≡ None
 judged_no_name a (word x) h = cc
 judged_no_name a blank h = cc
 judged_no_name a (number n) h = refl
@@ -154,7 +154,7 @@ judged_no_name a (tag b) h = refl
 judged_no_name a (sign s) h = refl
 judged_no_name a other h = refl
 
-judged_word : (a : Stand) (t : Lexeme) (x : List ℕ) → is_result a.state ≡ true → t ≡ word x
+judged_word : (a : Position) (t : Lexeme) (x : List ℕ) → is_result a.state ≡ true → t ≡ word x
     → judged_name a t ≡ judged_result a x
 judged_word a t x e is = ap (λ z. judged_name a z) is ∙ ap (λ b. if b then judged_result a x else counted a) e
 
@@ -195,7 +195,7 @@ limit_inside m st t why limit h = (
     at_name false e = e
     at_name true e = go_2 (at_result m st t e)
       where
-        go_2 : ((x : List ℕ) × (t ≡ word x)) ⊎ ((step m st t ≡ Err Syntax) × ((a : Stand) → awaits_name a.state ≡ false
+        go_2 : ((x : List ℕ) × (t ≡ word x)) ⊎ ((step m st t ≡ Err Syntax) × ((a : Position) → awaits_name a.state ≡ false
             → judged_name a t ≡ None)) → is_result st ≡ false
         go_2 (inl x) =
             let k = result_goes m st x.0 e in
@@ -213,10 +213,10 @@ room_inside st t names e h = (
 -- ---- what is answered
 
 abbrev IsRight : List Lexeme → Verdict → Type 0
-IsRight ls None = (s : SchemaView) × Declarations standard ls s × HasFew s
+IsRight ls None = (s : SchemaView) × Declarations standard ls s × WithinCounts s
 IsRight ls (Some refusal) = IsFirst (SchemaRefusal ls) (cause_of refusal.0) refusal.1
 
--- a limit that was met in the declaration that the machine stands in, and that no refusal told by the grammar alone
+-- a limit that was met in the declaration that the machine stands in, and that no refusal reported by the grammar alone
 -- comes before
 record Met (ls : List Lexeme) (why : Cause) (met place begun : ℕ) : Type 0 where
   here : Plain Declarations ls (cause_of why) met
@@ -241,13 +241,13 @@ met_already : (b : Bool) (place : ℕ) (met : Cause × ℕ)
 met_already true place met = refl
 met_already false place met = refl
 
--- and so it is behind the `!` of a next declaration
+-- and so it is after the `!` of a next declaration
 marked_stands : (rest : List Lexeme) (lv : Count) (below : List Frame) (place begun : ℕ) (names : List (List ℕ))
     (met : Cause × ℕ) → go is_schema_end (past_limit (at Marked lv below) place begun names met) rest ≡ Some met
 marked_stands [] lv below place begun names met = refl
 marked_stands (t ∷ ts) lv below place begun names met = head (true_or_false (heads t))
   where
-    a : Stand
+    a : Position
     a = past_limit (at Marked lv below) place begun names met
 
     head : (heads t ≡ true) ⊎ (heads t ≡ false) → go is_schema_end a (t ∷ ts) ≡ Some met
@@ -263,7 +263,7 @@ mark_stands : (rest : List Lexeme) (st : State) (place begun : ℕ) (names : Lis
 mark_stands rest (at Start lv below) place begun names met e = marked_stands rest lv below (place + 1) place names met
 mark_stands rest (at mode lv below) place begun names met e = cc
 
--- behind the result the limit is answered, whatever follows
+-- after the result the limit is answered, whatever follows
 met_stands : (rest front : List Lexeme) (st : State) (place begun : ℕ) (names : List (List ℕ)) (met : Cause × ℕ)
     → run unbounded (schema_start unbounded) front ≡ Ok st → in_schema (phase_of st) ≡ true → (phase_of st ≡ behind)
     ⊎ (phase_of st ≡ between) →
@@ -280,14 +280,14 @@ met_stands (t ∷ ts) front st place begun names met e w (inl ph) =
     (schema_turn (phase_of st) (phase_of next) (is_result st) turn w) (behind_turn (phase_of st) (phase_of next)
     (is_result st) turn ph))
   where
-    a : Stand
+    a : Position
     a = past_limit st place begun names met
 
     differ_2 : (p : Phase) → p ≡ behind → p ≡ before → ⊥
     differ_2 p e f = cc
 met_stands (t ∷ ts) front st place begun names met e w (inr ph) = head (true_or_false (begins t))
   where
-    a : Stand
+    a : Position
     a = past_limit st place begun names met
 
     name : (heads t ≡ true) → go is_schema_end a (t ∷ ts) ≡ Some met
@@ -319,7 +319,7 @@ past_right (t ∷ ts) ls front st place begun names why met g ph m =
     named_or_not (is_result st) refl (λ next h gn p mn. past_right ts ls (front ++ t ∷ []) next (place + 1) _ _ why met
     gn p mn)
   where
-    a : Stand
+    a : Position
     a = past_limit st place begun names (why, met)
 
     P : Verdict → Type 0
@@ -402,7 +402,7 @@ past_right (t ∷ ts) ls front st place begun names why met g ph m =
     named_or_not true e ih = at_name (at_result unbounded st t e)
       where
         at_name : ((x : List ℕ) × (t ≡ word x)) ⊎ ((step unbounded st t ≡ Err Syntax)
-            × ((b : Stand) → awaits_name b.state ≡ false → judged_name b t ≡ None))
+            × ((b : Position) → awaits_name b.state ≡ false → judged_name b t ≡ None))
             → IsRight ls (go is_schema_end a (t ∷ ts))
         at_name (inl x) = result x.0 e x.1 (true_or_false (count_of x.0 names == 256))
         at_name (inr x) =
@@ -434,7 +434,7 @@ sound_schema front st e = sound_run standard front (schema_start standard) st e 
 written_few : (ls : List Lexeme) (st : State) (place begun : ℕ) (names : List (List ℕ))
     → run standard (schema_start standard) ls ≡ Ok st → Going ls ls [] (without every st) place begun names
     → is_schema_end st ≡ true →
-    (s : SchemaView) × Declarations standard ls s × HasFew s
+    (s : SchemaView) × Declarations standard ls s × WithinCounts s
 written_few ls st place begun names e g ends =
     let w = schema_said standard ls st e ends in
     let same = g.all_names ∙ results_without every standard ls (schema_start standard) st e ∙ schema_results standard
@@ -442,49 +442,49 @@ written_few ls st place begun names e g ends =
     let few : FewNames names = record { all = omega (arith, g.few.all); of_one = g.few.of_one } in
     (w.0, w.1, few_types w.0 (subst FewNames same few))
 
--- ---- a `!` behind 4,096 declarations
+-- ---- a `!` after 4,096 declarations
 
 start_no_result : (st : State) → is_start st ≡ true → is_result st ≡ false
 start_no_result st e = awaits_no_result st (awaits_start st e)
 
--- behind one that exceeds no other does
+-- after one that exceeds no other does
 one_excess : (ls front ts : List Lexeme) (place later : ℕ) → ls ≡ front ++ sign Bang ∷ ts → length front ≡ place
-    → (CanGoOn Declarations unbounded HasFew (ended front (sign Bang)) → ⊥) → place < later
-    → Exceeds Declarations unbounded HasFew ls later → ⊥
+    → (CanGoOn Declarations unbounded WithinCounts (ended front (sign Bang)) → ⊥) → place < later
+    → Exceeds Declarations unbounded WithinCounts ls later → ⊥
 one_excess ls front ts place later whole size never far s =
-    let k = shorter front s.split.front ts (s.split.at ∷ s.split.later) (sign Bang) (sym whole ∙ s.split.whole)
+    let k = shorter front s.split.prefix ts (s.split.next ∷ s.split.later) (sign Bang) (sym whole ∙ s.split.whole)
     (omega (arith, size, s.split.size)) in
     let c = s.so_far in
-    let same : s.split.front ++ c.more ≡ ended front (sign Bang) ++ (k.0 ++ c.more) =
+    let same : s.split.prefix ++ c.more ≡ ended front (sign Bang) ++ (k.0 ++ c.more) =
     ap (λ z. z ++ c.more) k.1 ∙ append_assoc front (sign Bang ∷ k.0) c.more
     ∙ sym (append_assoc front (sign Bang ∷ []) (k.0 ++ c.more)) in
     let P : List Lexeme → Type 0 = λ z. Declarations unbounded z c.tree in
     never (record { more = k.0 ++ c.more; tree = c.tree; kept = c.kept; written = subst P same c.written })
 
-behind_mark : {s : List Lexeme} {offset : ℕ} → NameStands (sign Bang ∷ s) offset
-    → NameStands (sign Bang ∷ s) 1 × (offset ≡ 1)
+behind_mark : {s : List Lexeme} {offset : ℕ} → NameOffset (sign Bang ∷ s) offset
+    → NameOffset (sign Bang ∷ s) 1 × (offset ≡ 1)
 behind_mark (at_once h) = absurd (no_mark_name [] _ h)
 behind_mark (after_mark h) = (after_mark h, refl)
 
--- the name behind it, or that none follows
+-- the name after it, or that none follows
 begins_at : (ls front ts : List Lexeme) (place q : ℕ) (s : SchemaView) → ls ≡ front ++ sign Bang ∷ ts
     → length front ≡ place → Declarations unbounded (take place ls) s → Declares ls q place
-    → NameStands (sign Bang ∷ ts) 1 × (q ≡ place + 1)
+    → NameOffset (sign Bang ∷ ts) 1 × (q ≡ place + 1)
 begins_at ls front ts place q s whole size known d = go (below_or_same d.start place d.begins.before)
   where
-    go : (d.start < place) ⊎ (d.start ≡ place) → NameStands (sign Bang ∷ ts) 1 × (q ≡ place + 1)
+    go : (d.start < place) ⊎ (d.start ≡ place) → NameOffset (sign Bang ∷ ts) 1 × (q ≡ place + 1)
     go (inl x) = absurd (d.begins.last place s x (omega arith) known)
     go (inr x) =
-        let P : ℕ → Type 0 = λ n. NameStands (drop n ls) d.offset in
-        let Q : List Lexeme → Type 0 = λ z. NameStands z d.offset in
+        let P : ℕ → Type 0 = λ n. NameOffset (drop n ls) d.offset in
+        let Q : List Lexeme → Type 0 = λ z. NameOffset z d.offset in
         let k = behind_mark (subst Q (drop_front ls front (sign Bang ∷ ts) place whole size) (subst P x d.name)) in
         (k.0, omega (arith, d.is_place, x, k.1))
 
-named_next : {t : Lexeme} {ts : List Lexeme} → NameStands (sign Bang ∷ t ∷ ts) 1 → heads t ≡ true
+named_next : {t : Lexeme} {ts : List Lexeme} → NameOffset (sign Bang ∷ t ∷ ts) 1 → heads t ≡ true
 named_next (after_mark by_name) = refl
 named_next (after_mark by_blank) = refl
 
-none_next : NameStands (sign Bang ∷ []) 1 → ⊥
+none_next : NameOffset (sign Bang ∷ []) 1 → ⊥
 none_next h = elim h [ ]
 
 mark_full : (ts ls front : List Lexeme) (st : State) (place begun : ℕ) (names : List (List ℕ))
@@ -511,20 +511,20 @@ mark_full ts ls front (at Start lv below) place begun names e start full g = res
     size_next : length front_next ≡ place + 1
     size_next = one_longer front (sign Bang) place g.size
 
-    exceeds : Exceeds Declarations unbounded HasFew ls place
+    exceeds : Exceeds Declarations unbounded WithinCounts ls place
     exceeds = too_many_in_all (sign Bang) g refl refl refl full
 
-    never : CanGoOn Declarations unbounded HasFew (ended front (sign Bang)) → ⊥
+    never : CanGoOn Declarations unbounded WithinCounts (ended front (sign Bang)) → ⊥
     never = (here_exceeds (sign Bang) g exceeds).1
 
     w : Begins ls place place
     w = begins_here (sign Bang) g refl
 
-    a : Stand
+    a : Position
     a = within_limits next (place + 1) place names
 
     -- no declaration is one too many where no name follows
-    unnamed_next : (NameStands (sign Bang ∷ ts) 1 → ⊥) → (q later : ℕ) → Exceeds Declarations unbounded HasFew ls later
+    unnamed_next : (NameOffset (sign Bang ∷ ts) 1 → ⊥) → (q later : ℕ) → Exceeds Declarations unbounded WithinCounts ls later
         → Declares ls q later → place + 1 < q
     unnamed_next none q later s d = at_or_not (below_or later place)
       where
@@ -557,7 +557,7 @@ mark_full ts ls front (at Start lv below) place begun names e start full g = res
           start = place;
           begins = w;
           offset = 1;
-          name = let Q : List Lexeme → Type 0 = λ z. NameStands z 1 in
+          name = let Q : List Lexeme → Type 0 = λ z. NameOffset z 1 in
               subst Q (sym (drop_front ls front (sign Bang ∷ ts) place g.whole g.size ∙ ap (λ z. sign Bang ∷ z) is))
               (after_mark (heads_name t h).1);
           is_place = omega arith;
@@ -571,7 +571,7 @@ mark_full ts ls front (at Start lv below) place begun names e start full g = res
         (met_first ls syntax (place + 1) (plain_here schemas ls front_next us t next Syntax (place + 1) e_next whole
         size_next stop) (plain_first schemas ls front_next us t next Syntax (place + 1) e_next (sound_schema front_next
         next e_next) whole size_next stop)
-        (unnamed_next (λ n. let Q : List Lexeme → Type 0 = λ z. NameStands (sign Bang ∷ z) 1 in
+        (unnamed_next (λ n. let Q : List Lexeme → Type 0 = λ z. NameOffset (sign Bang ∷ z) 1 in
         differ (heads t) (named_next (subst Q is n)) h)))
       where
         whole : ls ≡ front_next ++ t ∷ us
@@ -580,7 +580,7 @@ mark_full ts ls front (at Start lv below) place begun names e start full g = res
         stop : step standard next t ≡ Err Syntax
         stop = marked_stops standard next t refl h
 
-    -- the text ends behind the `!`
+    -- the text ends after the `!`
     ended_here : ts ≡ [] → IsRight ls (go is_schema_end a [])
     ended_here is =
         let whole : front_next ≡ ls = sym (one_further ls front ts (sign Bang) g.whole ∙ ap (λ z. front_next ++ z) is
@@ -590,7 +590,7 @@ mark_full ts ls front (at Start lv below) place begun names e start full g = res
         let size : length ls ≡ place + 1 = sym (ap length whole) ∙ size_next in
         met_first ls syntax (place + 1) (inr (end_is schemas standard ls next (place + 1) e_all size refl))
         (end_first schemas ls next (place + 1) e_all size)
-        (unnamed_next (λ n. let R : List Lexeme → Type 0 = λ z. NameStands (sign Bang ∷ z) 1 in none_next (subst R is n)))
+        (unnamed_next (λ n. let R : List Lexeme → Type 0 = λ z. NameOffset (sign Bang ∷ z) 1 in none_next (subst R is n)))
 
     rest : (us : List Lexeme) → ts ≡ us → IsRight ls (go is_schema_end (within_limits st place begun names)
         (sign Bang ∷ us))
@@ -632,7 +632,7 @@ schema_right (t ∷ ts) ls front st place begun names e g =
     (λ next h gn. schema_right ts ls (front ++ t ∷ []) next (place + 1) _ _ (run_more standard (schema_start standard)
     st next front t e h) gn)
   where
-    a : Stand
+    a : Position
     a = within_limits st place begun names
 
     ust : State
@@ -679,7 +679,7 @@ schema_right (t ∷ ts) ls front st place begun names e g =
 
     -- ---- a limit is met
 
-    limit_first : (why : Cause) → step standard st t ≡ Err why → ((q later : ℕ) → Exceeds Declarations unbounded HasFew
+    limit_first : (why : Cause) → step standard st t ≡ Err why → ((q later : ℕ) → Exceeds Declarations unbounded WithinCounts
         ls later → Declares ls q later → place < q) → IsFirst (SchemaRefusal ls) (cause_of why) place
     limit_first why h many = met_first ls (cause_of why) place (plain_here schemas ls front ts t st why place e g.whole
         g.size h) (plain_first schemas ls front ts t st why place e (sound_schema front st e) g.whole g.size h) many
@@ -806,7 +806,7 @@ schema_right (t ∷ ts) ls front st place begun names e g =
         which (inl x) = at_bang start x (true_or_false (length names == 4096)) further
         which (inr x) = at_head start x (true_or_false (length names == 4096)) further
 
-    -- behind a `!`, which there was room for
+    -- after a `!`, which there was room for
     at_marked : is_marked st ≡ true → (heads t ≡ true) ⊎ (heads t ≡ false) → Further
         → IsRight ls (go is_schema_end a (t ∷ ts))
     at_marked m (inr h) further = stopped_right (judged_no_name a t h) (marked_stops standard st t m h)
@@ -864,7 +864,7 @@ schema_right (t ∷ ts) ls front st place begun names e g =
     cases false later false mark true named further = a_word (at_result standard st t named)
       where
         a_word : ((x : List ℕ) × (t ≡ word x)) ⊎ ((step standard st t ≡ Err Syntax)
-            × ((b : Stand) → awaits_name b.state ≡ false → judged_name b t ≡ None))
+            × ((b : Position) → awaits_name b.state ≡ false → judged_name b t ≡ None))
             → IsRight ls (go is_schema_end a (t ∷ ts))
         a_word (inl x) = at_name later mark named x.0 x.1 (true_or_false (count_of x.0 names == 256)) further
         a_word (inr x) = stopped_right (x.1 a (awaits_not st later mark)) x.0

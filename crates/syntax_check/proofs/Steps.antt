@@ -9,15 +9,15 @@ use Rattle.syntax_check.specs.declared.machine.Side.{Side}
 use Rattle.syntax_check.specs.declared.machine.Side.TheVariants.{Paren, Left, Right, Word}
 use Rattle.syntax_check.specs.declared.machine.Spot.{Spot}
 use Rattle.syntax_check.specs.declared.machine.Spot.TheVariants.{Operand, Argument, Width, Field, Param}
-use Rattle.syntax_check.specs.declared.machine.Mode.{Mode}
-use Rattle.syntax_check.specs.declared.machine.Mode.TheVariants.{Start, Marked, Headed, Items, Brace, BraceName, Kind, KindEnd, ItemName, ItemBlank, Term, Apply, Applied, Operated, Typed, Bit, BitEnd, Result as ResultName, Params}
+use Rattle.syntax_check.specs.declared.machine.ParserState.{ParserState}
+use Rattle.syntax_check.specs.declared.machine.ParserState.TheVariants.{Start, Marked, Headed, Items, Brace, BraceName, Kind, KindEnd, ItemName, ItemBlank, Term, Apply, Applied, Operated, Typed, Bit, BitEnd, Result as ResultName, Params}
 use Rattle.syntax_check.specs.declared.machine.Frame.{Frame}
 use Rattle.syntax_check.specs.declared.machine.Frame.TheVariants as frames
 use Rattle.syntax_check.specs.declared.machine.Cause.{Cause}
 use Rattle.syntax_check.specs.declared.machine.Cause.TheVariants.{Syntax, DeepType, TooManyConstructors, TooManyFields, TooManyParams}
 use Rattle.syntax_check.specs.Machine.{State, at, Outcome, and_then, spend, Begin, leaf, no_leaf, prefix, paren, record_, begin_sign, begin_number, begin_of, is_width, compares, begins, term, ends_sum, operated, applied, apply, bare_item, ends_items, bare_or_end, items, typed, params, step}
 use Rattle.syntax_check.specs.Judge.{is_result}
-use Rattle.syntax_check.proofs.Forgetting.{Switches, lost, side_without, spot_without, frame_without, without, bounds_without, given_without, IsOpen, open_without, Spending, may, may_not, spending, spend_lost}
+use Rattle.syntax_check.proofs.WithoutCounts.{Switches, lost, side_without, spot_without, frame_without, without, bounds_without, given_without, IsOpen, open_without, Spending, may, may_not, spending, spend_lost}
 use Rattle.syntax_check.proofs.Phase.{Phase, between, marked, before, behind, broken, is_nil, only, side_phase, spot_phase, frames_phase, phase_of, base, base_of, Turn, opening, marking, heading, within, naming, closing, nowhere, Turned, Stays, stays_behind, stays_turn, only_stays, side_stays, spot_stays, frames_stay, given_phase}
 
 abbrev pub IsOk : Outcome → Type 0
@@ -30,7 +30,7 @@ Keeps f TooManyFields = f.items ≡ false
 Keeps f TooManyParams = f.params ≡ false
 Keeps f _ = ⊥
 
--- they lift it, and the limits that may be met only behind it
+-- they lift it, and the limits that may be met only after it
 abbrev pub Lifts : Switches → Cause → Type 0
 Lifts f DeepType = (f.levels ≡ true) × (f.items ≡ true)
 Lifts f TooManyFields = f.items ≡ true
@@ -42,7 +42,7 @@ IsLimit Syntax = ⊥
 IsLimit TooManyConstructors = ⊥
 IsLimit _ = Unit {0}
 
--- F is the outcome on the lexeme, and G that on a lexeme of its form, by switches; Q holds of the state behind it,
+-- F is the outcome on the lexeme, and G that on a lexeme of its form, by switches; Q holds of the state after it,
 -- and P where there are too many parameters
 pub data Facts (F G : Switches → Outcome) (Q : State → Type 0) (P : Type 0) : Outcome → Type 0 where
   goes : {next : State} → ((f : Switches) → F f ≡ Ok (without f next)) → ((f : Switches) → G f ≡ Ok (without f next))
@@ -539,7 +539,7 @@ bit_facts : (c : Bool) (k lv : Count) (below : List Frame) (P : Type 0) →
 bit_facts true k lv below P = both (λ f. refl) (refl, refl)
 bit_facts false k lv below P = stops (λ f. refl) (inr (λ f. (_, refl)))
 
-mode_facts : (m : Bounds) (mode : Mode) (lv : Count) (below : List Frame) (t : Lexeme) → StepFacts m (at mode lv below)
+mode_facts : (m : Bounds) (mode : ParserState) (lv : Count) (below : List Frame) (t : Lexeme) → StepFacts m (at mode lv below)
     t
 mode_facts m Start lv below (word x) = both (λ f. refl) (record { turn = start_turn below; same_base = refl })
 mode_facts m Start lv below blank = both (λ f. refl) (record { turn = start_turn below; same_base = refl })

@@ -7,10 +7,10 @@ use Rattle.syntax_check.specs.declared.machine.Cause.{Cause}
 use Rattle.syntax_check.specs.declared.machine.Cause.TheVariants.{Syntax, TooManyConstructors, TooManyParams}
 use Rattle.syntax_check.specs.Machine.{State, Outcome, and_then, step, run}
 use Rattle.syntax_check.specs.Judge.{is_result}
-use Rattle.syntax_check.proofs.Forgetting.{Switches, without, bounds_without}
+use Rattle.syntax_check.proofs.WithoutCounts.{Switches, without, bounds_without}
 use Rattle.syntax_check.proofs.Phase.{Phase, in_word, broken, phase_of, base_of, Turn, opening, marking, heading, within, naming, further, closing, in_a_word, nowhere, Turned}
 use Rattle.syntax_check.proofs.Steps.{IsOk, Keeps, Lifts, IsLimit, Facts, goes, stops, exceeds, step_by, ManyAt, step_facts}
-use Rattle.syntax_check.proofs.Trail.{runs_on}
+use Rattle.syntax_check.proofs.RunResults.{runs_on}
 
 -- ---- outcomes
 
@@ -25,7 +25,7 @@ clash o st why e h = cc
 
 -- ---- lists
 
--- the shorter of two fronts of one list begins the other
+-- the shorter of two prefixes of one list begins the other
 pub shorter : (a b c d : List Lexeme) (t : Lexeme) → a ++ t ∷ c ≡ b ++ d → length a < length b → (mid : List Lexeme)
     × (b ≡ a ++ t ∷ mid)
 shorter [] [] c d t e h = absurd (omega arith)

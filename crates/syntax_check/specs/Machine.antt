@@ -1,16 +1,24 @@
 -- The machine that goes through the lexemes of a text: its states, and one step for each lexeme. The contracts of the
 -- public calls speak of the productions alone; proofs/ ties the machine to them.
-use Rattle.std.specs.Prelude.{ℕ, zero, suc, Bool, true, false, nat_le, List, [], ◌∷◌, bytes_eq, codes, if◌then◌else◌, Option, Some, None, Result, Ok, Err}
+use Rattle.std.specs.Prelude.{ℕ, zero, suc, Bool, true, false, nat_le, List, [], ◌∷◌, bytes_eq, codes, if◌then◌else◌}
+use Rattle.std.specs.Prelude.{Option, Some, None, Result, Ok, Err}
 use Rattle.tlb_syntax.specs.declared.sign.Sign.{Sign}
-use Rattle.tlb_syntax.specs.declared.sign.Sign.TheVariants.{Hash, HashHash, HashLess, HashLessEqual, Colon, Semicolon, Equal, OpenParen, CloseParen, OpenBrace, CloseBrace, OpenBracket, CloseBracket, Caret, Tilde, Question, Dot, Asterisk, Plus, Less, LessEqual, Greater, GreaterEqual, Bang}
+use Rattle.tlb_syntax.specs.declared.sign.Sign.TheVariants.{Hash, HashHash, HashLess, HashLessEqual, Colon, Semicolon}
+use Rattle.tlb_syntax.specs.declared.sign.Sign.TheVariants.{Equal, OpenParen, CloseParen, OpenBrace, CloseBrace}
+use Rattle.tlb_syntax.specs.declared.sign.Sign.TheVariants.{OpenBracket, CloseBracket, Caret, Tilde, Question, Dot}
+use Rattle.tlb_syntax.specs.declared.sign.Sign.TheVariants.{Asterisk, Plus, Less, LessEqual, Greater, GreaterEqual}
+use Rattle.tlb_syntax.specs.declared.sign.Sign.TheVariants.{Bang}
 use Rattle.tlb_syntax.specs.Lexeme.{Lexeme, word, blank, number, tag, sign}
 use Rattle.tlb_syntax.specs.Grammar.{Count, Bounds}
 use Rattle.syntax_check.specs.declared.machine.Side.{Side}
 use Rattle.syntax_check.specs.declared.machine.Side.TheVariants.{Paren, Left, Right, Word}
 use Rattle.syntax_check.specs.declared.machine.Spot.{Spot}
 use Rattle.syntax_check.specs.declared.machine.Spot.TheVariants.{Operand, Argument, Width, Field, Guarded, Param}
-use Rattle.syntax_check.specs.declared.machine.Mode.{Mode}
-use Rattle.syntax_check.specs.declared.machine.Mode.TheVariants.{Start, Marked, Headed, Items, Brace, BraceName, Kind, KindEnd, ItemName, ItemBlank, Term, Apply, Applied, Operated, Typed, Bit, BitEnd, Result as ResultName, Params}
+use Rattle.syntax_check.specs.declared.machine.ParserState.{ParserState}
+use Rattle.syntax_check.specs.declared.machine.ParserState.TheVariants.{Start, Marked, Headed, Items, Brace, BraceName}
+use Rattle.syntax_check.specs.declared.machine.ParserState.TheVariants.{Kind, KindEnd, ItemName, ItemBlank, Term, Apply}
+use Rattle.syntax_check.specs.declared.machine.ParserState.TheVariants.{Applied, Operated, Typed, Bit, BitEnd}
+use Rattle.syntax_check.specs.declared.machine.ParserState.TheVariants.{Result as ResultName, Params}
 use Rattle.syntax_check.specs.declared.machine.Frame.{Frame}
 use Rattle.syntax_check.specs.declared.machine.Frame.TheVariants as frames
 use Rattle.syntax_check.specs.declared.machine.Cause.{Cause}
@@ -18,7 +26,7 @@ use Rattle.syntax_check.specs.declared.machine.Cause.TheVariants.{Syntax, DeepTy
 
 -- the mode, the levels that may be opened here, and the open brackets, the innermost first
 pub data State : Type 0 where
-  at : Mode → Count → List Frame → State
+  at : ParserState → Count → List Frame → State
 
 abbrev pub Outcome : Type 0
 Outcome = Result State Cause
@@ -78,8 +86,8 @@ compares _ = false
 
 -- ---- terms
 
--- behind a term that stands there
-abbrev pub given_to : Spot → Mode
+-- after a term that stands there
+abbrev pub given_to : Spot → ParserState
 given_to (Operand p s) = Operated p s
 given_to (Argument p s) = Applied p s
 given_to (Width p s) = Operated p s
@@ -92,8 +100,10 @@ abbrev pub begins : Bounds → Begin → Spot → Count → Count → List Frame
 begins m leaf spot lv inner below = Ok (at (given_to spot) lv below)
 begins m no_leaf spot lv inner below = Err Syntax
 begins m prefix spot lv inner below = and_then (spend inner DeepType) (λ left. Ok (at (Term spot left) lv below))
-begins m paren spot lv inner below = and_then (spend inner DeepType) (λ left. Ok (at (Apply Paren false) left (frames.Paren spot lv ∷ below)))
-begins m record_ spot lv inner below = and_then (spend inner DeepType) (λ left. Ok (at (Items m.items) left (frames.Record spot lv ∷ below)))
+begins m paren spot lv inner below = and_then (spend inner DeepType)
+    (λ left. Ok (at (Apply Paren false) left (frames.Paren spot lv ∷ below)))
+begins m record_ spot lv inner below = and_then (spend inner DeepType)
+    (λ left. Ok (at (Items m.items) left (frames.Record spot lv ∷ below)))
 
 abbrev pub term : Bounds → Option Begin → Spot → Count → Count → List Frame → Outcome
 term m None spot lv inner below = Err Syntax
@@ -108,21 +118,22 @@ ends_sum (Left k) lv below (sign c) = if compares c then Ok (at (Apply (Right k)
 ends_sum (Right k) lv below (sign CloseBrace) = Ok (at (Items k) lv below)
 ends_sum _ lv below t = Err Syntax
 
--- behind a whole operand
+-- after a whole operand
 abbrev pub operated : Side → Bool → Count → List Frame → Lexeme → Outcome
 operated p s lv below (sign Asterisk) = if s then Err Syntax else Ok (at (Apply p true) lv below)
 operated p s lv below (sign Plus) = Ok (at (Apply p false) lv below)
 operated p s lv below t = ends_sum p lv below t
 
--- behind a name and maybe arguments: a further argument, or else the name is a whole operand
+-- after a name and maybe arguments: a further argument, or else the name is a whole operand
 abbrev pub applied : Bounds → Option Begin → Side → Bool → Count → List Frame → Lexeme → Outcome
 applied m None p s lv below t = operated p s lv below t
 applied m (Some b) p s lv below t = begins m b (Argument p s) lv lv below
 
--- where an operand is wanted
+-- where an operand is expected
 abbrev pub apply : Bounds → Side → Bool → Count → List Frame → Lexeme → Outcome
 apply m p s lv below (word x) = Ok (at (Applied p s) lv below)
-apply m p s lv below (sign c) = if is_width c then Ok (at (Term (Width p s) lv) lv below) else term m (begin_sign c) (Operand p s) lv lv below
+apply m p s lv below (sign c) =
+    if is_width c then Ok (at (Term (Width p s) lv) lv below) else term m (begin_sign c) (Operand p s) lv lv below
 apply m p s lv below t = term m (begin_of t) (Operand p s) lv lv below
 
 -- ---- items
@@ -137,7 +148,8 @@ opens record_ lv = spend lv DeepType
 
 -- an item without a name begins; the limit on levels is judged before that on items
 abbrev pub bare_item : Bounds → Begin → Count → Count → List Frame → Outcome
-bare_item m b k lv below = and_then (opens b lv) (λ _. and_then (spend k TooManyFields) (λ left. begins m b (Field left) lv lv below))
+bare_item m b k lv below = and_then (opens b lv) (λ _. and_then (spend k TooManyFields)
+    (λ left. begins m b (Field left) lv lv below))
 
 -- the end of a record
 abbrev pub ends_items : Count → List Frame → Lexeme → Outcome
@@ -156,7 +168,7 @@ items m k lv below blank = and_then (spend k TooManyFields) (λ left. Ok (at (It
 items m k lv below (sign OpenBrace) = and_then (spend k TooManyFields) (λ left. Ok (at (Brace left) lv below))
 items m k lv below t = bare_or_end m (begin_of t) k lv below t
 
--- behind the first term of a field
+-- after the first term of a field
 abbrev pub typed : Bounds → Count → Count → List Frame → Lexeme → Outcome
 typed m k lv below (sign Question) = Ok (at (Term (Guarded k) lv) lv below)
 typed m k lv below (sign Dot) = Ok (at (Bit k) lv below)
@@ -171,7 +183,7 @@ params m None k lv below t = Err Syntax
 
 -- ---- one step
 
-abbrev pub step_mode : Bounds → Mode → Count → List Frame → Lexeme → Outcome
+abbrev pub step_mode : Bounds → ParserState → Count → List Frame → Lexeme → Outcome
 step_mode m Start lv below (word x) = Ok (at Headed lv below)
 step_mode m Start lv below blank = Ok (at Headed lv below)
 step_mode m Start lv below (sign Bang) = Ok (at Marked lv below)

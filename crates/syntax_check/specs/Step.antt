@@ -4,7 +4,7 @@ use Rattle.tlb_syntax.specs.Lexeme.{Lexeme}
 use Rattle.tlb_syntax.specs.Grammar.{Bounds}
 use Rattle.tlb_syntax.specs.Written.{unbounded}
 use Rattle.syntax_check.specs.Judge.{free}
-use Rattle.syntax_check.specs.declared.machine.Mode.{Mode}
+use Rattle.syntax_check.specs.declared.machine.ParserState.{ParserState}
 use Rattle.syntax_check.specs.declared.machine.Frame.{Frame}
 use Rattle.syntax_check.specs.declared.machine.Cause.{Cause}
 use Rattle.syntax_check.specs.declared.step.Begin.{Begin as ABegin}
@@ -14,7 +14,8 @@ use Rattle.syntax_check.specs.declared.step.Change.{Change}
 use Rattle.syntax_check.specs.declared.step.Change.TheVariants.{Keep, Open, Close}
 use Rattle.syntax_check.specs.declared.step.Move.{Move}
 use Rattle.syntax_check.specs.declared.step.Machine.{Machine}
-use Rattle.syntax_check.specs.Machine.{State, at, Outcome, step, step_mode, Begin, leaf, no_leaf, prefix, paren, record_}
+use Rattle.syntax_check.specs.Machine.{State, at, Outcome, step, step_mode, Begin, leaf, no_leaf, prefix, paren}
+use Rattle.syntax_check.specs.Machine.{record_}
 
 abbrev pub begin_as : ABegin → Begin
 begin_as Leaf = leaf
@@ -37,7 +38,7 @@ abbrev pub bounds_of : Machine → Bounds
 bounds_of a = bounds_as a.limits
 
 -- what a lexeme leads to in a mode
-abbrev pub in_mode : Machine → Mode → Lexeme → Outcome
+abbrev pub in_mode : Machine → ParserState → Lexeme → Outcome
 in_mode a mode t = step_mode (bounds_of a) mode a.levels (below a) t
 
 -- what a lexeme leads to, and what it would without limits
@@ -55,11 +56,11 @@ changed (Open f) fs = f ∷ fs
 changed Close [] = []
 changed Close (f ∷ fs) = fs
 
-abbrev pub behind : Move → List Frame → State
-behind to fs = at to.mode to.levels (changed to.change fs)
+abbrev pub after_move : Move → List Frame → State
+after_move to fs = at to.mode to.levels (changed to.change fs)
 
 abbrev pub outcome : Result Move Cause → List Frame → Outcome
-outcome (Ok to) fs = Ok (behind to fs)
+outcome (Ok to) fs = Ok (after_move to fs)
 outcome (Err why) fs = Err why
 
 abbrev pub innermost : List Frame → Option Frame

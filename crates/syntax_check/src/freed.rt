@@ -1,10 +1,10 @@
-//! What goes on behind a limit: the machine without its counts.
+//! What goes on after a limit: the machine without its counts.
 ghost use Rattle.std.specs.Prelude.{◌≡◌, map};
 ghost use Rattle.tlb_syntax.specs.Written.{unbounded};
 ghost use Rattle.syntax_check.specs.Judge.{free_side, free_spot, free_mode, free_frame, free};
 ghost use Rattle.syntax_check.specs.Step.{bounds_of, state};
 
-use crate::machine::{Frame, Mode, Side, Spot};
+use crate::machine::{Frame, ParserState, Side, Spot};
 use crate::step::{Limits, Machine};
 
 impl Side {
@@ -35,30 +35,30 @@ impl Spot {
     }
 }
 
-impl Mode {
-    fn freed(self) -> Mode
+impl ParserState {
+    fn freed(self) -> ParserState
         ensures { result ≡ free_mode self }
     {
         match self {
-            Mode::Start => Mode::Start,
-            Mode::Marked => Mode::Marked,
-            Mode::Headed => Mode::Headed,
-            Mode::Items(_) => Mode::Items(None),
-            Mode::Brace(_) => Mode::Brace(None),
-            Mode::BraceName(_) => Mode::BraceName(None),
-            Mode::Kind(_) => Mode::Kind(None),
-            Mode::KindEnd(_) => Mode::KindEnd(None),
-            Mode::ItemName(_) => Mode::ItemName(None),
-            Mode::ItemBlank(_) => Mode::ItemBlank(None),
-            Mode::Term(spot, _) => Mode::Term(spot.freed(), None),
-            Mode::Apply(side, starred) => Mode::Apply(side.freed(), starred),
-            Mode::Applied(side, starred) => Mode::Applied(side.freed(), starred),
-            Mode::Operated(side, starred) => Mode::Operated(side.freed(), starred),
-            Mode::Typed(_) => Mode::Typed(None),
-            Mode::Bit(_) => Mode::Bit(None),
-            Mode::BitEnd(_) => Mode::BitEnd(None),
-            Mode::Result => Mode::Result,
-            Mode::Params(_) => Mode::Params(None),
+            ParserState::Start => ParserState::Start,
+            ParserState::Marked => ParserState::Marked,
+            ParserState::Headed => ParserState::Headed,
+            ParserState::Items(_) => ParserState::Items(None),
+            ParserState::Brace(_) => ParserState::Brace(None),
+            ParserState::BraceName(_) => ParserState::BraceName(None),
+            ParserState::Kind(_) => ParserState::Kind(None),
+            ParserState::KindEnd(_) => ParserState::KindEnd(None),
+            ParserState::ItemName(_) => ParserState::ItemName(None),
+            ParserState::ItemBlank(_) => ParserState::ItemBlank(None),
+            ParserState::Term(spot, _) => ParserState::Term(spot.freed(), None),
+            ParserState::Apply(side, starred) => ParserState::Apply(side.freed(), starred),
+            ParserState::Applied(side, starred) => ParserState::Applied(side.freed(), starred),
+            ParserState::Operated(side, starred) => ParserState::Operated(side.freed(), starred),
+            ParserState::Typed(_) => ParserState::Typed(None),
+            ParserState::Bit(_) => ParserState::Bit(None),
+            ParserState::BitEnd(_) => ParserState::BitEnd(None),
+            ParserState::Result => ParserState::Result,
+            ParserState::Params(_) => ParserState::Params(None),
         }
     }
 }

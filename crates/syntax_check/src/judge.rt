@@ -4,10 +4,10 @@ ghost use Rattle.tlb_syntax.specs.Lexeme.{lexeme};
 ghost use Rattle.tlb_syntax.specs.Placed.{IsSpelled};
 ghost use Rattle.tlb_syntax.specs.Written.{standard, unbounded};
 ghost use Rattle.syntax_check.specs.Judge as verdicts;
-ghost use Rattle.syntax_check.specs.Step.{bounds_of, state, below, behind, stepped, stepped_freely};
-ghost use Rattle.syntax_check.specs.Judged.{told, told_verdict, stand, goes_to, start_of, may_end};
+ghost use Rattle.syntax_check.specs.Step.{bounds_of, state, below, after_move, stepped, stepped_freely};
+ghost use Rattle.syntax_check.specs.Judged.{reported, reported_verdict, position, goes_to, start_of, may_end};
 
-use crate::machine::{Cause, Mode, Side};
+use crate::machine::{Cause, ParserState, Side};
 use crate::step::{Change, Limits, Machine, Move};
 use std::alloc::{AllocError, Global};
 use tlb_memory::NoMemory;
@@ -63,8 +63,8 @@ impl Machine {
                 params: Some(MOST_PARAMS),
             },
             mode: match whole {
-                Whole::Schema => Mode::Start,
-                Whole::Word => Mode::Apply(Side::Word, false),
+                Whole::Schema => ParserState::Start,
+                Whole::Word => ParserState::Apply(Side::Word, false),
             },
             levels: Some(MOST_LEVELS),
             open: Vec::new(alloc),
@@ -74,30 +74,30 @@ impl Machine {
     fn awaits_name(&self) -> bool
         ensures { result ≡ verdicts.awaits_name (state self.now) }
     {
-        matches!(self.mode, Mode::Start | Mode::Marked)
+        matches!(self.mode, ParserState::Start | ParserState::Marked)
     }
 
     fn is_at_result(&self) -> bool
         ensures { result ≡ verdicts.is_result (state self.now) }
     {
-        matches!(self.mode, Mode::Result)
+        matches!(self.mode, ParserState::Result)
     }
 
     fn may_end(&self, whole: Whole) -> bool
         ensures { result ≡ may_end whole (state self.now) }
     {
         match whole {
-            Whole::Schema => matches!(self.mode, Mode::Start),
+            Whole::Schema => matches!(self.mode, ParserState::Start),
             Whole::Word => matches!(
                 self.mode,
-                Mode::Applied(Side::Word, _) | Mode::Operated(Side::Word, _)
+                ParserState::Applied(Side::Word, _) | ParserState::Operated(Side::Word, _)
             ),
         }
     }
 
     /// Goes where a step leads.
     fn go(&mut self, to: Move) -> Result<(), NoMemory>
-        ensures led { OnOk result (state self.new ≡ behind to (below self.old)) }
+        ensures led { OnOk result (state self.new ≡ after_move to (below self.old)) }
         ensures limits { self.new.limits ≡ self.old.limits }
     {
         match to.change {
@@ -115,7 +115,7 @@ impl Machine {
 
 impl<'a> Judge<'a> {
     pub(crate) fn new(alloc: Global, whole: Whole) -> Judge<'a>
-        ensures { stand result ≡ verdicts.stand_at standard (start_of whole) }
+        ensures { position result ≡ verdicts.position_at standard (start_of whole) }
     {
         Judge {
             machine: Machine::new(alloc, whole),
@@ -127,7 +127,7 @@ impl<'a> Judge<'a> {
     }
 
     fn refusal(&self, cause: Cause) -> Refusal
-        ensures { told result ≡ (cause, self.now.place) }
+        ensures { reported result ≡ (cause, self.now.place) }
     {
         Refusal {
             cause,
@@ -144,7 +144,7 @@ impl<'a> Judge<'a> {
 
     // A name that begins a declaration: the limit that was met before it, or one declaration too many.
     fn counted(&self) -> Option<Refusal>
-        ensures { told_verdict result ≡ verdicts.counted (stand self.now) }
+        ensures { reported_verdict result ≡ verdicts.counted (position self.now) }
     {
         if !self.machine.awaits_name() {
             return None;
@@ -158,9 +158,9 @@ impl<'a> Judge<'a> {
         }
     }
 
-    // Behind a whole result: one declaration of its type too many, or the limit that was met in it.
+    // After a whole result: one declaration of its type too many, or the limit that was met in it.
     fn judged_result(&self, name: &[u8]) -> Option<Refusal>
-        ensures { told_verdict result ≡ verdicts.judged_result (stand self.now) name.now }
+        ensures { reported_verdict result ≡ verdicts.judged_result (position self.now) name.now }
     {
         if self.count_of(name) == MOST_OF_ONE_TYPE {
             Some(Refusal {
@@ -173,7 +173,7 @@ impl<'a> Judge<'a> {
     }
 
     fn judged_name(&self, next: Lexeme) -> Option<Refusal>
-        ensures { told_verdict result ≡ verdicts.judged_name (stand self.now) (lexeme next.entry) }
+        ensures { reported_verdict result ≡ verdicts.judged_name (position self.now) (lexeme next.entry) }
     {
         match next {
             Lexeme::Name(name) => {
@@ -190,8 +190,8 @@ impl<'a> Judge<'a> {
 
     // Keeps the type of the declaration.
     fn keep_name(&mut self, next: Lexeme<'a>) -> Result<(), NoMemory>
-        ensures { OnOk result (stand self.new
-            ≡ record (stand self.old) { names = verdicts.names_with (stand self.old) (lexeme next.entry) }) }
+        ensures { OnOk result (position self.new
+            ≡ record (position self.old) { names = verdicts.names_with (position self.old) (lexeme next.entry) }) }
     {
         match next {
             Lexeme::Name(name) => {
@@ -206,9 +206,9 @@ impl<'a> Judge<'a> {
 
     fn go_on(&mut self, next: Lexeme<'a>, to: Move) -> Result<(), NoMemory>
         requires { self.old.place + 1 < 2 ^ 32 }
-        ensures { OnOk result (stand self.new
-            ≡ verdicts.onward (stand self.old) (lexeme next.entry) (bounds_of self.old.machine)
-            (told_verdict self.old.met) (behind to (below self.old.machine))) }
+        ensures { OnOk result (position self.new
+            ≡ verdicts.onward (position self.old) (lexeme next.entry) (bounds_of self.old.machine)
+            (reported_verdict self.old.met) (after_move to (below self.old.machine))) }
     {
         self.keep_name(next)?;
         if self.machine.awaits_name() {
@@ -221,18 +221,18 @@ impl<'a> Judge<'a> {
 
     // The limit that was met already, or else that nothing goes on with the next lexeme.
     fn stop(&self) -> Refusal
-        ensures { told result ≡ verdicts.met_or (told_verdict self.now.met) (Cause.Syntax, self.now.place) }
+        ensures { reported result ≡ verdicts.met_or (reported_verdict self.now.met) (Cause.Syntax, self.now.place) }
     {
         self.met.unwrap_or(self.refusal(Cause::Syntax))
     }
 
-    // Behind a limit the declaration goes on, to its result or to the first lexeme that nothing goes on with.
+    // After a limit the declaration goes on, to its result or to the first lexeme that nothing goes on with.
     fn go_beyond(&mut self, why: Cause, next: Lexeme<'a>) -> Result<Option<Refusal>, NoMemory>
         requires spelled { IsSpelled next }
         requires room { self.old.place + 1 < 2 ^ 32 }
-        ensures { IfOk result (λ found. verdicts.freed (stand self.old) (lexeme next.entry) why
+        ensures { IfOk result (λ found. verdicts.freed (position self.old) (lexeme next.entry) why
             (stepped_freely self.old.machine (lexeme next.entry))
-            ≡ goes_to found (stand self.new)) }
+            ≡ goes_to found (position self.new)) }
     {
         let refusal = self.refusal(why);
         self.machine.lift_limits();
@@ -249,9 +249,9 @@ impl<'a> Judge<'a> {
     fn step(&mut self, next: Lexeme<'a>) -> Result<Option<Refusal>, NoMemory>
         requires spelled { IsSpelled next }
         requires room { self.old.place + 1 < 2 ^ 32 }
-        ensures { IfOk result (λ found. verdicts.after_step (stand self.old) (lexeme next.entry)
+        ensures { IfOk result (λ found. verdicts.after_step (position self.old) (lexeme next.entry)
             (stepped self.old.machine (lexeme next.entry))
-            ≡ goes_to found (stand self.new)) }
+            ≡ goes_to found (position self.new)) }
     {
         match self.machine.step(next) {
             Ok(to) => {
@@ -267,8 +267,8 @@ impl<'a> Judge<'a> {
     pub(crate) fn advance(&mut self, next: Lexeme<'a>) -> Result<Option<Refusal>, NoMemory>
         requires spelled { IsSpelled next }
         requires room { self.old.place + 1 < 2 ^ 32 }
-        ensures { IfOk result (λ found. verdicts.advance (stand self.old) (lexeme next.entry)
-            ≡ goes_to found (stand self.new)) }
+        ensures { IfOk result (λ found. verdicts.advance (position self.old) (lexeme next.entry)
+            ≡ goes_to found (position self.new)) }
     {
         match self.judged_name(next) {
             Some(refusal) => Ok(Some(refusal)),
@@ -278,7 +278,7 @@ impl<'a> Judge<'a> {
 
     /// At the end of the text.
     pub(crate) fn finish(&self, whole: Whole) -> Option<Refusal>
-        ensures { told_verdict result ≡ verdicts.finish (may_end whole) (stand self.now) }
+        ensures { reported_verdict result ≡ verdicts.finish (may_end whole) (position self.now) }
     {
         if self.machine.may_end(whole) {
             self.met

@@ -2,7 +2,8 @@
 ghost use Rattle.tlb_syntax.specs.Written.{SchemaRefusal, WordRefusal};
 ghost use Rattle.std.specs.Prelude.{List};
 ghost use Rattle.tlb_syntax.specs.Lexeme.{Lexeme};
-ghost use Rattle.syntax_check.specs.Verdict.{OneFirst, SchemaOneAnswer, SchemaSomeAnswer, WordOneAnswer, WordSomeAnswer};
+ghost use Rattle.syntax_check.specs.Verdict.{OneFirst, SchemaOneAnswer, SchemaSomeAnswer, WordOneAnswer};
+ghost use Rattle.syntax_check.specs.Verdict.{WordSomeAnswer};
 
 /// Lexemes that write a schema within the limits have no refusal, and a first refusal is one.
 pub fn one_answer()

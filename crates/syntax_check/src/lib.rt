@@ -2,14 +2,14 @@
 #![tactic(auto)]
 
 ghost use Rattle.std.specs.Prelude.{◌≡◌, ◌<◌, ◌^◌, length, IfOk, MatchOption};
-ghost use Rattle.tlb_lexer.specs.Cut.{PlacedFrom};
+ghost use Rattle.tlb_lexer.specs.Tokenization.{PlacedFrom};
 ghost use Rattle.tlb_syntax.specs.Lexeme.{lexemes};
 ghost use Rattle.tlb_syntax.specs.Grammar.{Declarations, TypeWord};
 ghost use Rattle.tlb_syntax.specs.Tree.{ExprView, SchemaView};
-ghost use Rattle.tlb_syntax.specs.Written.{standard, HasFew, IsFirst, SchemaRefusal, WordRefusal};
-ghost use Rattle.syntax_check.specs.Judge.{go, stand_at};
+ghost use Rattle.tlb_syntax.specs.Written.{standard, WithinCounts, IsFirst, SchemaRefusal, WordRefusal};
+ghost use Rattle.syntax_check.specs.Judge.{go, position_at};
 ghost use Rattle.syntax_check.specs.Verdict.{cause_of};
-ghost use Rattle.syntax_check.specs.Judged.{told_verdict, start_of, may_end};
+ghost use Rattle.syntax_check.specs.Judged.{reported_verdict, start_of, may_end};
 
 mod freed;
 mod judge;
@@ -34,8 +34,8 @@ fn check(
 ) -> Result<Option<Refusal>, NoMemory>
     requires placed { PlacedFrom text.now 0 tokens.now }
     requires short { length text.now < 2 ^ 32 }
-    ensures { IfOk result (λ found. told_verdict found
-        ≡ go (may_end whole) (stand_at standard (start_of whole)) (lexemes text.now tokens.now)) }
+    ensures { IfOk result (λ found. reported_verdict found
+        ≡ go (may_end whole) (position_at standard (start_of whole)) (lexemes text.now tokens.now)) }
 {
     let mut judge = Judge::new(alloc, whole);
     for token in tokens {
@@ -55,7 +55,8 @@ pub fn check_schema(
 ) -> Result<Option<Refusal>, NoMemory>
     requires placed { PlacedFrom text.now 0 tokens.now }
     requires short { length text.now < 2 ^ 32 }
-    ensures { IfOk result (λ found. MatchOption found ((s : SchemaView) × Declarations standard (lexemes text.now tokens.now) s × HasFew s)
+    ensures { IfOk result (λ found. MatchOption found ((s : SchemaView)
+        × Declarations standard (lexemes text.now tokens.now) s × WithinCounts s)
         (λ r. IsFirst (SchemaRefusal (lexemes text.now tokens.now)) (cause_of r.cause) r.place)) }
 {
     check(alloc, text, tokens, Whole::Schema)
@@ -65,7 +66,8 @@ pub fn check_schema(
 pub fn check_word(alloc: Global, text: &[u8], tokens: &[Token]) -> Result<Option<Refusal>, NoMemory>
     requires placed { PlacedFrom text.now 0 tokens.now }
     requires short { length text.now < 2 ^ 32 }
-    ensures { IfOk result (λ found. MatchOption found ((e : ExprView) × TypeWord standard (lexemes text.now tokens.now) e)
+    ensures { IfOk result (λ found. MatchOption found ((e : ExprView)
+        × TypeWord standard (lexemes text.now tokens.now) e)
         (λ r. IsFirst (WordRefusal (lexemes text.now tokens.now)) (cause_of r.cause) r.place)) }
 {
     check(alloc, text, tokens, Whole::Word)

@@ -14,7 +14,7 @@ pub enum Side {
 /// Where a term stands.
 #[derive(Clone, Copy)]
 pub enum Spot {
-    /// An operand of a sum, behind `*` or not.
+    /// An operand of a sum, after `*` or not.
     Operand(Side, bool),
     /// An argument of a name that is such an operand.
     Argument(Side, bool),
@@ -22,52 +22,52 @@ pub enum Spot {
     Width(Side, bool),
     /// The first term of a field, with the items that may follow.
     Field(Option<u32>),
-    /// The type behind a `?`.
+    /// The type after a `?`.
     Guarded(Option<u32>),
     /// A parameter of a result, with the parameters that may follow.
     Param(Option<u32>),
 }
 
-/// What was read last, or what is wanted next. The number is that of the items or parameters that may follow.
+/// What was read last, or what is expected next. The number is that of the items or parameters that may follow.
 #[derive(Clone, Copy)]
-pub enum Mode {
+pub enum ParserState {
     /// Between declarations.
     Start,
-    /// Behind the `!` of a declaration.
+    /// After the `!` of a declaration.
     Marked,
-    /// Behind a declaration's name.
+    /// After a declaration's name.
     Headed,
     /// In a record, between items.
     Items(Option<u32>),
-    /// Behind the `{` of an item.
+    /// After the `{` of an item.
     Brace(Option<u32>),
-    /// Behind `{` and a name.
+    /// After `{` and a name.
     BraceName(Option<u32>),
-    /// Behind `{`, a name and `:`.
+    /// After `{`, a name and `:`.
     Kind(Option<u32>),
-    /// Behind the kind of an implicit field.
+    /// After the kind of an implicit field.
     KindEnd(Option<u32>),
-    /// Behind a name that begins an item.
+    /// After a name that begins an item.
     ItemName(Option<u32>),
-    /// Behind the `_` that begins an item.
+    /// After the `_` that begins an item.
     ItemBlank(Option<u32>),
-    /// A term is wanted; the number is that of the levels that may be opened in it, behind prefixes.
+    /// A term is expected; the number is that of the levels that may be opened in it, after prefixes.
     Term(Spot, Option<u32>),
-    /// An operand of a sum is wanted, behind `*` or not.
+    /// An operand of a sum is expected, after `*` or not.
     Apply(Side, bool),
-    /// Behind a name, and maybe arguments.
+    /// After a name, and maybe arguments.
     Applied(Side, bool),
-    /// Behind a whole operand.
+    /// After a whole operand.
     Operated(Side, bool),
-    /// Behind the first term of a field.
+    /// After the first term of a field.
     Typed(Option<u32>),
-    /// Behind the `.` of a field.
+    /// After the `.` of a field.
     Bit(Option<u32>),
-    /// Behind the number of a tested bit.
+    /// After the number of a tested bit.
     BitEnd(Option<u32>),
-    /// Behind the `=` of a declaration.
+    /// After the `=` of a declaration.
     Result,
-    /// Behind the type's name.
+    /// After the type's name.
     Params(Option<u32>),
 }
 

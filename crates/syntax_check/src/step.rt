@@ -4,7 +4,7 @@ ghost use Rattle.tlb_syntax.specs.Lexeme.{lexeme, sign as spelled};
 ghost use Rattle.syntax_check.specs.Machine as spec;
 ghost use Rattle.syntax_check.specs.Step.{begin_as, bounds_of, below, innermost, outcome};
 
-use crate::machine::{Cause, Frame, Mode, Side, Spot};
+use crate::machine::{Cause, Frame, ParserState, Side, Spot};
 use tlb_syntax::{Lexeme, Sign};
 
 /// How many levels may be opened, and how many items and parameters may come. `None`: any number.
@@ -38,7 +38,7 @@ pub enum Change {
 /// Where a step leads.
 #[derive(Clone, Copy)]
 pub struct Move {
-    pub mode: Mode,
+    pub mode: ParserState,
     pub levels: Option<u32>,
     pub change: Change,
 }
@@ -47,7 +47,7 @@ pub struct Move {
 #[derive(Drop)]
 pub struct Machine {
     pub limits: Limits,
-    pub mode: Mode,
+    pub mode: ParserState,
     /// The levels that may be opened here.
     pub levels: Option<u32>,
     /// The open brackets, the innermost last.
@@ -113,22 +113,22 @@ fn compares(sign: Sign) -> bool
     )
 }
 
-// Behind a term that stands there.
-fn given_to(spot: Spot) -> Mode
+// After a term that stands there.
+fn given_to(spot: Spot) -> ParserState
     ensures { result ≡ spec.given_to spot }
 {
     match spot {
-        Spot::Operand(side, starred) | Spot::Width(side, starred) => Mode::Operated(side, starred),
-        Spot::Argument(side, starred) => Mode::Applied(side, starred),
-        Spot::Field(items) => Mode::Typed(items),
-        Spot::Guarded(items) => Mode::Items(items),
-        Spot::Param(params) => Mode::Params(params),
+        Spot::Operand(side, starred) | Spot::Width(side, starred) => ParserState::Operated(side, starred),
+        Spot::Argument(side, starred) => ParserState::Applied(side, starred),
+        Spot::Field(items) => ParserState::Typed(items),
+        Spot::Guarded(items) => ParserState::Items(items),
+        Spot::Param(params) => ParserState::Params(params),
     }
 }
 
 impl Machine {
     // The brackets stay as they are.
-    pub(crate) fn stay(&self, mode: Mode) -> Move
+    pub(crate) fn stay(&self, mode: ParserState) -> Move
         ensures { outcome (Ok result) (below self.now) ≡ Ok (spec.at mode self.now.levels (below self.now)) }
     {
         Move {
@@ -148,12 +148,12 @@ impl Machine {
             Begin::NoLeaf => Err(Cause::Syntax),
             Begin::Prefix => {
                 let inner = spend(inner, Cause::DeepType)?;
-                Ok(self.stay(Mode::Term(spot, inner)))
+                Ok(self.stay(ParserState::Term(spot, inner)))
             }
             Begin::Paren => {
                 let inner = spend(inner, Cause::DeepType)?;
                 Ok(Move {
-                    mode: Mode::Apply(Side::Paren, false),
+                    mode: ParserState::Apply(Side::Paren, false),
                     levels: inner,
                     change: Change::Open(Frame::Paren(spot, self.levels)),
                 })
@@ -161,7 +161,7 @@ impl Machine {
             Begin::Record => {
                 let inner = spend(inner, Cause::DeepType)?;
                 Ok(Move {
-                    mode: Mode::Items(self.limits.items),
+                    mode: ParserState::Items(self.limits.items),
                     levels: inner,
                     change: Change::Open(Frame::Record(spot, self.levels)),
                 })
@@ -214,19 +214,19 @@ impl Machine {
             (Side::Paren, Lexeme::Sign(Sign::CloseParen)) => self.closes_paren(),
             (Side::Left(items), Lexeme::Sign(sign)) => {
                 if compares(sign) {
-                    Ok(self.stay(Mode::Apply(Side::Right(items), false)))
+                    Ok(self.stay(ParserState::Apply(Side::Right(items), false)))
                 } else {
                     Err(Cause::Syntax)
                 }
             }
-            (Side::Right(items), Lexeme::Sign(Sign::CloseBrace)) => Ok(self.stay(Mode::Items(
+            (Side::Right(items), Lexeme::Sign(Sign::CloseBrace)) => Ok(self.stay(ParserState::Items(
                 items,
             ))),
             _ => Err(Cause::Syntax),
         }
     }
 
-    // Behind a whole operand.
+    // After a whole operand.
     pub(crate) fn operated(&self, side: Side, starred: bool, next: Lexeme) -> Result<Move, Cause>
         ensures { spec.operated side starred self.now.levels (below self.now) (lexeme next.entry)
             ≡ outcome result (below self.now) }
@@ -236,15 +236,15 @@ impl Machine {
                 if starred {
                     Err(Cause::Syntax)
                 } else {
-                    Ok(self.stay(Mode::Apply(side, true)))
+                    Ok(self.stay(ParserState::Apply(side, true)))
                 }
             }
-            Lexeme::Sign(Sign::Plus) => Ok(self.stay(Mode::Apply(side, false))),
+            Lexeme::Sign(Sign::Plus) => Ok(self.stay(ParserState::Apply(side, false))),
             _ => self.ends_sum(side, next),
         }
     }
 
-    // Behind a name and maybe arguments: a further argument, or else the name is a whole operand.
+    // After a name and maybe arguments: a further argument, or else the name is a whole operand.
     pub(crate) fn applied(&self, side: Side, starred: bool, next: Lexeme) -> Result<Move, Cause>
         ensures { spec.applied (bounds_of self.now) (spec.begin_of (lexeme next.entry)) side starred
             self.now.levels (below self.now) (lexeme next.entry)
@@ -256,16 +256,16 @@ impl Machine {
         }
     }
 
-    // Where an operand is wanted.
+    // Where an operand is expected.
     pub(crate) fn apply(&self, side: Side, starred: bool, next: Lexeme) -> Result<Move, Cause>
         ensures { spec.apply (bounds_of self.now) side starred self.now.levels (below self.now) (lexeme next.entry)
             ≡ outcome result (below self.now) }
     {
         match next {
-            Lexeme::Name(_) => Ok(self.stay(Mode::Applied(side, starred))),
+            Lexeme::Name(_) => Ok(self.stay(ParserState::Applied(side, starred))),
             Lexeme::Sign(sign) => {
                 if is_width(sign) {
-                    Ok(self.stay(Mode::Term(Spot::Width(side, starred), self.levels)))
+                    Ok(self.stay(ParserState::Term(Spot::Width(side, starred), self.levels)))
                 } else {
                     self.term(
                         begin_of_sign(sign),
@@ -310,7 +310,7 @@ impl Machine {
     {
         match self.innermost() {
             Some(_) => Err(Cause::Syntax),
-            None => Ok(self.stay(Mode::Result)),
+            None => Ok(self.stay(ParserState::Result)),
         }
     }
 
@@ -345,30 +345,30 @@ impl Machine {
         match next {
             Lexeme::Name(_) => {
                 let items = spend(items, Cause::TooManyFields)?;
-                Ok(self.stay(Mode::ItemName(items)))
+                Ok(self.stay(ParserState::ItemName(items)))
             }
             Lexeme::Blank => {
                 let items = spend(items, Cause::TooManyFields)?;
-                Ok(self.stay(Mode::ItemBlank(items)))
+                Ok(self.stay(ParserState::ItemBlank(items)))
             }
             Lexeme::Sign(Sign::OpenBrace) => {
                 let items = spend(items, Cause::TooManyFields)?;
-                Ok(self.stay(Mode::Brace(items)))
+                Ok(self.stay(ParserState::Brace(items)))
             }
             _ => self.bare_or_end(items, next),
         }
     }
 
-    // Behind the first term of a field.
+    // After the first term of a field.
     pub(crate) fn typed(&self, items: Option<u32>, next: Lexeme) -> Result<Move, Cause>
         ensures { spec.typed (bounds_of self.now) items self.now.levels (below self.now) (lexeme next.entry)
             ≡ outcome result (below self.now) }
     {
         match next {
             Lexeme::Sign(Sign::Question) => {
-                Ok(self.stay(Mode::Term(Spot::Guarded(items), self.levels)))
+                Ok(self.stay(ParserState::Term(Spot::Guarded(items), self.levels)))
             }
-            Lexeme::Sign(Sign::Dot) => Ok(self.stay(Mode::Bit(items))),
+            Lexeme::Sign(Sign::Dot) => Ok(self.stay(ParserState::Bit(items))),
             _ => self.items(items, next),
         }
     }

@@ -14,7 +14,7 @@ use Rattle.tlb_grammar.specs.Answer.{Refuses}
 use Rattle.tlb_grammar.specs.declared.error.GrammarError.{GrammarError}
 use Rattle.tlb_kinds.specs.Refusals.{IsKinded}
 use Rattle.tlb_kinds.specs.RefusalLaws.{refused_not_kinded}
-use Rattle.tlb_lexer.proofs.Whole.{cut_once}
+use Rattle.tlb_lexer.proofs.Tokenization.{tokens_once}
 use Rattle.tlb_lexer.specs.declared.Token.{Token}
 use Rattle.tlb_syntax.specs.Tree.{SchemaView}
 use Rattle.tlb_syntax.specs.Written.{Writes}
@@ -62,7 +62,7 @@ kinds-once s = stage-once (RefusesKinds s) _
 forms-same : (text : List ℕ) (ds es : List Declaration) → FormOf text ds → FormOf text es → ds ≡ es
 forms-same text ds es a b =
     let P : List Token → Type 0 = λ ts. Declares (lexemes text ts) ds in
-    form-once (lexemes text b.tokens) ds es (subst P (cut_once text a.tokens b.tokens a.cut b.cut) a.declares) b.declares
+    form-once (lexemes text b.tokens) ds es (subst P (tokens_once text a.tokens b.tokens a.tokenized b.tokenized) a.declares) b.declares
 
 pub form-judged-once : (text : List ℕ) → IsOnce (FlatForm text)
 form-judged-once text = stage-once (RefusesForm text) (FormOf text) (λ r s a b. a.1 ∙ sym b.1) (forms-same text) (λ r ds a b. a.0 ds b)

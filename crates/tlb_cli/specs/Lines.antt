@@ -10,8 +10,8 @@ use Rattle.tlb_lexer.specs.declared.LexError.TheVariants as token
 use Rattle.tlb_lexer.specs.declared.LexError.TheVariants.{BadCharacter, OpenComment, TooLongName}
 use Rattle.tlb_grammar.specs.declared.error.GrammarError.{GrammarError}
 use Rattle.tlb_grammar.specs.declared.error.GrammarError.TheVariants as grammar
-use Rattle.kind_terms.specs.declared.part.Part.{Part}
-use Rattle.kind_terms.specs.declared.part.Part.TheVariants as places
+use Rattle.field_path.specs.declared.part.Part.{Part}
+use Rattle.field_path.specs.declared.part.Part.TheVariants as places
 use Rattle.tlb_kinds.specs.declared.error.KindError.{KindError}
 use Rattle.tlb_kinds.specs.declared.error.KindError.TheVariants as kinds
 use Rattle.tlb_kinds.specs.declared.spot.Spot.{Spot as At}

@@ -1,4 +1,4 @@
--- The levels that lexemes open, told by the lexemes alone: no derivation opens fewer, and a canonical text opens so
+-- The levels that lexemes open, reported by the lexemes alone: no derivation opens fewer, and a canonical text opens so
 -- many.
 use Rattle.std.proofs.Common.{◌≡◌, ◌≤◌, ◌+◌, suc, max, sym, refl, subst, Bool, true, false, ℕ, List, [], ◌∷◌, length, Option, Some, None, arith}
 use Rattle.nat_solver.specs.declared.compare.Op.{Op}
@@ -19,13 +19,13 @@ data Open : Type 0 where
   bracket : Open
   prefix : Open
 
--- behind a term
+-- after a term
 abbrev behind : List Open → List Open
 behind [] = []
 behind (bracket ∷ st) = bracket ∷ st
 behind (prefix ∷ st) = behind st
 
--- behind a closing bracket
+-- after a closing bracket
 abbrev shut : List Open → List Open
 shut [] = []
 shut (o ∷ st) = behind st
@@ -276,7 +276,7 @@ prefixed {o} {st} {k} {s} {r} e p =
     let rest = p.rest in
     record { own = omega arith; rest = omega arith }
 
--- the terms behind a name or a `##`, `#<` or `#<=` in parentheses
+-- the terms after a name or a `##`, `#<` or `#<=` in parentheses
 abbrev Behind : List Open → ExprList → List Lexeme → Type 0
 Behind st es r = Reach (bracket ∷ st) (bracket ∷ st) (exprs_levels es) (exprs_before es (sign CloseParen ∷ r))
     (sign CloseParen ∷ r)

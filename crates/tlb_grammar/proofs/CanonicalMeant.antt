@@ -8,8 +8,8 @@ use Rattle.tlb_lexer.specs.declared.TokenKind.TheVariants.{Name, Blank, Number, 
 use Rattle.tlb_lexer.specs.declared.Token.{Token}
 use Rattle.tlb_lexer.specs.Bytes.{is_bit, is_hex_digit}
 use Rattle.tlb_lexer.specs.Spelling.{spells, is_underscore, are_bits, ends_hex}
-use Rattle.tlb_lexer.specs.Cut.{longest_name, CutFrom, ended, gap, token, Cut, Longest}
-use Rattle.tlb_lexer.proofs.Runs.{and_parts, or_parts, clash}
+use Rattle.tlb_lexer.specs.Tokenization.{longest_name, TokenizesFrom, ended, gap, token, Tokenizes, Longest}
+use Rattle.tlb_grammar.proofs.Symbols.{and_parts, or_parts, clash}
 use Rattle.tlb_syntax.specs.declared.sign.Sign.{Sign}
 use Rattle.tlb_syntax.specs.Lexeme.{Lexeme, word, blank, number, tag, sign, other, meaning, lexemes, decimal_onto, binary_bits, hexadecimal_bits, at_most_1023, and_at_most_1023, hex_value, hex_bits, or_behind, without_completion, hex_digits, is_completed, sign_among, sign_text, signs}
 use Rattle.tlb_grammar.proofs.CanonicalTrees.{IsWord, IsMark}
@@ -185,13 +185,13 @@ longest_meant kind n place whole text longest short e =
 left_over : (n place : ℕ) (whole text : List ℕ) → drop place whole ≡ text → drop (place + n) whole ≡ drop n text
 left_over n place whole text e = sym (drop-drop n place whole) ∙ ap (drop n) e
 
-cut_meant : {place : ℕ} {text : List ℕ} {tokens : List Token} → CutFrom place text tokens → (whole : List ℕ)
+tokens_meant : {place : ℕ} {text : List ℕ} {tokens : List Token} → TokenizesFrom place text tokens → (whole : List ℕ)
     → drop place whole ≡ text → AreMeant (lexemes whole tokens)
-cut_meant ended whole e = tt
-cut_meant (gap {place = place} {n = n} {text = text} g c) whole e = cut_meant c whole (left_over n place whole text e)
-cut_meant (token {place = place} {n = n} {text = text} {kind = kind} longest short c) whole e =
-    (longest_meant kind n place whole text longest short e, cut_meant c whole (left_over n place whole text e))
+tokens_meant ended whole e = tt
+tokens_meant (gap {place = place} {n = n} {text = text} g c) whole e = tokens_meant c whole (left_over n place whole text e)
+tokens_meant (token {place = place} {n = n} {text = text} {kind = kind} longest short c) whole e =
+    (longest_meant kind n place whole text longest short e, tokens_meant c whole (left_over n place whole text e))
 
 -- the lexemes of a text
-pub text_meant : (text : List ℕ) (tokens : List Token) → Cut text tokens → AreMeant (lexemes text tokens)
-text_meant text tokens c = cut_meant c text refl
+pub text_meant : (text : List ℕ) (tokens : List Token) → Tokenizes text tokens → AreMeant (lexemes text tokens)
+text_meant text tokens c = tokens_meant c text refl

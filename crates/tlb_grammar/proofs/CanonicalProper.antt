@@ -146,6 +146,6 @@ at_each (x ∷ xs) h (suc k) c lt = at_each xs h.1 k c (omega arith)
 pub written_proper : (c : ConstructorView) → IsWritten c → IsConstructor c
 written_proper c w =
     let t = w.writes in
-    let all = schema_proper t.written (text_meant w.text t.tokens t.cut) in
+    let all = schema_proper t.written (text_meant w.text t.tokens t.tokenized) in
     let P : ConstructorView → Type 0 = IsConstructor in
     subst P w.among.2 (at_each w.schema all w.among.0 c w.among.1)

@@ -4,7 +4,7 @@ use Rattle.bit_slice.specs.Bits.{AreBits}
 use Rattle.nat_solver.specs.declared.compare.Op.{Op}
 use Rattle.nat_solver.specs.declared.compare.Op.TheVariants.{Eq, Lt, Le, Gt, Ge}
 use Rattle.tlb_lexer.specs.Spelling.{is_name}
-use Rattle.tlb_lexer.specs.Cut.{longest_name}
+use Rattle.tlb_lexer.specs.Tokenization.{longest_name}
 use Rattle.tlb_syntax.specs.declared.tree.ParamKind.{ParamKind}
 use Rattle.tlb_syntax.specs.declared.tree.ParamKind.TheVariants.{Nat, Ty}
 use Rattle.tlb_syntax.specs.declared.sign.Sign.{Sign}
@@ -87,7 +87,7 @@ pub record IsConstructor (c : ConstructorView) : Type 0 where
   pub few_params : exprs_count c.params ≤ 8
   pub params : AreExprs c.params
 
--- ---- their lexemes, in front of others
+-- ---- their lexemes, before others
 
 abbrev pub head : Option (List ℕ) → Lexeme
 head (Some x) = word x

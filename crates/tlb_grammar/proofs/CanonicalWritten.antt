@@ -49,7 +49,7 @@ alone P f no_exprs one t = absurd one
 alone P f (an_expr e no_exprs) one t = f e (only_term t)
 alone P f (an_expr e (an_expr g es)) one t = absurd one
 
--- the terms behind a name or a `##`, `#<` or `#<=` in parentheses
+-- the terms after a name or a `##`, `#<` or `#<=` in parentheses
 abbrev Inner : Count → ExprList → List Lexeme → Type 0
 Inner top es r = (left : Count) → Within left (exprs_levels es) → Terms (leveled top) left
     (exprs_before es (sign CloseParen ∷ r)) es (sign CloseParen ∷ r)
@@ -61,7 +61,7 @@ named_term x (an_expr e es) top d r w f =
     let o = opened d (exprs_levels (an_expr e es)) w in
     a_paren o.1 (a_sum (one_factor (of_name (f o.0 o.2))) no_addend)
 
--- one term in parentheses behind a symbol that takes one
+-- one term in parentheses after a symbol that takes one
 alone_term : (k : Sign) (make : ExprList → ExprView) (top : Count)
     → ((d : Count) (s r : List Lexeme) (e : ExprView) → Term (leveled top) d s e r
     → Apply (leveled top) d (sign k ∷ s) (make (an_expr e no_exprs)) r)

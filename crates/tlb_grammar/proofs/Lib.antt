@@ -1,3 +1,4 @@
+pub mod BuilderSteps
 pub mod CanonicalLaws
 pub mod CanonicalLevels
 pub mod CanonicalMeant
@@ -5,10 +6,10 @@ pub mod CanonicalPieces
 pub mod CanonicalProper
 pub mod CanonicalTrees
 pub mod CanonicalWritten
-pub mod Goes
+pub mod Completeness
 pub mod Pieces
 pub mod PiecesLongest
-pub mod Runs
-pub mod Reading
+pub mod Symbols
+pub mod TextAnswers
+pub mod TokenLoop
 pub mod Views
-pub mod Whole

@@ -6,11 +6,10 @@ use Rattle.tlb_lexer.specs.declared.TokenKind.{TokenKind}
 use Rattle.tlb_lexer.specs.declared.TokenKind.TheVariants.{Name, Blank, Number, BinaryTag, HexTag, Symbol}
 use Rattle.tlb_lexer.specs.Bytes.{is_letter, is_digit, is_name_byte, is_bit, is_hex_digit}
 use Rattle.tlb_lexer.specs.Spelling.{spells, is_underscore, are_bits, ends_hex}
-use Rattle.tlb_lexer.specs.Cut.{Longest}
-use Rattle.tlb_lexer.proofs.Runs.{and_parts, or_parts}
-use Rattle.tlb_lexer.proofs.Classes.{hashes, hash_less, hash_less_equal, angle_equal, long_symbol, not_empty}
+use Rattle.tlb_lexer.specs.Tokenization.{Longest}
+use Rattle.tlb_grammar.proofs.Symbols.{and_parts, or_parts, hashes, hash_less, hash_less_equal, angle_equal, long_symbol, not_empty}
 
--- the bytes that a token may have behind its first: those of names, and `#`, `<` and `=`
+-- the bytes that a token may have after its first: those of names, and `#`, `<` and `=`
 abbrev pub is_inner : ℕ → Bool
 is_inner b = is_name_byte b || b == 35 || b == 60 || b == 61
 
@@ -100,13 +99,13 @@ no_longer kind other (b ∷ bs) (c ∷ cs) sp ends m lt le e = further (m - suc 
   where
     further : (k : ℕ) → m ≡ length (b ∷ bs) + suc k → ⊥
     further k size =
-        let cut : take m (b ∷ bs ++ c ∷ cs) ≡ b ∷ bs ++ c ∷ take k cs =
+        let tokenized : take m (b ∷ bs ++ c ∷ cs) ≡ b ∷ bs ++ c ∷ take k cs =
         ap (λ j. take j (b ∷ bs ++ c ∷ cs)) size ∙ take-append-add (b ∷ bs) (c ∷ cs) (suc k) in
         let P : List ℕ → Type 0 = λ xs. spells other xs ≡ true in
-        let inner = among_behind bs (take k cs) c (inner_behind other b (bs ++ c ∷ take k cs) (subst P cut e)) in
+        let inner = among_behind bs (take k cs) c (inner_behind other b (bs ++ c ∷ take k cs) (subst P tokenized e)) in
         not_true (is_inner c) ends inner
 
--- no longer front spells any token where the text behind a token begins with a byte that no token goes on with
+-- no longer prefix spells any token where the text after a token begins with a byte that no token goes on with
 pub longest_before : (kind : TokenKind) (bytes text : List ℕ) → spells kind bytes ≡ true → stops text ≡ true
     → Longest kind (length bytes) (bytes ++ text)
 longest_before kind bytes text sp ends =

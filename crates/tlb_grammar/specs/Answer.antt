@@ -4,19 +4,21 @@ use Rattle.syntax_check.specs.declared.machine.Cause.{Cause as Checked}
 use Rattle.syntax_check.specs.declared.machine.Cause.TheVariants as checked
 use Rattle.tlb_lexer.specs.declared.LexError.{LexError}
 use Rattle.tlb_lexer.specs.declared.LexError.TheVariants as tokens
-use Rattle.tlb_lexer.specs.Cut.{CutRefused}
-use Rattle.tlb_syntax.specs.Written.{Cause, syntax, deep_type, too_many_constructors, too_many_fields, too_many_params, SchemaRefused, WordRefused}
+use Rattle.tlb_lexer.specs.Tokenization.{TokenRefusal}
+use Rattle.tlb_syntax.specs.Written.{Cause, syntax, deep_type, too_many_constructors, too_many_fields, too_many_params}
+use Rattle.tlb_syntax.specs.Written.{SchemaRefused, WordRefused}
 use Rattle.tlb_grammar.specs.declared.error.GrammarError.{GrammarError}
-use Rattle.tlb_grammar.specs.declared.error.GrammarError.TheVariants.{Lex, Syntax, DeepType, TooManyConstructors, TooManyFields, TooManyParams, NoMemory}
+use Rattle.tlb_grammar.specs.declared.error.GrammarError.TheVariants.{Lex, Syntax, DeepType, TooManyConstructors}
+use Rattle.tlb_grammar.specs.declared.error.GrammarError.TheVariants.{TooManyFields, TooManyParams, NoMemory}
 
--- whatever the answer is but want of memory, it is so
+-- whatever the answer is but out of memory, it is so
 abbrev pub IfRead : {X : Type 0} → Result X GrammarError → (X → Type 0) → (GrammarError → Type 0) → Type 0
 IfRead (Ok x) P Q = P x
 IfRead (Err e) P Q = e ≢ NoMemory → Q e
 
 -- the text's refusal: that of its tokens, or the first one of the lexemes
 abbrev pub RefusesBy : (Cause → ℕ → Type 0) → List ℕ → GrammarError → Type 0
-RefusesBy Refused text (Lex e) = CutRefused text e
+RefusesBy Refused text (Lex e) = TokenRefusal text e
 RefusesBy Refused text (Syntax place) = Refused syntax place
 RefusesBy Refused text (DeepType place) = Refused deep_type place
 RefusesBy Refused text (TooManyConstructors place) = Refused too_many_constructors place

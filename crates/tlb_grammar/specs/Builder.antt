@@ -1,10 +1,16 @@
 -- The machine that builds a tree from lexemes: its states, and one step for each lexeme. Where lexemes are not written
--- it may go on or not. The contracts of the public calls speak of the productions alone; proofs/ ties the machine to them.
-use Rattle.std.specs.Prelude.{ℕ, Bool, true, false, List, [], ◌∷◌, ◌++◌, bytes_eq, codes, if◌then◌else◌, Option, Some, None}
+-- it may go on or not. The contracts of the public calls speak of the productions alone; proofs/ ties the machine to
+-- them.
+use Rattle.std.specs.Prelude.{ℕ, Bool, true, false, List, [], ◌∷◌, ◌++◌, bytes_eq, codes, if◌then◌else◌, Option, Some}
+use Rattle.std.specs.Prelude.{None}
 use Rattle.nat_solver.specs.declared.compare.Op.{Op}
 use Rattle.nat_solver.specs.declared.compare.Op.TheVariants.{Eq, Lt, Le, Gt, Ge}
 use Rattle.tlb_syntax.specs.declared.sign.Sign.{Sign}
-use Rattle.tlb_syntax.specs.declared.sign.Sign.TheVariants.{Hash, HashHash, HashLess, HashLessEqual, Colon, Semicolon, Equal, OpenParen, CloseParen, OpenBrace, CloseBrace, OpenBracket, CloseBracket, Caret, Tilde, Question, Dot, Asterisk, Plus, Less, LessEqual, Greater, GreaterEqual, Bang}
+use Rattle.tlb_syntax.specs.declared.sign.Sign.TheVariants.{Hash, HashHash, HashLess, HashLessEqual, Colon, Semicolon}
+use Rattle.tlb_syntax.specs.declared.sign.Sign.TheVariants.{Equal, OpenParen, CloseParen, OpenBrace, CloseBrace}
+use Rattle.tlb_syntax.specs.declared.sign.Sign.TheVariants.{OpenBracket, CloseBracket, Caret, Tilde, Question, Dot}
+use Rattle.tlb_syntax.specs.declared.sign.Sign.TheVariants.{Asterisk, Plus, Less, LessEqual, Greater, GreaterEqual}
+use Rattle.tlb_syntax.specs.declared.sign.Sign.TheVariants.{Bang}
 use Rattle.tlb_syntax.specs.declared.tree.ParamKind.{ParamKind}
 use Rattle.tlb_syntax.specs.declared.tree.ParamKind.TheVariants.{Nat, Ty}
 use Rattle.tlb_syntax.specs.declared.tree.Expr.{Expr}
@@ -25,14 +31,16 @@ use Rattle.tlb_grammar.specs.declared.state.Width.{Width}
 use Rattle.tlb_grammar.specs.declared.state.Width.TheVariants as widths
 use Rattle.tlb_grammar.specs.declared.state.Guard.{Guard}
 use Rattle.tlb_grammar.specs.declared.state.Guard.TheVariants as guards
-use Rattle.tlb_grammar.specs.declared.state.Mode.{Mode}
-use Rattle.tlb_grammar.specs.declared.state.Mode.TheVariants.{Start, Marked, Items, ItemName, ItemBlank, Typed, Bit, BitEnd, Kind, KindEnd, Term, Apply, Applied, Operated, Result, Params}
+use Rattle.tlb_grammar.specs.declared.state.ParserState.{ParserState}
+use Rattle.tlb_grammar.specs.declared.state.ParserState.TheVariants.{Start, Marked, Items, ItemName, ItemBlank, Typed}
+use Rattle.tlb_grammar.specs.declared.state.ParserState.TheVariants.{Bit, BitEnd, Kind, KindEnd, Term, Apply, Applied}
+use Rattle.tlb_grammar.specs.declared.state.ParserState.TheVariants.{Operated, Result, Params}
 use Rattle.tlb_grammar.specs.declared.state.Frame.{Frame}
 use Rattle.tlb_grammar.specs.declared.state.Frame.TheVariants as frames
 
 -- the mode, what it is part of, the innermost first, and the declarations before
 pub data State : Type 0 where
-  at : Mode → List Frame → List Constructor → State
+  at : ParserState → List Frame → List Constructor → State
 
 -- ---- parts
 
@@ -85,7 +93,7 @@ with_term Zero e = One e
 with_term (One a) e = Several a e []
 with_term (Several a b es) e = Several a b (es ++ e ∷ [])
 
--- the sum behind a `*` or a `+`
+-- the sum after a `*` or a `+`
 abbrev pub times : OpenSum → Expr → OpenSum
 times sum e = record { terms = sum.terms; factor = Some e }
 
@@ -119,34 +127,35 @@ abbrev pub with_field : List Item → Option (List ℕ) → FieldType → List I
 with_field is name t = with_item is (Explicit name t)
 
 abbrev pub with_param : Constructor → Expr → Constructor
-with_param c e = record { exotic = c.exotic; name = c.name; tag = c.tag; items = c.items; result = c.result; params = c.params ++ e ∷ [] }
+with_param c e = record { exotic = c.exotic; name = c.name; tag = c.tag; items = c.items; result = c.result; params =
+    c.params ++ e ∷ [] }
 
--- behind a term that is part of this
-unfoldable pub held : Frame → Expr → Option Mode
-held frames.Out e = None
-held frames.Ref e = None
-held (frames.Operand sum) e = Some (Operated sum e)
-held (frames.Argument sum x es) e = Some (Applied sum x (es ++ e ∷ []))
-held (frames.Width sum w) e = Some (Operated sum (limited w e))
-held (frames.Field is name) e = Some (Typed is name e)
-held (frames.Guarded is name g) e = Some (Items (with_field is name (guarded g e)))
-held (frames.Param c) e = Some (Params (with_param c e))
-held frames.Paren e = None
-held frames.Record e = None
-held (frames.Left is) e = None
-held (frames.Right is a op) e = None
-held (frames.Declaration heading) e = None
+-- after a term that is part of this
+unfoldable pub after_term : Frame → Expr → Option ParserState
+after_term frames.Out e = None
+after_term frames.Ref e = None
+after_term (frames.Operand sum) e = Some (Operated sum e)
+after_term (frames.Argument sum x es) e = Some (Applied sum x (es ++ e ∷ []))
+after_term (frames.Width sum w) e = Some (Operated sum (limited w e))
+after_term (frames.Field is name) e = Some (Typed is name e)
+after_term (frames.Guarded is name g) e = Some (Items (with_field is name (guarded g e)))
+after_term (frames.Param c) e = Some (Params (with_param c e))
+after_term frames.Paren e = None
+after_term frames.Record e = None
+after_term (frames.Left is) e = None
+after_term (frames.Right is a op) e = None
+after_term (frames.Declaration heading) e = None
 
-abbrev pub at_mode : Option Mode → List Frame → List Constructor → Option State
+abbrev pub at_mode : Option ParserState → List Frame → List Constructor → Option State
 at_mode None below cs = None
 at_mode (Some mode) below cs = Some (at mode below cs)
 
--- behind a term, with the prefixes in front of it
+-- after a term, with the prefixes before it
 unfoldable pub given : Expr → List Frame → List Constructor → Option State
 given e [] cs = None
 given e (frames.Out ∷ below) cs = given (exprs.Out e) below cs
 given e (frames.Ref ∷ below) cs = given (exprs.Ref e) below cs
-given e (frame ∷ below) cs = at_mode (held frame e) below cs
+given e (frame ∷ below) cs = at_mode (after_term frame e) below cs
 
 -- a term begins
 unfoldable pub term_sign : Sign → List Frame → List Constructor → Option State
@@ -189,7 +198,7 @@ abbrev pub apply_sign : Option Width → Sign → OpenSum → List Frame → Lis
 apply_sign (Some w) s sum below cs = Some (at Term (frames.Width sum w ∷ below) cs)
 apply_sign None s sum below cs = term_sign s (frames.Operand sum ∷ below) cs
 
--- where an operand is wanted
+-- where an operand is expected
 unfoldable pub apply : Lexeme → OpenSum → List Frame → List Constructor → Option State
 apply (word x) sum below cs = Some (at (Applied sum x []) below cs)
 apply (sign s) sum below cs = apply_sign (width s) s sum below cs
@@ -218,7 +227,7 @@ ends_sum CloseParen e below cs = ends_paren (is_innermost is_paren below) e (out
 ends_sum CloseBrace e below cs = ends_right (innermost right_of below) e (outer below) cs
 ends_sum s e below cs = compared (comparison s) e below cs
 
--- behind a whole operand
+-- after a whole operand
 unfoldable pub operated_sign : Sign → OpenSum → Expr → List Frame → List Constructor → Option State
 operated_sign Asterisk sum e below cs = Some (at (Apply (times sum e)) below cs)
 operated_sign Plus sum e below cs = Some (at (Apply (added sum e)) below cs)
@@ -228,12 +237,12 @@ unfoldable pub operated : Lexeme → OpenSum → Expr → List Frame → List Co
 operated (sign s) sum e below cs = operated_sign s sum e below cs
 operated t sum e below cs = None
 
--- behind `{`, a name and `:`
+-- after `{`, a name and `:`
 abbrev pub kind_of : List ℕ → Option (List Item) → List Frame → List Constructor → Option State
 kind_of x (Some is) below cs = Some (at (Kind is x) below cs)
 kind_of x None below cs = None
 
--- behind a name and maybe arguments
+-- after a name and maybe arguments
 unfoldable pub applied_sign : Sign → OpenSum → List ℕ → List Expr → List Frame → List Constructor → Option State
 applied_sign Colon sum x es below cs = kind_of x (innermost left_of below) (outer below) cs
 applied_sign Hash sum x es below cs = term_sign Hash (frames.Argument sum x es ∷ below) cs
@@ -249,7 +258,7 @@ applied t sum x es below cs = term t (frames.Argument sum x es ∷ below) cs
 
 -- ---- items
 
--- a tag behind the name of a declaration
+-- a tag after the name of a declaration
 abbrev pub with_tag : Heading → List ℕ → Heading
 with_tag heading b = record { exotic = heading.exotic; name = heading.name; tag = Given b }
 
@@ -257,9 +266,9 @@ abbrev pub tagged : List ℕ → List Item → Option Heading → List Frame →
 tagged b is (Some heading) below cs = Some (at (Items is) (frames.Declaration (with_tag heading b) ∷ below) cs)
 tagged b is None below cs = None
 
-unfoldable pub tag_behind : Option (List ℕ) → List Item → List Frame → List Constructor → Option State
-tag_behind (Some b) is below cs = tagged b is (innermost heading_of below) (outer below) cs
-tag_behind None is below cs = None
+unfoldable pub tag_after : Option (List ℕ) → List Item → List Frame → List Constructor → Option State
+tag_after (Some b) is below cs = tagged b is (innermost heading_of below) (outer below) cs
+tag_after None is below cs = None
 
 abbrev pub ends_record : Bool → List Item → List Frame → List Constructor → Option State
 ends_record true is below cs = given (exprs.Group is) below cs
@@ -280,11 +289,11 @@ unfoldable pub items : Lexeme → List Item → List Frame → List Constructor 
 items (word x) is below cs = Some (at (ItemName is x) below cs)
 items blank is below cs = Some (at (ItemBlank is) below cs)
 items (number n) is below cs = term (number n) (frames.Field is None ∷ below) cs
-items (tag b) is below cs = tag_behind b is below cs
+items (tag b) is below cs = tag_after b is below cs
 items (sign s) is below cs = items_sign s is below cs
 items other is below cs = None
 
--- behind the first term of a field
+-- after the first term of a field
 unfoldable pub typed : Lexeme → List Item → Option (List ℕ) → Expr → List Frame → List Constructor → Option State
 typed (sign Question) is name e below cs = Some (at Term (frames.Guarded is name (guards.Number e) ∷ below) cs)
 typed (sign Dot) is name e below cs = Some (at (Bit is name e) below cs)
@@ -294,7 +303,7 @@ unfoldable pub named : Lexeme → List Item → List ℕ → List Frame → List
 named (sign Colon) is x below cs = Some (at Term (frames.Field is (Some x) ∷ below) cs)
 named t is x below cs = typed t is None (exprs.Named x []) below cs
 
-unfoldable pub kind : Lexeme → List Item → List ℕ → Option Mode
+unfoldable pub kind : Lexeme → List Item → List ℕ → Option ParserState
 kind (sign Hash) is x = Some (KindEnd is x Nat)
 kind (word t) is x = if bytes_eq t (codes "Type") then Some (KindEnd is x Ty) else None
 kind t is x = None
@@ -317,7 +326,7 @@ untagged exotic name = record { exotic = exotic; name = name; tag = Computed }
 abbrev pub begin : Heading → List Frame → List Constructor → Option State
 begin heading below cs = Some (at (Items []) (frames.Declaration heading ∷ below) cs)
 
--- where the name of a declaration is wanted
+-- where the name of a declaration is expected
 unfoldable pub head : Bool → Lexeme → List Frame → List Constructor → Option State
 head exotic (word x) below cs = begin (untagged exotic (Some x)) below cs
 head exotic blank below cs = begin (untagged exotic None) below cs
@@ -331,7 +340,7 @@ unfoldable pub named_blank : Lexeme → List Item → List Frame → List Constr
 named_blank (sign Colon) is below cs = Some (at Term (frames.Field is None ∷ below) cs)
 named_blank t is below cs = None
 
-unfoldable pub bit_of : Lexeme → List Item → Option (List ℕ) → Expr → Option Mode
+unfoldable pub bit_of : Lexeme → List Item → Option (List ℕ) → Expr → Option ParserState
 bit_of (number (Some k)) is name e = Some (BitEnd is name e k)
 bit_of t is name e = None
 
@@ -339,15 +348,15 @@ unfoldable pub bit_end : Lexeme → List Item → Option (List ℕ) → Expr →
 bit_end (sign Question) is name e k below cs = Some (at Term (frames.Guarded is name (guards.Bit e k) ∷ below) cs)
 bit_end t is name e k below cs = None
 
-unfoldable pub kind_end : Lexeme → List Item → List ℕ → ParamKind → Option Mode
+unfoldable pub kind_end : Lexeme → List Item → List ℕ → ParamKind → Option ParserState
 kind_end (sign CloseBrace) is x k = Some (Items (with_item is (Implicit x k)))
 kind_end t is x k = None
 
-unfoldable pub result_of : Lexeme → Heading → List Item → Option Mode
+unfoldable pub result_of : Lexeme → Heading → List Item → Option ParserState
 result_of (word x) heading is = Some (Params (with_result heading is x))
 result_of t heading is = None
 
-unfoldable pub step_mode : Mode → Lexeme → List Frame → List Constructor → Option State
+unfoldable pub step_mode : ParserState → Lexeme → List Frame → List Constructor → Option State
 step_mode Start t below cs = start t below cs
 step_mode Marked t below cs = head true t below cs
 step_mode (Items is) t below cs = items t is below cs

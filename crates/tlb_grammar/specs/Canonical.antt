@@ -1,7 +1,9 @@
 -- Canonical texts that write their constructors: how many levels they open, and which trees they are of.
 use Rattle.std.specs.Prelude.{ℕ, suc, List, max, if◌then◌else◌}
 use Rattle.std.specs.List.{Contains}
-use Rattle.tlb_syntax.specs.Tree.{ExprView, ExprList, ItemView, ItemList, TypeView, ConstructorView, SchemaView, lit, named, nat32, bits, below, up_to, plus, star, out, ref, group, no_exprs, an_expr, plain, when, when_bit, implicit, check, explicit, no_items, an_item}
+use Rattle.tlb_syntax.specs.Tree.{ExprView, ExprList, ItemView, ItemList, TypeView, ConstructorView, SchemaView, lit}
+use Rattle.tlb_syntax.specs.Tree.{named, nat32, bits, below, up_to, plus, star, out, ref, group, no_exprs, an_expr}
+use Rattle.tlb_syntax.specs.Tree.{plain, when, when_bit, implicit, check, explicit, no_items, an_item}
 use Rattle.tlb_syntax.specs.Text.{are_none}
 use Rattle.tlb_syntax.specs.Written.{Writes}
 

@@ -1,11 +1,11 @@
 -- What the builder's calls answer, by the plain machine.
 use Rattle.std.specs.Prelude.{ℕ, ◌≡◌, Bool, IsTrue, List, ◌∷◌, [], reverse, Option, option_map, Result, IfOk}
 use Rattle.tlb_lexer.specs.declared.Token.{Token}
-use Rattle.tlb_lexer.specs.Cut.{token_bytes}
+use Rattle.tlb_lexer.specs.Tokenization.{token_bytes}
 use Rattle.tlb_lexer.specs.Spelling.{spells}
 use Rattle.tlb_syntax.specs.Placed.{IsWithin}
 use Rattle.tlb_memory.specs.declared.NoMemory.{NoMemory}
-use Rattle.tlb_grammar.specs.declared.state.Mode.{Mode}
+use Rattle.tlb_grammar.specs.declared.state.ParserState.{ParserState}
 use Rattle.tlb_grammar.specs.declared.state.Frame.{Frame}
 use Rattle.tlb_grammar.specs.declared.builder.Builder.{Builder}
 use Rattle.tlb_grammar.specs.Builder.{State, at, innermost, is_innermost, outer}
@@ -14,11 +14,11 @@ use Rattle.tlb_grammar.specs.Builder.{State, at, innermost, is_innermost, outer}
 abbrev pub under : Builder → List Frame
 under b = reverse b.below
 
-abbrev pub state : Mode → Builder → State
+abbrev pub state : ParserState → Builder → State
 state mode b = at mode (under b) b.done
 
--- the answer and the builder behind the call are those of the machine
-abbrev pub Follows : Builder → Result (Option Mode) NoMemory → Option State → Type 0
+-- the answer and the builder after the call are those of the machine
+abbrev pub Follows : Builder → Result (Option ParserState) NoMemory → Option State → Type 0
 Follows new result st = IfOk result (λ next. st ≡ option_map (λ mode. state mode new) next)
 
 -- the same but for this frame on top

@@ -1,6 +1,6 @@
 //! The tokens of a text gone through, one after another.
 ghost use Rattle.std.specs.Prelude.{◌≡◌, [], IfOk, option_map};
-ghost use Rattle.tlb_lexer.specs.Cut.{PlacedFrom};
+ghost use Rattle.tlb_lexer.specs.Tokenization.{PlacedFrom};
 ghost use Rattle.tlb_syntax.specs.Lexeme.{lexemes};
 ghost use Rattle.tlb_syntax.specs.Tree.{SchemaView, ExprView};
 ghost use Rattle.tlb_syntax.specs.View.{schema, expr};
@@ -11,7 +11,7 @@ ghost use Rattle.tlb_grammar.specs.Builder.{at};
 ghost use Rattle.tlb_grammar.specs.Follows.{state, ArePlaced};
 
 use crate::builder::Builder;
-use crate::state::{Mode, OpenSum};
+use crate::state::{ParserState, OpenSum};
 use sqlite_items::Items;
 use std::alloc::Global;
 use tlb_lexer::Token;
@@ -30,11 +30,11 @@ impl Builder {
     }
 
     // The schema that ends in the mode, if one may.
-    fn schema(self, mode: Mode) -> Option<Schema>
+    fn schema(self, mode: ParserState) -> Option<Schema>
         ensures { option_map (λ s. s.constructors) result ≡ plain.schema_end (state mode self) }
     {
         match mode {
-            Mode::Start => Some(Schema {
+            ParserState::Start => Some(Schema {
                 constructors: self.done,
             }),
             other => {
@@ -45,15 +45,15 @@ impl Builder {
     }
 
     // The expression that ends in the mode, if one may.
-    fn word(self, mode: Mode) -> Result<Option<Expr>, NoMemory>
+    fn word(self, mode: ParserState) -> Result<Option<Expr>, NoMemory>
         ensures { IfOk result (λ found. found ≡ plain.word_end (state mode self)) }
     {
         match mode {
-            Mode::Applied(sum, name, args) => {
+            ParserState::Applied(sum, name, args) => {
                 let whole = sum.closed(self.alloc, Expr::Named(name, args))?;
                 Ok(Some(whole))
             }
-            Mode::Operated(sum, e) => {
+            ParserState::Operated(sum, e) => {
                 let whole = sum.closed(self.alloc, e)?;
                 Ok(Some(whole))
             }
@@ -65,15 +65,16 @@ impl Builder {
     }
 }
 
-// The mode and what is begun behind all tokens, or `None` where one of them can't come.
-fn behind(
+// The mode and what is begun after all tokens, or `None` where one of them can't come.
+fn after_tokens(
     alloc: Global,
     text: &[u8],
     tokens: &[Token],
-    start: Mode,
-) -> Result<Option<(Mode, Builder)>, NoMemory>
+    start: ParserState,
+) -> Result<Option<(ParserState, Builder)>, NoMemory>
     requires { ArePlaced text.now tokens.now }
-    ensures { IfOk result (λ found. plain.run (at start [] []) (lexemes text.now tokens.now) ≡ option_map (λ p. state p.0 p.1) found) }
+    ensures { IfOk result (λ found. plain.run (at start [] []) (lexemes text.now tokens.now)
+        ≡ option_map (λ p. state p.0 p.1) found) }
 {
     let mut builder = Builder::new(alloc);
     let mut mode = start;
@@ -93,9 +94,10 @@ pub(crate) fn schema_of(
     tokens: &[Token],
 ) -> Result<Option<Schema>, NoMemory>
     requires { PlacedFrom text.now 0 tokens.now }
-    ensures { IfOk result (λ found. option_map (λ s. s.constructors) found ≡ plain.built_schema (lexemes text.now tokens.now)) }
+    ensures { IfOk result (λ found. option_map (λ s. s.constructors) found
+        ≡ plain.built_schema (lexemes text.now tokens.now)) }
 {
-    match behind(alloc, text, tokens, Mode::Start)? {
+    match after_tokens(alloc, text, tokens, ParserState::Start)? {
         Some((mode, builder)) => Ok(builder.schema(mode)),
         None => Ok(None),
     }
@@ -111,7 +113,7 @@ pub(crate) fn word_of(
     ensures { IfOk result (λ found. found ≡ plain.built_word (lexemes text.now tokens.now)) }
 {
     let sum = OpenSum::new();
-    match behind(alloc, text, tokens, Mode::Apply(sum))? {
+    match after_tokens(alloc, text, tokens, ParserState::Apply(sum))? {
         Some((mode, builder)) => builder.word(mode),
         None => Ok(None),
     }
@@ -121,7 +123,8 @@ pub(crate) fn word_of(
 pub fn build_schema(alloc: Global, text: &[u8], tokens: &[Token]) -> Result<Schema, NoMemory>
     requires placed { PlacedFrom text.now 0 tokens.now }
     requires written { (s : SchemaView) × Declarations standard (lexemes text.now tokens.now) s }
-    ensures { IfOk result (λ r. (s : SchemaView) → Declarations standard (lexemes text.now tokens.now) s → schema r ≡ s) }
+    ensures { IfOk result (λ r. (s : SchemaView) → Declarations standard (lexemes text.now tokens.now) s
+        → schema r ≡ s) }
 {
     let built = schema_of(alloc, text, tokens)?;
     match built {

@@ -6,8 +6,8 @@ ghost use Rattle.tlb_grammar.specs.Builder as plain;
 ghost use Rattle.tlb_grammar.specs.Builder.{at};
 ghost use Rattle.tlb_grammar.specs.Follows.{under, state, Follows, Covered, IsBare, Removes, RemovesAny};
 
-use crate::parts::{comparison, held, kind, kind_end, result_of, tested_bit, width};
-use crate::state::{Frame, Guard, Heading, Mode, OpenSum};
+use crate::parts::{comparison, after_term, kind, kind_end, result_of, tested_bit, width};
+use crate::state::{Frame, Guard, Heading, ParserState, OpenSum};
 use sqlite_items::{Boxed, Items};
 use std::alloc::Global;
 use tlb_memory::NoMemory;
@@ -92,16 +92,16 @@ impl Builder {
     }
 
     // Goes into a part.
-    fn enter(&mut self, frame: Frame, mode: Mode) -> Result<Option<Mode>, NoMemory>
+    fn enter(&mut self, frame: Frame, mode: ParserState) -> Result<Option<ParserState>, NoMemory>
         ensures { Follows self.new result (Some (at mode (frame ∷ under self.old) self.old.done)) }
     {
         self.push(frame)?;
         Ok(Some(mode))
     }
 
-    // Behind a term, with the prefixes in front of it.
+    // After a term, with the prefixes before it.
     #[tactic(auto, unfolding(crate::specs::Builder::given))]
-    fn given(&mut self, e: Expr) -> Result<Option<Mode>, NoMemory>
+    fn given(&mut self, e: Expr) -> Result<Option<ParserState>, NoMemory>
         ensures { Follows self.new result (plain.given e (under self.old) self.old.done) }
     {
         let mut e = e;
@@ -115,7 +115,7 @@ impl Builder {
                     drop(frame);
                     e = Expr::Ref(Boxed::new(self.alloc, e)?);
                 }
-                _ => return held(self.alloc, frame, e),
+                _ => return after_term(self.alloc, frame, e),
             }
         }
         drop(e);
@@ -124,20 +124,20 @@ impl Builder {
 
     // A term begins, by a symbol.
     #[tactic(auto, unfolding(crate::specs::Builder::term_sign))]
-    fn term_sign(&mut self, sign: Sign) -> Result<Option<Mode>, NoMemory>
+    fn term_sign(&mut self, sign: Sign) -> Result<Option<ParserState>, NoMemory>
         ensures { Follows self.new result (plain.term_sign sign (under self.old) self.old.done) }
     {
         match sign {
             Sign::Hash => self.given(Expr::Nat32),
-            Sign::Tilde => self.enter(Frame::Out, Mode::Term),
-            Sign::Caret => self.enter(Frame::Ref, Mode::Term),
+            Sign::Tilde => self.enter(Frame::Out, ParserState::Term),
+            Sign::Caret => self.enter(Frame::Ref, ParserState::Term),
             Sign::OpenParen => {
                 let sum = OpenSum::new();
-                self.enter(Frame::Paren, Mode::Apply(sum))
+                self.enter(Frame::Paren, ParserState::Apply(sum))
             }
             Sign::OpenBracket => {
                 let items = Items::new(self.alloc);
-                self.enter(Frame::Record, Mode::Items(items))
+                self.enter(Frame::Record, ParserState::Items(items))
             }
             _ => Ok(None),
         }
@@ -145,7 +145,7 @@ impl Builder {
 
     // A term begins.
     #[tactic(auto, unfolding(crate::specs::Builder::term))]
-    fn term(&mut self, next: Lexeme<'_>) -> Result<Option<Mode>, NoMemory>
+    fn term(&mut self, next: Lexeme<'_>) -> Result<Option<ParserState>, NoMemory>
         requires { IsSpelled next }
         ensures { Follows self.new result (plain.term (lexeme next.entry) (under self.old) self.old.done) }
     {
@@ -166,7 +166,7 @@ impl Builder {
     }
 
     // A term begins that is such a part.
-    fn term_in(&mut self, frame: Frame, next: Lexeme<'_>) -> Result<Option<Mode>, NoMemory>
+    fn term_in(&mut self, frame: Frame, next: Lexeme<'_>) -> Result<Option<ParserState>, NoMemory>
         requires { IsSpelled next }
         ensures { Follows self.new result (plain.term (lexeme next.entry) (frame ∷ under self.old) self.old.done) }
     {
@@ -175,16 +175,16 @@ impl Builder {
     }
 
     // A term that begins with a symbol, as such a part.
-    fn term_sign_in(&mut self, frame: Frame, sign: Sign) -> Result<Option<Mode>, NoMemory>
+    fn term_sign_in(&mut self, frame: Frame, sign: Sign) -> Result<Option<ParserState>, NoMemory>
         ensures { Follows self.new result (plain.term_sign sign (frame ∷ under self.old) self.old.done) }
     {
         self.push(frame)?;
         self.term_sign(sign)
     }
 
-    // Where an operand is wanted.
+    // Where an operand is expected.
     #[tactic(auto, unfolding(crate::specs::Builder::apply))]
-    fn apply(&mut self, sum: OpenSum, next: Lexeme<'_>) -> Result<Option<Mode>, NoMemory>
+    fn apply(&mut self, sum: OpenSum, next: Lexeme<'_>) -> Result<Option<ParserState>, NoMemory>
         requires { IsSpelled next }
         ensures { Follows self.new result (plain.apply (lexeme next.entry) sum (under self.old) self.old.done) }
     {
@@ -192,10 +192,10 @@ impl Builder {
             Lexeme::Name(text) => {
                 let name = Name::new(self.alloc, text)?;
                 let args = Items::new(self.alloc);
-                Ok(Some(Mode::Applied(sum, name, args)))
+                Ok(Some(ParserState::Applied(sum, name, args)))
             }
             Lexeme::Sign(sign) => match width(sign) {
-                Some(width) => self.enter(Frame::Width(sum, width), Mode::Term),
+                Some(width) => self.enter(Frame::Width(sum, width), ParserState::Term),
                 None => self.term_sign_in(Frame::Operand(sum), sign),
             },
             Lexeme::Number(Some(n)) => {
@@ -213,14 +213,14 @@ impl Builder {
         }
     }
 
-    // Behind a whole operand.
+    // After a whole operand.
     #[tactic(auto, unfolding(crate::specs::Builder::operated))]
     fn operated(
         &mut self,
         sum: OpenSum,
         e: Expr,
         next: Lexeme<'_>,
-    ) -> Result<Option<Mode>, NoMemory>
+    ) -> Result<Option<ParserState>, NoMemory>
         ensures { Follows self.new result (plain.operated (lexeme next.entry) sum e (under self.old) self.old.done) }
     {
         match next {
@@ -239,12 +239,12 @@ impl Builder {
     }
 
     #[tactic(auto, unfolding(crate::specs::Builder::operated_sign))]
-    fn operated_sign(&mut self, sum: OpenSum, e: Expr, sign: Sign) -> Result<Option<Mode>, NoMemory>
+    fn operated_sign(&mut self, sum: OpenSum, e: Expr, sign: Sign) -> Result<Option<ParserState>, NoMemory>
         ensures { Follows self.new result (plain.operated_sign sign sum e (under self.old) self.old.done) }
     {
         match sign {
-            Sign::Asterisk => Ok(Some(Mode::Apply(sum.times(self.alloc, e)?))),
-            Sign::Plus => Ok(Some(Mode::Apply(sum.added(self.alloc, e)?))),
+            Sign::Asterisk => Ok(Some(ParserState::Apply(sum.times(self.alloc, e)?))),
+            Sign::Plus => Ok(Some(ParserState::Apply(sum.added(self.alloc, e)?))),
             _ => {
                 let whole = sum.closed(self.alloc, e)?;
                 self.closed(whole, sign)
@@ -252,9 +252,9 @@ impl Builder {
         }
     }
 
-    // Behind a whole sum.
+    // After a whole sum.
     #[tactic(auto, unfolding(crate::specs::Builder::ends_sum, crate::specs::Builder::compared))]
-    fn closed(&mut self, e: Expr, sign: Sign) -> Result<Option<Mode>, NoMemory>
+    fn closed(&mut self, e: Expr, sign: Sign) -> Result<Option<ParserState>, NoMemory>
         ensures { Follows self.new result (plain.ends_sum sign e (under self.old) self.old.done) }
     {
         match sign {
@@ -270,8 +270,9 @@ impl Builder {
         }
     }
 
-    fn ends_paren(&mut self, e: Expr) -> Result<Option<Mode>, NoMemory>
-        ensures { Follows self.new result (plain.ends_paren (plain.is_innermost plain.is_paren (under self.old)) e (plain.outer (under self.old)) self.old.done) }
+    fn ends_paren(&mut self, e: Expr) -> Result<Option<ParserState>, NoMemory>
+        ensures { Follows self.new result (plain.ends_paren
+            (plain.is_innermost plain.is_paren (under self.old)) e (plain.outer (under self.old)) self.old.done) }
     {
         if self.pop_paren() {
             return self.given(e);
@@ -280,13 +281,14 @@ impl Builder {
         Ok(None)
     }
 
-    fn ends_left(&mut self, e: Expr, op: Op) -> Result<Option<Mode>, NoMemory>
-        ensures { Follows self.new result (plain.ends_left (plain.innermost plain.left_of (under self.old)) e op (plain.outer (under self.old)) self.old.done) }
+    fn ends_left(&mut self, e: Expr, op: Op) -> Result<Option<ParserState>, NoMemory>
+        ensures { Follows self.new result (plain.ends_left
+            (plain.innermost plain.left_of (under self.old)) e op (plain.outer (under self.old)) self.old.done) }
     {
         match self.pop_left() {
             Some(items) => {
                 let sum = OpenSum::new();
-                self.enter(Frame::Right(items, e, op), Mode::Apply(sum))
+                self.enter(Frame::Right(items, e, op), ParserState::Apply(sum))
             }
             None => {
                 drop(e);
@@ -295,13 +297,14 @@ impl Builder {
         }
     }
 
-    fn ends_right(&mut self, e: Expr) -> Result<Option<Mode>, NoMemory>
-        ensures { Follows self.new result (plain.ends_right (plain.innermost plain.right_of (under self.old)) e (plain.outer (under self.old)) self.old.done) }
+    fn ends_right(&mut self, e: Expr) -> Result<Option<ParserState>, NoMemory>
+        ensures { Follows self.new result (plain.ends_right (plain.innermost plain.right_of (under self.old)) e
+            (plain.outer (under self.old)) self.old.done) }
     {
         match self.pop_right() {
             Some((mut items, left, op)) => {
                 items.push(Item::Check(left, op, e))?;
-                Ok(Some(Mode::Items(items)))
+                Ok(Some(ParserState::Items(items)))
             }
             None => {
                 drop(e);
@@ -310,7 +313,7 @@ impl Builder {
         }
     }
 
-    // Behind a name and maybe arguments.
+    // After a name and maybe arguments.
     #[tactic(auto, unfolding(crate::specs::Builder::applied))]
     fn applied(
         &mut self,
@@ -318,9 +321,10 @@ impl Builder {
         name: Name,
         args: Items<Expr>,
         next: Lexeme<'_>,
-    ) -> Result<Option<Mode>, NoMemory>
+    ) -> Result<Option<ParserState>, NoMemory>
         requires { IsSpelled next }
-        ensures { Follows self.new result (plain.applied (lexeme next.entry) sum name args (under self.old) self.old.done) }
+        ensures { Follows self.new result
+            (plain.applied (lexeme next.entry) sum name args (under self.old) self.old.done) }
     {
         match next {
             Lexeme::Sign(sign) => self.applied_sign(sum, name, args, sign),
@@ -340,7 +344,7 @@ impl Builder {
         name: Name,
         args: Items<Expr>,
         sign: Sign,
-    ) -> Result<Option<Mode>, NoMemory>
+    ) -> Result<Option<ParserState>, NoMemory>
         ensures { Follows self.new result (plain.applied_sign sign sum name args (under self.old) self.old.done) }
     {
         match sign {
@@ -352,25 +356,26 @@ impl Builder {
         }
     }
 
-    // Behind `{`, a name and `:`.
-    fn named_kind(&mut self, name: Name) -> Result<Option<Mode>, NoMemory>
-        ensures { Follows self.new result (plain.kind_of name (plain.innermost plain.left_of (under self.old)) (plain.outer (under self.old)) self.old.done) }
+    // After `{`, a name and `:`.
+    fn named_kind(&mut self, name: Name) -> Result<Option<ParserState>, NoMemory>
+        ensures { Follows self.new result (plain.kind_of name (plain.innermost plain.left_of (under self.old))
+            (plain.outer (under self.old)) self.old.done) }
     {
         match self.pop_left() {
-            Some(items) => Ok(Some(Mode::Kind(items, name))),
+            Some(items) => Ok(Some(ParserState::Kind(items, name))),
             None => Ok(None),
         }
     }
 
     // Between items.
     #[tactic(auto, unfolding(crate::specs::Builder::items))]
-    fn items(&mut self, items: Items<Item>, next: Lexeme<'_>) -> Result<Option<Mode>, NoMemory>
+    fn items(&mut self, items: Items<Item>, next: Lexeme<'_>) -> Result<Option<ParserState>, NoMemory>
         requires { IsSpelled next }
         ensures { Follows self.new result (plain.items (lexeme next.entry) items (under self.old) self.old.done) }
     {
         match next {
-            Lexeme::Name(text) => Ok(Some(Mode::ItemName(items, Name::new(self.alloc, text)?))),
-            Lexeme::Blank => Ok(Some(Mode::ItemBlank(items))),
+            Lexeme::Name(text) => Ok(Some(ParserState::ItemName(items, Name::new(self.alloc, text)?))),
+            Lexeme::Blank => Ok(Some(ParserState::ItemBlank(items))),
             Lexeme::Number(_) => self.term_in(Frame::Field(items, None), next),
             Lexeme::BinaryTag(_) | Lexeme::HexTag(_) => {
                 let bits = tag_bits(self.alloc, &next)?;
@@ -381,14 +386,14 @@ impl Builder {
         }
     }
 
-    // Behind the tag of a declaration.
-    #[tactic(auto, unfolding(crate::specs::Builder::tag_behind))]
+    // After the tag of a declaration.
+    #[tactic(auto, unfolding(crate::specs::Builder::tag_after))]
     fn tagged(
         &mut self,
         items: Items<Item>,
         bits: Option<BitString>,
-    ) -> Result<Option<Mode>, NoMemory>
-        ensures { Follows self.new result (plain.tag_behind bits items (under self.old) self.old.done) }
+    ) -> Result<Option<ParserState>, NoMemory>
+        ensures { Follows self.new result (plain.tag_after bits items (under self.old) self.old.done) }
     {
         let Some(bits) = bits else {
             return Ok(None);
@@ -404,7 +409,7 @@ impl Builder {
                 let tag = Tag::Given(bits);
                 self.enter(
                     Frame::Declaration(Heading { exotic, name, tag }),
-                    Mode::Items(items),
+                    ParserState::Items(items),
                 )
             }
             None => Ok(None),
@@ -412,13 +417,13 @@ impl Builder {
     }
 
     #[tactic(auto, unfolding(crate::specs::Builder::items_sign))]
-    fn items_sign(&mut self, items: Items<Item>, sign: Sign) -> Result<Option<Mode>, NoMemory>
+    fn items_sign(&mut self, items: Items<Item>, sign: Sign) -> Result<Option<ParserState>, NoMemory>
         ensures { Follows self.new result (plain.items_sign sign items (under self.old) self.old.done) }
     {
         match sign {
             Sign::OpenBrace => {
                 let sum = OpenSum::new();
-                self.enter(Frame::Left(items), Mode::Apply(sum))
+                self.enter(Frame::Left(items), ParserState::Apply(sum))
             }
             Sign::Equal => self.ends_items(items),
             Sign::CloseBracket => self.ends_record(items),
@@ -427,18 +432,20 @@ impl Builder {
     }
 
     // The items of a declaration end.
-    fn ends_items(&mut self, items: Items<Item>) -> Result<Option<Mode>, NoMemory>
-        ensures { Follows self.new result (plain.ends_items (plain.innermost plain.heading_of (under self.old)) items (plain.outer (under self.old)) self.old.done) }
+    fn ends_items(&mut self, items: Items<Item>) -> Result<Option<ParserState>, NoMemory>
+        ensures { Follows self.new result (plain.ends_items
+            (plain.innermost plain.heading_of (under self.old)) items (plain.outer (under self.old)) self.old.done) }
     {
         match self.pop_heading() {
-            Some(heading) => Ok(Some(Mode::Result(heading, items))),
+            Some(heading) => Ok(Some(ParserState::Result(heading, items))),
             None => Ok(None),
         }
     }
 
     // The items of a record in brackets end.
-    fn ends_record(&mut self, items: Items<Item>) -> Result<Option<Mode>, NoMemory>
-        ensures { Follows self.new result (plain.ends_record (plain.is_innermost plain.is_record (under self.old)) items (plain.outer (under self.old)) self.old.done) }
+    fn ends_record(&mut self, items: Items<Item>) -> Result<Option<ParserState>, NoMemory>
+        ensures { Follows self.new result (plain.ends_record
+            (plain.is_innermost plain.is_record (under self.old)) items (plain.outer (under self.old)) self.old.done) }
     {
         if self.pop_record() {
             return self.given(Expr::Group(items));
@@ -446,7 +453,7 @@ impl Builder {
         Ok(None)
     }
 
-    // Behind the first term of a field.
+    // After the first term of a field.
     #[tactic(auto, unfolding(crate::specs::Builder::typed))]
     fn typed(
         &mut self,
@@ -454,16 +461,17 @@ impl Builder {
         name: Option<Name>,
         e: Expr,
         next: Lexeme<'_>,
-    ) -> Result<Option<Mode>, NoMemory>
+    ) -> Result<Option<ParserState>, NoMemory>
         requires { IsSpelled next }
-        ensures { Follows self.new result (plain.typed (lexeme next.entry) items name e (under self.old) self.old.done) }
+        ensures { Follows self.new result
+            (plain.typed (lexeme next.entry) items name e (under self.old) self.old.done) }
     {
         match next {
             Lexeme::Sign(Sign::Question) => self.enter(
                 Frame::Guarded(items, name, Guard::Number(e)),
-                Mode::Term,
+                ParserState::Term,
             ),
-            Lexeme::Sign(Sign::Dot) => Ok(Some(Mode::Bit(items, name, e))),
+            Lexeme::Sign(Sign::Dot) => Ok(Some(ParserState::Bit(items, name, e))),
             _ => {
                 let mut items = items;
                 items.push(Item::Explicit(name, FieldType::Plain(e)))?;
@@ -472,19 +480,19 @@ impl Builder {
         }
     }
 
-    // Behind a name that begins an item.
+    // After a name that begins an item.
     #[tactic(auto, unfolding(crate::specs::Builder::named))]
     fn named(
         &mut self,
         items: Items<Item>,
         name: Name,
         next: Lexeme<'_>,
-    ) -> Result<Option<Mode>, NoMemory>
+    ) -> Result<Option<ParserState>, NoMemory>
         requires { IsSpelled next }
         ensures { Follows self.new result (plain.named (lexeme next.entry) items name (under self.old) self.old.done) }
     {
         match next {
-            Lexeme::Sign(Sign::Colon) => self.enter(Frame::Field(items, Some(name)), Mode::Term),
+            Lexeme::Sign(Sign::Colon) => self.enter(Frame::Field(items, Some(name)), ParserState::Term),
             _ => {
                 let args = Items::new(self.alloc);
                 self.typed(items, None, Expr::Named(name, args), next)
@@ -497,11 +505,11 @@ impl Builder {
         &mut self,
         items: Items<Item>,
         next: Lexeme<'_>,
-    ) -> Result<Option<Mode>, NoMemory>
+    ) -> Result<Option<ParserState>, NoMemory>
         ensures { Follows self.new result (plain.named_blank (lexeme next.entry) items (under self.old) self.old.done) }
     {
         match next {
-            Lexeme::Sign(Sign::Colon) => self.enter(Frame::Field(items, None), Mode::Term),
+            Lexeme::Sign(Sign::Colon) => self.enter(Frame::Field(items, None), ParserState::Term),
             _ => Ok(None),
         }
     }
@@ -514,32 +522,34 @@ impl Builder {
         e: Expr,
         bit: u32,
         next: Lexeme<'_>,
-    ) -> Result<Option<Mode>, NoMemory>
-        ensures { Follows self.new result (plain.bit_end (lexeme next.entry) items name e bit (under self.old) self.old.done) }
+    ) -> Result<Option<ParserState>, NoMemory>
+        ensures { Follows self.new result
+            (plain.bit_end (lexeme next.entry) items name e bit (under self.old) self.old.done) }
     {
         match next {
             Lexeme::Sign(Sign::Question) => self.enter(
                 Frame::Guarded(items, name, Guard::Bit(e, bit)),
-                Mode::Term,
+                ParserState::Term,
             ),
             _ => Ok(None),
         }
     }
 
-    // Behind a parameter, or the type's name.
+    // After a parameter, or the type's name.
     #[tactic(auto, unfolding(crate::specs::Builder::params))]
     fn params(
         &mut self,
         constructor: Constructor,
         next: Lexeme<'_>,
-    ) -> Result<Option<Mode>, NoMemory>
+    ) -> Result<Option<ParserState>, NoMemory>
         requires { IsSpelled next }
-        ensures { Follows self.new result (plain.params (lexeme next.entry) constructor (under self.old) self.old.done) }
+        ensures { Follows self.new result
+            (plain.params (lexeme next.entry) constructor (under self.old) self.old.done) }
     {
         match next {
             Lexeme::Sign(Sign::Semicolon) => {
                 self.done.push(constructor)?;
-                Ok(Some(Mode::Start))
+                Ok(Some(ParserState::Start))
             }
             _ => self.term_in(Frame::Param(constructor), next),
         }
@@ -547,19 +557,19 @@ impl Builder {
 
     // Between declarations.
     #[tactic(auto, unfolding(crate::specs::Builder::start))]
-    fn start(&mut self, next: Lexeme<'_>) -> Result<Option<Mode>, NoMemory>
+    fn start(&mut self, next: Lexeme<'_>) -> Result<Option<ParserState>, NoMemory>
         requires { IsSpelled next }
         ensures { Follows self.new result (plain.start (lexeme next.entry) (under self.old) self.old.done) }
     {
         match next {
-            Lexeme::Sign(Sign::Bang) => Ok(Some(Mode::Marked)),
+            Lexeme::Sign(Sign::Bang) => Ok(Some(ParserState::Marked)),
             _ => self.head(false, next),
         }
     }
 
-    // Where the name of a declaration is wanted.
+    // Where the name of a declaration is expected.
     #[tactic(auto, unfolding(crate::specs::Builder::head))]
-    fn head(&mut self, exotic: bool, next: Lexeme<'_>) -> Result<Option<Mode>, NoMemory>
+    fn head(&mut self, exotic: bool, next: Lexeme<'_>) -> Result<Option<ParserState>, NoMemory>
         requires { IsSpelled next }
         ensures { Follows self.new result (plain.head exotic (lexeme next.entry) (under self.old) self.old.done) }
     {
@@ -572,33 +582,33 @@ impl Builder {
         let tag = Tag::Computed;
         self.enter(
             Frame::Declaration(Heading { exotic, name, tag }),
-            Mode::Items(items),
+            ParserState::Items(items),
         )
     }
 
-    /// The mode behind the lexeme, or `None` where it can't come.
+    /// The mode after the lexeme, or `None` where it can't come.
     #[tactic(auto, unfolding(crate::specs::Builder::step_mode))]
-    pub(crate) fn step(&mut self, mode: Mode, next: Lexeme<'_>) -> Result<Option<Mode>, NoMemory>
+    pub(crate) fn step(&mut self, mode: ParserState, next: Lexeme<'_>) -> Result<Option<ParserState>, NoMemory>
         requires { IsSpelled next }
         ensures { Follows self.new result (plain.step (state mode self.old) (lexeme next.entry)) }
     {
         match mode {
-            Mode::Start => self.start(next),
-            Mode::Marked => self.head(true, next),
-            Mode::Items(items) => self.items(items, next),
-            Mode::ItemName(items, name) => self.named(items, name, next),
-            Mode::ItemBlank(items) => self.named_blank(items, next),
-            Mode::Typed(items, name, e) => self.typed(items, name, e, next),
-            Mode::Bit(items, name, e) => Ok(tested_bit(items, name, e, next)),
-            Mode::BitEnd(items, name, e, bit) => self.bit_end(items, name, e, bit, next),
-            Mode::Kind(items, name) => Ok(kind(items, name, next)),
-            Mode::KindEnd(items, name, kind) => kind_end(items, name, kind, next),
-            Mode::Term => self.term(next),
-            Mode::Apply(sum) => self.apply(sum, next),
-            Mode::Applied(sum, name, args) => self.applied(sum, name, args, next),
-            Mode::Operated(sum, e) => self.operated(sum, e, next),
-            Mode::Result(heading, items) => result_of(self.alloc, heading, items, next),
-            Mode::Params(constructor) => self.params(constructor, next),
+            ParserState::Start => self.start(next),
+            ParserState::Marked => self.head(true, next),
+            ParserState::Items(items) => self.items(items, next),
+            ParserState::ItemName(items, name) => self.named(items, name, next),
+            ParserState::ItemBlank(items) => self.named_blank(items, next),
+            ParserState::Typed(items, name, e) => self.typed(items, name, e, next),
+            ParserState::Bit(items, name, e) => Ok(tested_bit(items, name, e, next)),
+            ParserState::BitEnd(items, name, e, bit) => self.bit_end(items, name, e, bit, next),
+            ParserState::Kind(items, name) => Ok(kind(items, name, next)),
+            ParserState::KindEnd(items, name, kind) => kind_end(items, name, kind, next),
+            ParserState::Term => self.term(next),
+            ParserState::Apply(sum) => self.apply(sum, next),
+            ParserState::Applied(sum, name, args) => self.applied(sum, name, args, next),
+            ParserState::Operated(sum, e) => self.operated(sum, e, next),
+            ParserState::Result(heading, items) => result_of(self.alloc, heading, items, next),
+            ParserState::Params(constructor) => self.params(constructor, next),
         }
     }
 }

@@ -64,7 +64,7 @@ impl OpenSum {
         }
     }
 
-    /// The sum behind an operand and `*`.
+    /// The sum after an operand and `*`.
     pub(crate) fn times(self, alloc: Global, e: Expr) -> Result<OpenSum, NoMemory>
         ensures { IfOk result (λ sum. sum ≡ plain.times self e) }
     {
@@ -75,7 +75,7 @@ impl OpenSum {
         })
     }
 
-    /// The sum behind an operand and `+`.
+    /// The sum after an operand and `+`.
     pub(crate) fn added(self, alloc: Global, e: Expr) -> Result<OpenSum, NoMemory>
         ensures { IfOk result (λ sum. sum ≡ plain.added self e) }
     {

@@ -4,32 +4,32 @@ ghost use Rattle.tlb_syntax.specs.Lexeme.{lexeme};
 ghost use Rattle.tlb_syntax.specs.Placed.{IsSpelled};
 ghost use Rattle.tlb_grammar.specs.Builder as plain;
 
-use crate::state::{Frame, Guard, Heading, Mode, Width};
+use crate::state::{Frame, Guard, Heading, ParserState, Width};
 use sqlite_items::Items;
 use std::alloc::Global;
 use tlb_memory::NoMemory;
 use tlb_syntax::{Constructor, Expr, FieldType, Item, Lexeme, Name, Op, ParamKind, Sign};
 
-/// The mode behind a term that is part of this.
-#[tactic(auto, unfolding(crate::specs::Builder::held))]
-pub(crate) fn held(alloc: Global, frame: Frame, e: Expr) -> Result<Option<Mode>, NoMemory>
-    ensures { IfOk result (λ mode. mode ≡ plain.held frame e) }
+/// The mode after a term that is part of this.
+#[tactic(auto, unfolding(crate::specs::Builder::after_term))]
+pub(crate) fn after_term(alloc: Global, frame: Frame, e: Expr) -> Result<Option<ParserState>, NoMemory>
+    ensures { IfOk result (λ mode. mode ≡ plain.after_term frame e) }
 {
     match frame {
-        Frame::Operand(sum) => Ok(Some(Mode::Operated(sum, e))),
+        Frame::Operand(sum) => Ok(Some(ParserState::Operated(sum, e))),
         Frame::Argument(sum, name, mut args) => {
             args.push(e)?;
-            Ok(Some(Mode::Applied(sum, name, args)))
+            Ok(Some(ParserState::Applied(sum, name, args)))
         }
-        Frame::Width(sum, width) => Ok(Some(Mode::Operated(sum, limited(alloc, width, e)?))),
-        Frame::Field(items, name) => Ok(Some(Mode::Typed(items, name, e))),
+        Frame::Width(sum, width) => Ok(Some(ParserState::Operated(sum, limited(alloc, width, e)?))),
+        Frame::Field(items, name) => Ok(Some(ParserState::Typed(items, name, e))),
         Frame::Guarded(mut items, name, guard) => {
             items.push(Item::Explicit(name, guarded(guard, e)))?;
-            Ok(Some(Mode::Items(items)))
+            Ok(Some(ParserState::Items(items)))
         }
         Frame::Param(mut constructor) => {
             constructor.params.push(e)?;
-            Ok(Some(Mode::Params(constructor)))
+            Ok(Some(ParserState::Params(constructor)))
         }
         other => {
             drop(other);
@@ -86,18 +86,18 @@ pub(crate) fn comparison(sign: Sign) -> Option<Op>
     }
 }
 
-/// Behind the `.` of a field.
+/// After the `.` of a field.
 #[tactic(auto, unfolding(crate::specs::Builder::bit_of))]
 pub(crate) fn tested_bit(
     items: Items<Item>,
     name: Option<Name>,
     e: Expr,
     next: Lexeme<'_>,
-) -> Option<Mode>
+) -> Option<ParserState>
     ensures { result ≡ plain.bit_of (lexeme next.entry) items name e }
 {
     match next {
-        Lexeme::Number(Some(bit)) => Some(Mode::BitEnd(items, name, e, bit)),
+        Lexeme::Number(Some(bit)) => Some(ParserState::BitEnd(items, name, e, bit)),
         _ => {
             drop(e);
             None
@@ -105,14 +105,14 @@ pub(crate) fn tested_bit(
     }
 }
 
-/// Behind `{`, a name and `:`.
+/// After `{`, a name and `:`.
 #[tactic(auto, unfolding(crate::specs::Builder::kind))]
-pub(crate) fn kind(items: Items<Item>, name: Name, next: Lexeme<'_>) -> Option<Mode>
+pub(crate) fn kind(items: Items<Item>, name: Name, next: Lexeme<'_>) -> Option<ParserState>
     ensures { result ≡ plain.kind (lexeme next.entry) items name }
 {
     match next {
-        Lexeme::Sign(Sign::Hash) => Some(Mode::KindEnd(items, name, ParamKind::Nat)),
-        Lexeme::Name(text) if text == b"Type".as_slice() => Some(Mode::KindEnd(
+        Lexeme::Sign(Sign::Hash) => Some(ParserState::KindEnd(items, name, ParamKind::Nat)),
+        Lexeme::Name(text) if text == b"Type".as_slice() => Some(ParserState::KindEnd(
             items,
             name,
             ParamKind::Ty,
@@ -121,39 +121,39 @@ pub(crate) fn kind(items: Items<Item>, name: Name, next: Lexeme<'_>) -> Option<M
     }
 }
 
-/// Behind the kind of an implicit field.
+/// After the kind of an implicit field.
 #[tactic(auto, unfolding(crate::specs::Builder::kind_end))]
 pub(crate) fn kind_end(
     items: Items<Item>,
     name: Name,
     kind: ParamKind,
     next: Lexeme<'_>,
-) -> Result<Option<Mode>, NoMemory>
+) -> Result<Option<ParserState>, NoMemory>
     ensures { IfOk result (λ mode. mode ≡ plain.kind_end (lexeme next.entry) items name kind) }
 {
     let mut items = items;
     match next {
         Lexeme::Sign(Sign::CloseBrace) => {
             items.push(Item::Implicit(name, kind))?;
-            Ok(Some(Mode::Items(items)))
+            Ok(Some(ParserState::Items(items)))
         }
         _ => Ok(None),
     }
 }
 
-/// Behind the `=` of a declaration.
+/// After the `=` of a declaration.
 #[tactic(auto, unfolding(crate::specs::Builder::result_of))]
 pub(crate) fn result_of(
     alloc: Global,
     heading: Heading,
     items: Items<Item>,
     next: Lexeme<'_>,
-) -> Result<Option<Mode>, NoMemory>
+) -> Result<Option<ParserState>, NoMemory>
     requires { IsSpelled next }
     ensures { IfOk result (λ mode. mode ≡ plain.result_of (lexeme next.entry) heading items) }
 {
     match next {
-        Lexeme::Name(text) => Ok(Some(Mode::Params(Constructor {
+        Lexeme::Name(text) => Ok(Some(ParserState::Params(Constructor {
             exotic: heading.exotic,
             name: heading.name,
             tag: heading.tag,

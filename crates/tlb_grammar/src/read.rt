@@ -1,12 +1,12 @@
 //! Reading of schemas and type words.
 ghost use Rattle.std.specs.Prelude.{◌≡◌, ◌≤◌, ⊤, length};
-ghost use Rattle.tlb_lexer.specs.Cut.{Cut};
+ghost use Rattle.tlb_lexer.specs.Tokenization.{Tokenizes};
 ghost use Rattle.tlb_syntax.specs.Grammar.{Declarations, TypeWord};
 ghost use Rattle.tlb_syntax.specs.Lexeme.{lexemes};
 ghost use Rattle.tlb_syntax.specs.Limits.{IsWithinLimits, IsWordWithinLimits};
 ghost use Rattle.tlb_syntax.specs.Tree.{SchemaView, ExprView};
 ghost use Rattle.tlb_syntax.specs.View.{schema, expr};
-ghost use Rattle.tlb_syntax.specs.Written.{HasFew, Writes, WritesWord, byte_of, standard};
+ghost use Rattle.tlb_syntax.specs.Written.{WithinCounts, Writes, WritesWord, byte_of, standard};
 ghost use Rattle.tlb_grammar.specs.Answer.{IfRead, Refuses, RefusesWord, error_of, reads_error};
 ghost use Rattle.tlb_grammar.specs.declared.error.GrammarError.{GrammarError as Refused};
 
@@ -57,7 +57,8 @@ fn refused_token(error: LexError) -> GrammarError
 // The tokens of a text that writes a schema.
 fn tokens_of_schema(alloc: Global, text: &[u8]) -> Result<Vec<Token>, GrammarError>
     requires { length text.now ≤ 1048576 }
-    ensures { IfRead result (λ ts. Cut text.now ts.items × ((s : SchemaView) × Declarations standard (lexemes text.now ts.items) s × HasFew s)) (λ e. Refuses text.now e) }
+    ensures { IfRead result (λ ts. Tokenizes text.now ts.items × ((s : SchemaView)
+        × Declarations standard (lexemes text.now ts.items) s × WithinCounts s)) (λ e. Refuses text.now e) }
 {
     let tokens = match tokens(alloc, text) {
         Ok(tokens) => tokens,
@@ -72,7 +73,8 @@ fn tokens_of_schema(alloc: Global, text: &[u8]) -> Result<Vec<Token>, GrammarErr
 // The tokens of a text that writes a type word.
 fn tokens_of_word(alloc: Global, text: &[u8]) -> Result<Vec<Token>, GrammarError>
     requires { length text.now ≤ 1048576 }
-    ensures { IfRead result (λ ts. Cut text.now ts.items × ((e : ExprView) × TypeWord standard (lexemes text.now ts.items) e)) (λ e. RefusesWord text.now e) }
+    ensures { IfRead result (λ ts. Tokenizes text.now ts.items × ((e : ExprView)
+        × TypeWord standard (lexemes text.now ts.items) e)) (λ e. RefusesWord text.now e) }
 {
     let tokens = match tokens(alloc, text) {
         Ok(tokens) => tokens,
@@ -110,9 +112,9 @@ pub fn read_schema(alloc: Global, text: &[u8]) -> Result<Schema, GrammarError>
     requires { length text.now ≤ 1048576 }
     // What is answered holds of the text.
     ensures holds { IfRead result (λ s. Writes text.now (schema s)) (λ e. Refuses text.now e) }
-    // The schema that the text writes is answered, unless memory is wanted.
+    // The schema that the text writes is answered, unless memory runs out.
     ensures written { (s : SchemaView) → Writes text.now s → IfRead result (λ found. schema found ≡ s) (λ _. ⊥) }
-    // The refusal of the text is answered, unless memory is wanted.
+    // The refusal of the text is answered, unless memory runs out.
     ensures refused { (e : Refused) → Refuses text.now e → IfRead result (λ _. ⊥) (λ found. found ≡ e) }
     // What is answered is within the limits of a schema.
     ensures limits { IfRead result (λ s. IsWithinLimits (schema s)) (λ _. ⊤) }

@@ -14,7 +14,7 @@ pub(crate) enum Terms {
 #[derive(Drop)]
 pub(crate) struct OpenSum {
     pub(crate) terms: Terms,
-    /// The factor in front of a `*`.
+    /// The factor before a `*`.
     pub(crate) factor: Option<Boxed<Expr>>,
 }
 
@@ -44,40 +44,40 @@ pub(crate) struct Heading {
     pub(crate) tag: Tag,
 }
 
-/// What was read last, or what is wanted next. The items are those before it in the record.
+/// What was read last, or what is expected next. The items are those before it in the record.
 #[derive(Drop)]
-pub(crate) enum Mode {
+pub(crate) enum ParserState {
     /// Between declarations.
     Start,
-    /// Behind the `!` of a declaration.
+    /// After the `!` of a declaration.
     Marked,
     /// In a record, between items.
     Items(Items<Item>),
-    /// Behind a name that begins an item.
+    /// After a name that begins an item.
     ItemName(Items<Item>, Name),
-    /// Behind the `_` that begins an item.
+    /// After the `_` that begins an item.
     ItemBlank(Items<Item>),
-    /// Behind the first term of a field.
+    /// After the first term of a field.
     Typed(Items<Item>, Option<Name>, Expr),
-    /// Behind the `.` of a field.
+    /// After the `.` of a field.
     Bit(Items<Item>, Option<Name>, Expr),
-    /// Behind the number of a tested bit.
+    /// After the number of a tested bit.
     BitEnd(Items<Item>, Option<Name>, Expr, u32),
-    /// Behind `{`, a name and `:`.
+    /// After `{`, a name and `:`.
     Kind(Items<Item>, Name),
-    /// Behind the kind of an implicit field.
+    /// After the kind of an implicit field.
     KindEnd(Items<Item>, Name, ParamKind),
-    /// A term is wanted.
+    /// A term is expected.
     Term,
-    /// An operand of the sum is wanted.
+    /// An operand of the sum is expected.
     Apply(OpenSum),
-    /// Behind a name and maybe arguments, an operand of the sum.
+    /// After a name and maybe arguments, an operand of the sum.
     Applied(OpenSum, Name, Items<Expr>),
-    /// Behind a whole operand of the sum.
+    /// After a whole operand of the sum.
     Operated(OpenSum, Expr),
-    /// Behind the `=` of a declaration.
+    /// After the `=` of a declaration.
     Result(Heading, Items<Item>),
-    /// Behind the type's name.
+    /// After the type's name.
     Params(Constructor),
 }
 
@@ -94,9 +94,9 @@ pub(crate) enum Frame {
     Argument(OpenSum, Name, Items<Expr>),
     /// The argument of a `##`, `#<` or `#<=` that is an operand of the sum.
     Width(OpenSum, Width),
-    /// The first term of a field, behind these items.
+    /// The first term of a field, after these items.
     Field(Items<Item>, Option<Name>),
-    /// The type behind a `?`.
+    /// The type after a `?`.
     Guarded(Items<Item>, Option<Name>, Guard),
     /// A further parameter of the constructor's result.
     Param(Constructor),

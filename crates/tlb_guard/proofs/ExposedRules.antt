@@ -12,9 +12,11 @@ use Rattle.kind_terms.specs.declared.kind.TermKind.{TermKind}
 use Rattle.kind_terms.specs.Params.{is_type_in}
 use Rattle.kind_terms.specs.Scopes.{field_names}
 use Rattle.tlb_guard.specs.Rounds.{Test, IsPart}
-use Rattle.tlb_guard.specs.DeclaredTypes.{Parameter, declared_types, is_declared_type, is_type_kind, is_type_parameter, kinds_of_type, parameter_count, variable_at, has_empty_tag}
-use Rattle.tlb_guard.specs.Empty.{is_variable, may_be_empty_item, may_take_nothing}
+use Rattle.tlb_guard.specs.DeclaredTypes.{Parameter, declared_types, is_declared_class, is_type_kind, is_type_parameter, kinds_of_type, parameter_count, variable_at, has_empty_tag}
+use Rattle.kind_terms.specs.Classes.{NameClass, of_scope, of_word}
+use Rattle.tlb_guard.specs.Empty.{class_in, may_be_empty_item, may_take_nothing}
 use Rattle.tlb_guard.specs.Exposed.{ExposedTerm, a_variable, a_type, Known, Exposed, through, type_and, is_variable_called, terms_of, terms_of_arguments, terms_of_field, terms_of_item, terms_of_items, exposed_from, exposed_by, exposes_variable, exposed_rules}
+use Rattle.tlb_guard.specs.Exposed.{terms_of_name}
 use Rattle.tlb_guard.specs.Laws.{ExposedStays}
 use Rattle.tlb_guard.proofs.Rounds.{IsMember, IsMonotone, IsWithin, last_stays}
 use Rattle.tlb_guard.proofs.Lists.{or_weaker, any_weaker, is_declared}
@@ -27,10 +29,6 @@ knowing types empty p = record { types = types; empty = empty; exposed = p }
 -- what passes a test in one list does in another
 abbrev pub Passes : {A : Type 0} → (A → Bool) → List A → List A → Type 0
 Passes t xs ys = list_any t xs ≡ true → list_any t ys ≡ true
-
-cond_passes : {A : Type 0} (t : A → Bool) (b : Bool) (xs ys zs : List A) → Passes t ys zs → Passes t (cond b xs ys) (cond b xs zs)
-cond_passes t true xs ys zs f h = h
-cond_passes t false xs ys zs f h = f h
 
 then_passes : {A : Type 0} (t : A → Bool) (a b : Bool) (xs ys : List A) → (a ≡ true → b ≡ true) → Passes t xs ys → Passes t (cond a xs []) (cond b ys [])
 then_passes t true true xs ys f g h = g h
@@ -45,16 +43,18 @@ type_passes : (t : ExposedTerm → Bool) (b : Bool) (x : Word) (xs ys : List Exp
 type_passes t true x xs ys f h = or_weaker (t (a_type x)) (list_any t xs) (t (a_type x)) (list_any t ys) (λ e. e) f h
 type_passes t false x xs ys f h = h
 
+name_passes : (t : ExposedTerm → Bool) (types : SchemaView) (x : Word) (xs ys : List ExposedTerm) → Passes t xs ys
+    → (k : NameClass (Unit {0})) → Passes t (terms_of_name types x xs k) (terms_of_name types x ys k)
+name_passes t types x xs ys f (of_scope u) h = h
+name_passes t types x xs ys f (of_word w) h = type_passes t (is_declared_class types x w) x xs ys f h
+
 module _ (types : SchemaView) (empty : Test Word) (p q : Test Parameter) (part : IsPart p q) (t : ExposedTerm → Bool) where
   mutual
     terms_more : (e : ExprView) (scope : List Word) → Passes t (terms_of (knowing types empty p) scope e) (terms_of (knowing types empty q) scope e)
     terms_more (lit n) scope h = h
     terms_more (named x es) scope h =
-        cond_passes t (is_variable scope x es) (a_variable x ∷ [])
-        (type_and (is_declared_type types x) x (terms_of_arguments (knowing types empty p) scope x 0 es))
-        (type_and (is_declared_type types x) x (terms_of_arguments (knowing types empty q) scope x 0 es))
-        (type_passes t (is_declared_type types x) x (terms_of_arguments (knowing types empty p) scope x 0 es)
-        (terms_of_arguments (knowing types empty q) scope x 0 es) (arguments_more es scope x 0)) h
+        name_passes t types x (terms_of_arguments (knowing types empty p) scope x 0 es)
+        (terms_of_arguments (knowing types empty q) scope x 0 es) (arguments_more es scope x 0) (class_in scope x es) h
     terms_more nat32 scope h = h
     terms_more (bits es) scope h = h
     terms_more (below es) scope h = h

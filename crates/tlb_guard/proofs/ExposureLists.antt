@@ -11,7 +11,7 @@ use Rattle.bit_slice.specs.declared.name.Name.{Name}
 use Rattle.tlb_syntax.specs.declared.tree.Constructor.{Constructor}
 use Rattle.tlb_syntax.specs.declared.tree.Expr.{Expr}
 use Rattle.tlb_syntax.specs.declared.tree.Item.{Item}
-use Rattle.tlb_syntax.specs.Tree.{ExprList, ItemList, named}
+use Rattle.tlb_syntax.specs.Tree.{SchemaView, ExprList, ItemList, named}
 use Rattle.tlb_syntax.specs.View.{constructor, expr, exprs, item, items}
 use Rattle.kind_terms.specs.Words.{Word}
 use Rattle.kind_terms.specs.Scopes.{field_names}
@@ -19,7 +19,10 @@ use Rattle.tlb_guard.specs.declared.exposures.Exposure.{Exposure}
 use Rattle.tlb_guard.specs.declared.exposures.Exposures.{Exposures}
 use Rattle.tlb_guard.specs.Rounds.{Test}
 use Rattle.tlb_guard.specs.DeclaredTypes.{is_declared_type}
-use Rattle.tlb_guard.specs.Empty.{is_variable, may_be_empty_item, may_be_empty_items}
+use Rattle.kind_terms.specs.Classes.{of_scope, of_word, word_class}
+use Rattle.tlb_guard.specs.NameLaws.{class_seen, is_variable}
+use Rattle.tlb_guard.specs.Exposed.{terms_of_name}
+use Rattle.tlb_guard.specs.Empty.{may_be_empty_item, may_be_empty_items}
 use Rattle.tlb_guard.specs.Exposed.{Known, ExposedTerm, Exposed, a_type, a_variable, type_and, through as by_item, terms_of, terms_of_arguments, terms_of_item, terms_of_items, exposed_from, exposed_by}
 use Rattle.tlb_guard.specs.Facts.{holds}
 use Rattle.tlb_guard.specs.Numbering.{number_of, parameter_at, passes, place_of, types_in, views, width, word_at}
@@ -110,11 +113,16 @@ no_terms old terms_of none t =
     let before = exposed_in (views old.types.now) t old.exposures in
     sym (append-nil before) ∙ ap (λ z. before ++ z) (sym (terms_through_none t old.through old.item) ∙ ap (terms_through t old.through old.item) (none k (names old.scope)))
 
+terms_by : (b : Bool) (types : SchemaView) (x : Word) (args : List ExposedTerm) (d : Bool) → is_declared_type types x ≡ d
+    → terms_of_name types x args (cond b (of_scope tt) (of_word (word_class x))) ≡ cond b (a_variable x ∷ []) (type_and d x args)
+terms_by true types x args d f = refl
+terms_by false types x args d f = ap (λ z. type_and z x args) f
+
 named_terms : (k : Known) (scope : List Word) (x : Word) (es : ExprList) (b d : Bool) → is_variable scope x es ≡ b → is_declared_type k.types x ≡ d
     → terms_of k scope (named x es) ≡ cond b (a_variable x ∷ []) (type_and d x (terms_of_arguments k scope x 0 es))
 named_terms k scope x es b d e f =
-    ap (λ z. cond z (a_variable x ∷ []) (type_and (is_declared_type k.types x) x (terms_of_arguments k scope x 0 es))) e
-    ∙ ap (λ z. cond b (a_variable x ∷ []) (type_and z x (terms_of_arguments k scope x 0 es))) f
+    let args = terms_of_arguments k scope x 0 es in
+    ap (terms_of_name k.types x args) (class_seen scope x es b e) ∙ terms_by b k.types x args d f
 
 pub named_no_type : (old : Exposures) (x : Word) (es : ExprList) → is_variable (names old.scope) x es ≡ false → None ≡ number_of (views old.types.now) x
     → Exposes (λ k scope. terms_of k scope (named x es)) old old

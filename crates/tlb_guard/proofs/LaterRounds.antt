@@ -3,37 +3,44 @@ use Rattle.std.proofs.Common.{◌≡◌, Bool, true, false, List, [], ◌∷◌,
 use Rattle.std.specs.Prelude.{cond, not}
 use Rattle.std.proofs.lemmas.Bool.{and_parts, and_from}
 use Rattle.tlb_syntax.specs.Tree.{ExprView, ExprList, ItemView, ItemList, TypeView, ConstructorView, SchemaView, lit, named, nat32, bits, below, up_to, plus, star, out, ref, group, plain, when, when_bit, implicit, check, explicit, no_items, an_item}
-use Rattle.kind_terms.specs.Words.{Word, is_among, is_at_least, has_width, has_some_width}
-use Rattle.kind_terms.specs.Dictionaries.{hashmap, hashmap_e, of_type}
-use Rattle.kind_terms.specs.Types.{is_family}
+use Rattle.kind_terms.specs.declared.words.WordClass.{WordClass}
+use Rattle.kind_terms.specs.declared.words.WordClass.TheVariants.{TypeWord, Any, Cell, Sized, Numbered, Hashmap}
+use Rattle.kind_terms.specs.declared.words.WordClass.TheVariants.{HashmapE, HashmapNode, Free}
+use Rattle.kind_terms.specs.Words.{Word}
+use Rattle.kind_terms.specs.Classes.{NameClass, of_scope, of_word}
+use Rattle.kind_terms.specs.Dictionaries.{of_type}
 use Rattle.kind_terms.specs.Scopes.{field_names}
-use Rattle.std.specs.Prelude.{codes}
 use Rattle.tlb_guard.specs.Rounds.{Test, IsPart}
 use Rattle.tlb_guard.specs.DeclaredTypes.{declared_types, has_empty_tag}
-use Rattle.tlb_guard.specs.Empty.{is_variable, may_be_empty_type, may_be_empty, may_be_empty_field, may_be_empty_item, may_be_empty_items, may_be_empty_constructor, empty_rules, literal_argument}
+use Rattle.tlb_guard.specs.Empty.{class_in, may_be_empty_word, may_be_empty_name, may_be_empty, may_be_empty_field, may_be_empty_item, may_be_empty_items, may_be_empty_constructor, empty_rules}
 use Rattle.tlb_guard.specs.Laws.{EmptyStays}
 use Rattle.tlb_guard.proofs.Rounds.{IsMonotone, IsWithin, last_stays}
 use Rattle.tlb_guard.proofs.Lists.{any_weaker, is_declared}
 
 -- ---- what may take nothing
 
--- a choice of two truths
-choice : (b x y z : Bool) → (b ≡ false → y ≡ true → z ≡ true) → cond b x y ≡ true → cond b x z ≡ true
-choice true x y z f e = e
-choice false x y z f e = f refl e
+word_mono : (p q : Test Word) → IsPart p q → (x : Word) (es : ExprList) (w : WordClass)
+    → may_be_empty_word p x es w ≡ true → may_be_empty_word q x es w ≡ true
+word_mono p q part x es TypeWord h = h
+word_mono p q part x es Any h = h
+word_mono p q part x es Cell h = h
+word_mono p q part x es (Sized f) h = h
+word_mono p q part x es (Numbered f) h = h
+word_mono p q part x es Hashmap h = h
+word_mono p q part x es HashmapE h = h
+word_mono p q part x es HashmapNode h = h
+word_mono p q part x es Free h = part x h
 
-type_mono : (p q : Test Word) → IsPart p q → (x : Word) (es : ExprList) → may_be_empty_type p x es ≡ true → may_be_empty_type q x es ≡ true
-type_mono p q part x es e =
-    choice (is_among (codes "Any" ∷ codes "Cell" ∷ []) x) true _ _
-    (λ h. choice (is_family x) (not (is_at_least 1 (literal_argument es))) _ _
-    (λ i. choice (has_width x) (not (has_some_width x)) _ _
-    (λ j. choice (is_among (hashmap ∷ hashmap_e ∷ []) x) false _ _ (λ k. part x)))) e
+name_mono : (p q : Test Word) → IsPart p q → (x : Word) (es : ExprList) (k : NameClass (Unit {0}))
+    → may_be_empty_name p x es k ≡ true → may_be_empty_name q x es k ≡ true
+name_mono p q part x es (of_scope u) h = h
+name_mono p q part x es (of_word w) h = word_mono p q part x es w h
 
 mutual
   expr_mono : (p q : Test Word) → IsPart p q → (e : ExprView) (scope : List Word) → may_be_empty p scope e ≡ true → may_be_empty q scope e ≡ true
   expr_mono p q part (lit n) scope h = h
   expr_mono p q part (named x es) scope h =
-      choice (is_variable scope x es) true (may_be_empty_type p x es) (may_be_empty_type q x es) (λ i. type_mono p q part x es) h
+      name_mono p q part x es (class_in scope x es) h
   expr_mono p q part nat32 scope h = h
   expr_mono p q part (bits es) scope h = h
   expr_mono p q part (below es) scope h = h

@@ -12,10 +12,11 @@ use Rattle.tlb_syntax.specs.declared.tree.Constructor.{Constructor}
 use Rattle.tlb_syntax.specs.declared.tree.Expr.{Expr}
 use Rattle.tlb_syntax.specs.Tree.{ConstructorView, SchemaView, ItemList}
 use Rattle.tlb_syntax.specs.View.{constructor, expr, exprs}
-use Rattle.kind_terms.specs.Words.{Word, is_among, is_built_in}
+use Rattle.kind_terms.specs.Words.{Word, is_among}
+use Rattle.kind_terms.specs.Classes.{is_free}
 use Rattle.kind_terms.specs.Params.{kind_of, kinds, kinds_of_exprs}
 use Rattle.kind_terms.specs.Types.{count, has_exprs}
-use Rattle.kind_terms.specs.Dictionaries.{is_dictionary, of_type}
+use Rattle.kind_terms.specs.Dictionaries.{of_type}
 use Rattle.tlb_guard.proofs.Rounds.{same_truth}
 use Rattle.tlb_guard.specs.DeclaredTypes.{declared_types, distinct, parameter_kinds, is_declared_type, result_of, kinds_of_type}
 use Rattle.tlb_guard.specs.Numbering.{number_of, place_of, views, width, word_at}
@@ -121,29 +122,27 @@ among_results x (c ∷ cs) =
 pub among_declared : (x : Word) (s : SchemaView) → is_among (declared_types s) x ≡ is_some (place_of s x)
 among_declared x s = distinct_among x (map result_of s) ∙ among_results x s
 
-named_at : (b : Bool) (o : Option ℕ) (n : ℕ) → Some n ≡ cond (not b) o None → (o ≡ Some n) × ((not b && is_some o) ≡ true)
-named_at true o n e = absurd (cc)
-named_at false (Some m) n e = (sym e, refl)
-named_at false None n e = absurd (cc)
+named_at : (b : Bool) (o : Option ℕ) (n : ℕ) → Some n ≡ cond b o None → (o ≡ Some n) × ((b && is_some o) ≡ true)
+named_at false o n e = absurd (cc)
+named_at true (Some m) n e = (sym e, refl)
+named_at true None n e = absurd (cc)
 
-unnamed_at : (b : Bool) (o : Option ℕ) → None ≡ cond (not b) o None → (not b && is_some o) ≡ false
-unnamed_at true o e = refl
-unnamed_at false (Some m) e = absurd (cc)
-unnamed_at false None e = refl
+unnamed_at : (b : Bool) (o : Option ℕ) → None ≡ cond b o None → (b && is_some o) ≡ false
+unnamed_at false o e = refl
+unnamed_at true (Some m) e = absurd (cc)
+unnamed_at true None e = refl
 
 -- a type by its name has its place
 pub number_place : (s : SchemaView) (x : Word) (n : ℕ) → Some n ≡ number_of s x → place_of s x ≡ Some n
-number_place s x n e = (named_at (is_built_in x || is_dictionary x) (place_of s x) n e).0
+number_place s x n e = (named_at (is_free x) (place_of s x) n e).0
 
 pub number_declared : (s : SchemaView) (x : Word) (n : ℕ) → Some n ≡ number_of s x → is_declared_type s x ≡ true
 number_declared s x n e =
-    ap (λ b. not (is_built_in x || is_dictionary x) && b) (among_declared x s)
-    ∙ (named_at (is_built_in x || is_dictionary x) (place_of s x) n e).1
+    ap (λ b. is_free x && b) (among_declared x s) ∙ (named_at (is_free x) (place_of s x) n e).1
 
 pub number_none : (s : SchemaView) (x : Word) → None ≡ number_of s x → is_declared_type s x ≡ false
 number_none s x e =
-    ap (λ b. not (is_built_in x || is_dictionary x) && b) (among_declared x s)
-    ∙ unnamed_at (is_built_in x || is_dictionary x) (place_of s x) e
+    ap (λ b. is_free x && b) (among_declared x s) ∙ unnamed_at (is_free x) (place_of s x) e
 
 pub own_number : (s : SchemaView) (x : Word) (n : ℕ) → Some n ≡ number_of s x → place_of s (word_at s n) ≡ Some n
 own_number s x n e =

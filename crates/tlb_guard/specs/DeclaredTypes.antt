@@ -1,10 +1,13 @@
 -- The declared types of a schema, their parameters, and the tags that are empty. A schema stands here without the
 -- declarations of dictionaries.
 -- Source: the TON documentation on TL-B (constructors and their tags), and this project's rules.
-use Rattle.std.specs.Prelude.{ℕ, zero, suc, ◌&&◌, ◌||◌, not, List, [], ◌∷◌, map, length, Bool, true, false, Option, Some, None, slice_get, count_by, sum_by, if◌then◌else◌}
+use Rattle.std.specs.Prelude.{ℕ, zero, suc, ◌&&◌, List, [], ◌∷◌, map, length, Bool, true, false, Option, Some, None}
+use Rattle.std.specs.Prelude.{slice_get, count_by, sum_by, if◌then◌else◌}
 use Rattle.tlb_syntax.specs.Tree.{ExprList, TagView, ConstructorView, SchemaView, no_exprs, an_expr, computed, given}
-use Rattle.kind_terms.specs.Words.{Word, is_among, is_built_in}
-use Rattle.kind_terms.specs.Dictionaries.{is_dictionary, of_type}
+use Rattle.kind_terms.specs.declared.words.WordClass.{WordClass}
+use Rattle.kind_terms.specs.Words.{Word, is_among}
+use Rattle.kind_terms.specs.Classes.{is_free_class, word_class}
+use Rattle.kind_terms.specs.Dictionaries.{of_type}
 use Rattle.kind_terms.specs.declared.kind.TermKind.{TermKind}
 use Rattle.kind_terms.specs.Params.{kinds, is_type_in, bare_name}
 
@@ -23,9 +26,12 @@ declared_types types = distinct (map result_of types)
 abbrev pub type_count : SchemaView → ℕ
 type_count types = length (declared_types types)
 
--- a declared type, by its name where that is no built-in one
+-- a declared type, by its name where that is a free one
+abbrev pub is_declared_class : SchemaView → Word → WordClass → Bool
+is_declared_class types x w = is_free_class w && is_among (declared_types types) x
+
 abbrev pub is_declared_type : SchemaView → Word → Bool
-is_declared_type types x = not (is_built_in x || is_dictionary x) && is_among (declared_types types) x
+is_declared_type types x = is_declared_class types x (word_class x)
 
 -- ---- parameters
 

@@ -1,11 +1,17 @@
 -- What may take nothing: neither a bit nor a reference.
 -- Source: the TON documentation on TL-B (built-in types), and this project's rules.
-use Rattle.std.specs.Prelude.{ℕ, ◌&&◌, not, List, [], ◌∷◌, ◌++◌, Bool, true, false, Option, Some, None, codes, if◌then◌else◌}
+use Rattle.std.specs.Prelude.{ℕ, ◌&&◌, not, List, [], ◌++◌, Bool, true, false, Option, Some, None, if◌then◌else◌}
 use Rattle.std.specs.List.{list_any}
-use Rattle.tlb_syntax.specs.Tree.{ExprView, ExprList, ItemView, ItemList, TypeView, ConstructorView, SchemaView, lit, named, nat32, bits, below, up_to, plus, star, out, ref, group, no_exprs, an_expr, plain, when, when_bit, implicit, check, explicit, no_items, an_item}
-use Rattle.kind_terms.specs.Words.{Word, is_among, is_at_least, has_width, has_some_width}
-use Rattle.kind_terms.specs.Dictionaries.{hashmap, hashmap_e, of_type}
-use Rattle.kind_terms.specs.Types.{is_family, has_exprs}
+use Rattle.tlb_syntax.specs.Tree.{ExprView, ExprList, ItemView, ItemList, TypeView, ConstructorView, SchemaView, lit}
+use Rattle.tlb_syntax.specs.Tree.{named, nat32, bits, below, up_to, plus, star, out, ref, group, no_exprs, an_expr}
+use Rattle.tlb_syntax.specs.Tree.{plain, when, when_bit, implicit, check, explicit, no_items, an_item}
+use Rattle.kind_terms.specs.declared.words.WordClass.{WordClass}
+use Rattle.kind_terms.specs.declared.words.WordClass.TheVariants.{TypeWord, Any, Cell, Sized, Numbered, Hashmap}
+use Rattle.kind_terms.specs.declared.words.WordClass.TheVariants.{HashmapE, HashmapNode, Free}
+use Rattle.kind_terms.specs.Words.{Word, is_among, is_at_least, width_in}
+use Rattle.kind_terms.specs.Classes.{NameClass, of_scope, of_word, name_class, word_class}
+use Rattle.kind_terms.specs.Dictionaries.{of_type}
+use Rattle.kind_terms.specs.Types.{has_exprs}
 use Rattle.kind_terms.specs.Scopes.{field_names}
 use Rattle.tlb_guard.specs.Rounds.{Test, round}
 use Rattle.tlb_guard.specs.DeclaredTypes.{type_count, has_empty_tag}
@@ -28,26 +34,41 @@ abbrev pub literal_argument : ExprList → Option ℕ
 literal_argument no_exprs = None
 literal_argument (an_expr e es) = literal e
 
--- a name in scope that stands alone is a variable, and hides a type of that name
-abbrev pub is_variable : List Word → Word → ExprList → Bool
-is_variable scope x es = not (has_exprs es) && is_among scope x
+abbrev pub found : List Word → Word → Option (Unit {0})
+found scope x = if is_among scope x then Some tt else None
+
+-- what a name with these arguments is, with these names in scope
+abbrev pub class_in : List Word → Word → ExprList → NameClass (Unit {0})
+class_in scope x es = name_class (found scope x) x (has_exprs es)
 
 -- Whether a named type may take nothing, where these are the declared types that may: Any and Cell may, a family of basic
 -- types may unless its width is a literal of at least 1, and the dictionaries may not.
+abbrev pub may_be_empty_word : Test Word → Word → ExprList → WordClass → Bool
+may_be_empty_word empty x es Any = true
+may_be_empty_word empty x es Cell = true
+may_be_empty_word empty x es (Sized f) = not (is_at_least 1 (literal_argument es))
+may_be_empty_word empty x es (Numbered f) = not (is_at_least 1 (width_in f x))
+may_be_empty_word empty x es Hashmap = false
+may_be_empty_word empty x es HashmapE = false
+may_be_empty_word empty x es Free = empty x
+-- no types
+may_be_empty_word empty x es TypeWord = false
+may_be_empty_word empty x es HashmapNode = false
+
 abbrev pub may_be_empty_type : Test Word → Word → ExprList → Bool
-may_be_empty_type empty x es =
-    if is_among (codes "Any" ∷ codes "Cell" ∷ []) x then true
-    else if is_family x then not (is_at_least 1 (literal_argument es))
-    else if has_width x then not (has_some_width x)
-    else if is_among (hashmap ∷ hashmap_e ∷ []) x then false
-    else empty x
+may_be_empty_type empty x es = may_be_empty_word empty x es (word_class x)
+
+-- a name in scope that stands alone is a variable, and hides a type of that name
+abbrev pub may_be_empty_name : Test Word → Word → ExprList → NameClass (Unit {0}) → Bool
+may_be_empty_name empty x es (of_scope u) = true
+may_be_empty_name empty x es (of_word w) = may_be_empty_word empty x es w
 
 -- Whether what stands there, with these names in scope, may take nothing. Type variables, and types that are repeated or
 -- stand after a condition, may; a record may where each of its fields may.
 abbrev mutual
   pub may_be_empty : Test Word → List Word → ExprView → Bool
   may_be_empty empty scope (lit n) = true
-  may_be_empty empty scope (named x es) = if is_variable scope x es then true else may_be_empty_type empty x es
+  may_be_empty empty scope (named x es) = may_be_empty_name empty x es (class_in scope x es)
   may_be_empty empty scope nat32 = false
   may_be_empty empty scope (bits es) = not (is_at_least 1 (literal_argument es))
   may_be_empty empty scope (below es) = not (is_at_least 2 (literal_argument es))

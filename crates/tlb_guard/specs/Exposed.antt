@@ -1,14 +1,19 @@
 -- What stands first in a type, before anything is taken for sure.
 -- Source: the TON documentation on TL-B (parametrized types), and this project's rules.
-use Rattle.std.specs.Prelude.{ℕ, ◌+◌, ◌&&◌, List, [], ◌∷◌, ◌++◌, map, Bool, true, false, Option, Some, None, bytes_eq, if◌then◌else◌}
+use Rattle.std.specs.Prelude.{ℕ, ◌+◌, ◌&&◌, List, [], ◌∷◌, ◌++◌, map, Bool, true, false, Option, Some, None, bytes_eq}
+use Rattle.std.specs.Prelude.{if◌then◌else◌}
 use Rattle.std.specs.List.{list_any}
-use Rattle.tlb_syntax.specs.Tree.{ExprView, ExprList, ItemView, ItemList, TypeView, ConstructorView, SchemaView, lit, named, nat32, bits, below, up_to, plus, star, out, ref, group, no_exprs, an_expr, plain, when, when_bit, implicit, check, explicit, no_items, an_item}
+use Rattle.tlb_syntax.specs.Tree.{ExprView, ExprList, ItemView, ItemList, TypeView, ConstructorView, SchemaView, lit}
+use Rattle.tlb_syntax.specs.Tree.{named, nat32, bits, below, up_to, plus, star, out, ref, group, no_exprs, an_expr}
+use Rattle.tlb_syntax.specs.Tree.{plain, when, when_bit, implicit, check, explicit, no_items, an_item}
 use Rattle.kind_terms.specs.Words.{Word}
+use Rattle.kind_terms.specs.Classes.{NameClass, of_scope, of_word}
 use Rattle.kind_terms.specs.Dictionaries.{of_type}
 use Rattle.kind_terms.specs.Scopes.{field_names}
 use Rattle.tlb_guard.specs.Rounds.{Test, round}
-use Rattle.tlb_guard.specs.DeclaredTypes.{Parameter, is_declared_type, is_type_parameter, parameter_count, variable_at, has_empty_tag}
-use Rattle.tlb_guard.specs.Empty.{is_variable, may_be_empty_item, may_take_nothing}
+use Rattle.tlb_guard.specs.DeclaredTypes.{Parameter, is_declared_class, is_type_parameter, parameter_count, variable_at}
+use Rattle.tlb_guard.specs.DeclaredTypes.{has_empty_tag}
+use Rattle.tlb_guard.specs.Empty.{class_in, may_be_empty_item, may_take_nothing}
 
 -- what is exposed
 pub data ExposedTerm : Type 0 where
@@ -35,6 +40,11 @@ abbrev pub type_and : Bool → Word → List ExposedTerm → List ExposedTerm
 type_and true x from_arguments = a_type x ∷ from_arguments
 type_and false x from_arguments = []
 
+-- of a name, where its arguments expose these
+abbrev pub terms_of_name : SchemaView → Word → List ExposedTerm → NameClass (Unit {0}) → List ExposedTerm
+terms_of_name types x from_arguments (of_scope u) = a_variable x ∷ []
+terms_of_name types x from_arguments (of_word w) = type_and (is_declared_class types x w) x from_arguments
+
 -- What an expression exposes, with these names in scope. A variable exposes itself; a declared type exposes its own name,
 -- and what an argument exposes where the parameter at its place is exposed; a repetition exposes what the repeated type
 -- exposes; a record exposes what its fields expose, up to and with the first that may not take nothing.
@@ -42,8 +52,7 @@ abbrev mutual
   pub terms_of : Known → List Word → ExprView → List ExposedTerm
   terms_of k scope (lit n) = []
   terms_of k scope (named x es) =
-      if is_variable scope x es then a_variable x ∷ []
-      else type_and (is_declared_type k.types x) x (terms_of_arguments k scope x 0 es)
+      terms_of_name k.types x (terms_of_arguments k scope x 0 es) (class_in scope x es)
   terms_of k scope nat32 = []
   terms_of k scope (bits es) = []
   terms_of k scope (below es) = []

@@ -1,6 +1,7 @@
 pub mod Rounds
 pub mod DeclaredTypes
 pub mod Empty
+pub mod NameLaws
 pub mod Exposed
 pub mod Cycles
 pub mod Facts

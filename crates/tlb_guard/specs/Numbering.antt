@@ -1,10 +1,10 @@
 -- The types of a schema and their parameters by numbers: the number of a type is the place of its first constructor.
-use Rattle.std.specs.Prelude.{ℕ, zero, suc, ◌+◌, ◌*◌, ◌||◌, not, List, [], ◌∷◌, Bool, false, Option, Some, None, bytes_eq, position, max, nat_lt, map, if◌then◌else◌}
+use Rattle.std.specs.Prelude.{ℕ, zero, suc, ◌+◌, ◌*◌, List, [], ◌∷◌, Bool, false, Option, Some, None, bytes_eq, position, max, nat_lt, map, if◌then◌else◌}
 use Rattle.tlb_syntax.specs.declared.tree.Constructor.{Constructor}
 use Rattle.tlb_syntax.specs.Tree.{ConstructorView, SchemaView}
 use Rattle.tlb_syntax.specs.View.{constructor}
-use Rattle.kind_terms.specs.Words.{Word, is_built_in}
-use Rattle.kind_terms.specs.Dictionaries.{is_dictionary}
+use Rattle.kind_terms.specs.Words.{Word}
+use Rattle.kind_terms.specs.Classes.{is_free}
 use Rattle.kind_terms.specs.Types.{count}
 use Rattle.tlb_guard.specs.Rounds.{Test}
 use Rattle.tlb_guard.specs.DeclaredTypes.{Parameter}
@@ -23,7 +23,7 @@ word_at (c ∷ cs) (suc n) = word_at cs n
 
 -- the number of a type that a field may name
 abbrev pub number_of : SchemaView → Word → Option ℕ
-number_of s x = if not (is_built_in x || is_dictionary x) then place_of s x else None
+number_of s x = if is_free x then place_of s x else None
 
 -- the greatest number of parameters of a constructor
 abbrev pub width : SchemaView → ℕ

@@ -9,10 +9,9 @@ ghost use Rattle.tlb_guard.specs.Empty.{may_be_empty, may_be_empty_type, may_be_
 
 use crate::least::least;
 use crate::rules::Rule;
-use crate::scope::{enter, is_at_least, is_variable, leave};
+use crate::scope::{enter, is_at_least, is_variable, leave, may_built_in_be_empty};
 use crate::types::{Types, has_empty_tag};
 use bit_slice::Name;
-use kind_terms::{has_some_width, has_width, is_any_or_cell, is_family, is_map};
 use sqlite_items::Items;
 use std::alloc::Global;
 use tlb_memory::NoMemory;
@@ -33,18 +32,8 @@ impl<'s, 'a> Needs<'s, 'a> {
         ensures scope { OnOk result (self.new.scope ≡ self.old.scope) }
         ensures needs { IfOk result (IsNeeding (λ q scope. may_be_empty_type q name.now (exprs args.now)) self.old self.new) }
     {
-        let text = name.text();
-        if is_any_or_cell(text) {
-            return Ok(true);
-        }
-        if is_family(text) {
-            return Ok(!is_at_least(1, args));
-        }
-        if has_width(text) {
-            return Ok(!has_some_width(text));
-        }
-        if is_map(text) {
-            return Ok(false);
+        if let Some(may) = may_built_in_be_empty(name, args) {
+            return Ok(may);
         }
         match self.types.place(name) {
             None => Ok(false),

@@ -11,10 +11,9 @@ ghost use Rattle.tlb_guard.specs.Empty.{may_be_empty, may_be_empty_item, may_be_
 ghost use Rattle.tlb_guard.specs.Exposed.{terms_of_arguments, exposed_by, exposed_from, terms_of, terms_of_item, terms_of_items};
 
 use crate::rules::is_found;
-use crate::scope::{enter, is_at_least, is_variable, leave};
+use crate::scope::{enter, is_at_least, is_variable, leave, may_built_in_be_empty};
 use crate::types::{Types, has_empty_tag};
 use bit_slice::Name;
-use kind_terms::{has_some_width, has_width, is_any_or_cell, is_family, is_map};
 use sqlite_items::Items;
 use std::alloc::Global;
 use tlb_memory::NoMemory;
@@ -53,20 +52,12 @@ struct Exposures<'s, 'a> {
 fn may_be_empty_named(types: &Types<'_>, empty: &[bool], name: &Name, args: &[Expr]) -> bool
     ensures { result ≡ may_be_empty_type (types_in (views types.now) (holds empty.now)) name.now (exprs args.now) }
 {
-    let text = name.text();
-    if is_any_or_cell(text) {
-        true
-    } else if is_family(text) {
-        !is_at_least(1, args)
-    } else if has_width(text) {
-        !has_some_width(text)
-    } else if is_map(text) {
-        false
-    } else {
-        match types.place(name) {
+    match may_built_in_be_empty(name, args) {
+        Some(may) => may,
+        None => match types.place(name) {
             None => false,
             Some(number) => is_found(empty, number),
-        }
+        },
     }
 }
 

@@ -1,5 +1,10 @@
 //! What follows from the definitions alone.
-ghost use Rattle.tlb_guard.specs.Laws.{EmptyStays, ExposedStays, ReachedWithinTypeCount};
+ghost use Rattle.tlb_guard.specs.Laws.{EmptyStays, ExposedStays, OneClass, ReachedWithinTypeCount};
+
+/// A name is a variable exactly where it stands alone and is in scope; else it is what its word is.
+pub fn one_class()
+    ensures { OneClass }
+{}
 
 /// No later round of what may take nothing differs.
 pub fn empty_stays()

@@ -1,13 +1,14 @@
 //! Names in scope, and literals.
-ghost use Rattle.std.specs.Prelude.{◌≡◌, ◌≤◌, ◌++◌, OnOk, length, map, take};
+ghost use Rattle.std.specs.Prelude.{◌≡◌, ◌≤◌, ◌++◌, ℕ, Bool, List, OnOk, length, map, take, unwrap_or};
 ghost use Rattle.tlb_syntax.specs.View.{expr, exprs, item};
 ghost use Rattle.kind_terms.specs.Scopes.{field_names};
 ghost use Rattle.kind_terms.specs.Words.{is_at_least};
 ghost use Rattle.tlb_guard.specs.Scoping.{IsScopePrefix, names};
-ghost use Rattle.tlb_guard.specs.Empty.{is_variable as is_a_variable, literal as literal_of, literal_argument};
+ghost use Rattle.tlb_guard.specs.Empty.{literal as literal_of, literal_argument, may_be_empty_type};
+ghost use Rattle.tlb_guard.specs.NameLaws.{is_variable as is_a_variable};
 
 use bit_slice::Name;
-use kind_terms::{field_name, is_among};
+use kind_terms::{WordClass, field_name, is_among, word_class};
 use sqlite_items::Items;
 use tlb_memory::NoMemory;
 use tlb_syntax::{Expr, Item};
@@ -40,6 +41,21 @@ pub fn is_at_least(least: u32, args: &[Expr]) -> bool
             None => false,
             Some(number) => number >= least,
         },
+    }
+}
+
+/// Whether a type of that name may take nothing, where its word is no free one.
+pub fn may_built_in_be_empty(name: &Name, args: &[Expr]) -> Option<bool>
+    ensures { (empty : List ℕ → Bool)
+        → may_be_empty_type empty name.now (exprs args.now) ≡ unwrap_or result (empty name.now) }
+{
+    match word_class(name.text()) {
+        WordClass::Any | WordClass::Cell => Some(true),
+        WordClass::Sized(_) => Some(!is_at_least(1, args)),
+        WordClass::Numbered(family) => Some(!family.has_some_width(name.text())),
+        WordClass::Hashmap | WordClass::HashmapE => Some(false),
+        WordClass::TypeWord | WordClass::HashmapNode => Some(false),
+        WordClass::Free => None,
     }
 }
 

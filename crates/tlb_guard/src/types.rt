@@ -8,7 +8,7 @@ ghost use Rattle.tlb_guard.specs.DeclaredTypes.{has_empty_tag, is_type_kind, is_
 ghost use Rattle.tlb_guard.specs.Numbering.{number_of, parameter_at, place_of, views, width as width_of};
 
 use bit_slice::Name;
-use kind_terms::{TermKind, is_built_in, is_dictionary, kind_of};
+use kind_terms::{TermKind, WordClass, kind_of, word_class};
 use sqlite_items::at;
 use std::alloc::{AllocError, Global};
 use std::collections::HashMap;
@@ -97,14 +97,20 @@ impl<'a> Types<'a> {
         self.first.get(name.text()).copied()
     }
 
-    /// The number of a declared type, by its name where that is no built-in one.
+    /// The number of a declared type, by its name where that is a free one.
     pub fn number(&self, name: &Name) -> Option<usize>
         ensures { result ≡ number_of (views self.now) name.now }
     {
-        if is_built_in(name.text()) || is_dictionary(name.text()) {
-            None
-        } else {
-            self.place(name)
+        match word_class(name.text()) {
+            WordClass::Free => self.place(name),
+            WordClass::TypeWord
+            | WordClass::Any
+            | WordClass::Cell
+            | WordClass::Sized(_)
+            | WordClass::Numbered(_)
+            | WordClass::Hashmap
+            | WordClass::HashmapE
+            | WordClass::HashmapNode => None,
         }
     }
 

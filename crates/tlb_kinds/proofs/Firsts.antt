@@ -3,7 +3,7 @@ use Rattle.std.proofs.Common.{◌≡◌, ◌∙◌, ap, sym, refl, List, [], ◌
 use Rattle.tlb_syntax.specs.declared.tree.Schema.{Schema}
 use Rattle.tlb_syntax.specs.Tree.{SchemaView}
 use Rattle.kind_declarations.specs.declared.error.Cause.{Cause}
-use Rattle.kind_terms.specs.declared.part.Part.{Part}
+use Rattle.field_path.specs.declared.part.Part.{Part}
 use Rattle.kind_declarations.specs.Faults.{fault_at, faults, first, verdict}
 use Rattle.kind_declarations.specs.Headings.{Heading}
 use Rattle.kind_declarations.specs.Nodes.{Judged}

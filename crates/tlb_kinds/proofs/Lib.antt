@@ -3,3 +3,4 @@ pub mod Firsts
 pub mod Counting
 pub mod Loops
 pub mod Passing
+pub mod Keeping

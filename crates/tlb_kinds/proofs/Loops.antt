@@ -9,7 +9,8 @@ use Rattle.tlb_syntax.specs.declared.tree.Item.{Item}
 use Rattle.tlb_syntax.specs.Limits.{AreConstructors, IsConstructor, item_count}
 use Rattle.tlb_syntax.specs.Tree.{ConstructorView, SchemaView}
 use Rattle.tlb_syntax.specs.View.{constructor, item, items}
-use Rattle.kind_terms.specs.Dictionaries.{is_dictionary, without_dictionaries}
+use Rattle.kind_terms.specs.Classes.{is_dictionary}
+use Rattle.kind_terms.specs.Dictionaries.{without_dictionaries}
 use Rattle.kind_declarations.specs.Faults.{first}
 use Rattle.kind_declarations.specs.Nodes.{heading_nodes, constructor_nodes}
 use Rattle.tlb_kinds.specs.declared.error.KindError.{KindError}

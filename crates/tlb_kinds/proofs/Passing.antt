@@ -4,7 +4,8 @@ use Rattle.std.specs.Prelude.{not, bytes_eq, cond}
 use Rattle.std.proofs.lemmas.Bool.{false≢true}
 use Rattle.std.proofs.lemmas.Slice.Eq.{bytes_eq-Decides}
 use Rattle.tlb_syntax.specs.Tree.{ConstructorView, SchemaView}
-use Rattle.kind_terms.specs.Dictionaries.{is_dictionary, of_type, without_dictionaries}
+use Rattle.kind_terms.specs.Classes.{is_dictionary}
+use Rattle.kind_terms.specs.Dictionaries.{of_type, without_dictionaries}
 use Rattle.kind_terms.specs.Words.{Word}
 use Rattle.kind_declarations.specs.Headings.{Heading}
 use Rattle.kind_declarations.specs.Nodes.{heading_nodes}

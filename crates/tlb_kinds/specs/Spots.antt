@@ -1,7 +1,7 @@
 -- Places in a schema, and refusals at them.
 use Rattle.std.specs.Prelude.{ℕ, zero, suc, ◌+◌, List, [], ◌∷◌, ◌++◌, map, length, Option, Some, None, codes, decimal}
 use Rattle.tlb_syntax.specs.Tree.{ItemList, ConstructorView, SchemaView, no_items, an_item}
-use Rattle.kind_terms.specs.declared.part.Part.{Part}
+use Rattle.field_path.specs.declared.part.Part.{Part}
 use Rattle.kind_terms.specs.Dictionaries.{of_type}
 use Rattle.kind_terms.specs.Words.{Word}
 use Rattle.kind_declarations.specs.declared.error.Cause.{Cause}

@@ -1,5 +1,5 @@
 //! The whole check.
-ghost use Rattle.std.specs.Prelude.{◌≡◌, ◌≢◌, ◌+◌, ◌≤◌, Err, List, Some, [], length, map};
+ghost use Rattle.std.specs.Prelude.{◌≡◌, ◌≢◌, ◌+◌, ◌≤◌, All, Err, List, Some, [], length, map};
 ghost use Rattle.tlb_syntax.specs.Limits.{AreConstructors, IsWithinLimits};
 ghost use Rattle.tlb_syntax.specs.View.{constructor as constructor_view, schema as schema_view};
 ghost use Rattle.kind_terms.specs.Dictionaries.{without_dictionaries as without_dictionaries_of};
@@ -7,6 +7,7 @@ ghost use Rattle.kind_declarations.specs.Faults.{Judges};
 ghost use Rattle.kind_declarations.specs.Nodes.{Judged};
 ghost use Rattle.kind_terms.specs.Views.{part_by};
 ghost use Rattle.tlb_kinds.specs.Answers.{Finds, IsFirst, IsJudged, IsPassed, IsRefused};
+ghost use Rattle.tlb_kinds.specs.Kept.{IsNoDictionary, IsOrdinary};
 ghost use Rattle.tlb_kinds.specs.Refusals.{IsKinded, first_refusal, of_contents, of_guard, of_headings};
 ghost use Rattle.tlb_kinds.specs.Refusals.{ordinary as ordinary_of, refusals_within};
 ghost use Rattle.tlb_kinds.specs.Spots.{heading, refusals_at};
@@ -22,7 +23,8 @@ use std::marker::Model;
 use tlb_guard::first_unguarded;
 use tlb_syntax::{Constructor, Schema};
 
-/// A schema in which nothing is refused. Contracts see it as the schema.
+/// A schema in which nothing is refused, within the limits of a text, and without the declarations that are passed over.
+/// Contracts see it as the schema.
 #[derive(Drop)]
 pub struct Kinded {
     schema: Schema,
@@ -38,11 +40,11 @@ impl Model for Kinded {
     ghost coded = { Prim.hlevel (codes, e.the_row.coded) };
 
     ghost use Rattle.tlb_syntax.specs.View.{schema as schema_view};
-    ghost use Rattle.tlb_kinds.specs.Refusals.{IsKinded};
+    ghost use Rattle.tlb_kinds.specs.Kept.{IsKept};
 
     ghost view = { λ k. k.schema };
 
-    ghost invariant = { λ k. IsKinded (schema_view k.schema) };
+    ghost invariant = { λ k. IsKept (schema_view k.schema) };
 }
 
 impl Kinded {
@@ -50,6 +52,9 @@ impl Kinded {
     pub fn schema(&self) -> &Schema
         ensures same { result.now ≡ self.now }
         ensures kinded { IsKinded (schema_view self.now) }
+        ensures within { IsWithinLimits (schema_view self.now) }
+        ensures ordinary { All IsOrdinary (schema_view self.now) }
+        ensures no_dictionaries { All IsNoDictionary (schema_view self.now) }
     {
         &self.schema
     }

@@ -11,6 +11,6 @@ mod spot;
 
 pub use check::{Kinded, kind_check};
 pub use error::KindError;
-pub use kind_terms::Part;
+pub use field_path::{FieldPath, Part};
 pub use places::spot;
-pub use spot::{FieldPath, Spot};
+pub use spot::Spot;

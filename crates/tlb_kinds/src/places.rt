@@ -7,9 +7,10 @@ ghost use Rattle.kind_terms.specs.Views.{part_by};
 ghost use Rattle.tlb_kinds.specs.Spots.{heading, item_spot as spot_of_item, parts_by, path_to, shown_name};
 ghost use Rattle.tlb_kinds.specs.Spots.{spot as spot_of};
 
-use crate::spot::{FieldPath, Spot};
+use crate::spot::Spot;
 use bit_slice::Name;
-use kind_terms::{Part, Shown, is_unnamed, show_item};
+use field_path::{FieldPath, Part};
+use kind_terms::{Shown, is_unnamed, show_item};
 use sqlite_items::Items;
 use std::alloc::Global;
 use tlb_memory::NoMemory;
@@ -47,7 +48,7 @@ fn part_of(alloc: Global, shown: &Shown<'_>) -> Result<Part, NoMemory>
     }
 }
 
-fn field_path(alloc: Global, path: &[Shown<'_>]) -> Result<FieldPath, NoMemory>
+fn path_of(alloc: Global, path: &[Shown<'_>]) -> Result<FieldPath, NoMemory>
     ensures { IfOk result (λ found. found.parts ≡ map part_by path.now) }
 {
     let mut parts = Items::new(alloc);
@@ -99,7 +100,7 @@ pub fn spot(
         type_name: constructor.result.copy(alloc)?,
         constructor: constructor_name(alloc, constructor.name.as_ref(), number)?,
         number,
-        item: field_path(alloc, path)?,
+        item: path_of(alloc, path)?,
     })
 }
 

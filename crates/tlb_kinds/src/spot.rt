@@ -1,13 +1,6 @@
 //! Places in a schema.
 use bit_slice::Name;
-use kind_terms::Part;
-use sqlite_items::Items;
-
-/// The path to an item of a constructor: fields of inner records follow the fields that they stand in.
-#[derive(Debug, Drop)]
-pub struct FieldPath {
-    pub parts: Items<Part>,
-}
+use field_path::FieldPath;
 
 /// An item of a constructor.
 #[derive(Debug, Drop)]

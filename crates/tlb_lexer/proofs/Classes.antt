@@ -9,7 +9,7 @@ use Rattle.tlb_lexer.specs.declared.bytes.Class.TheVariants.{White, Letter, Digi
 use Rattle.tlb_lexer.specs.Bytes.{is_white, is_letter, is_digit, is_name_byte, is_hex_digit, is_sign}
 use Rattle.tlb_lexer.specs.Spelling.{spells, is_underscore, is_symbol, are_bits, ends_hex}
 use Rattle.tlb_lexer.specs.Stretch.{class}
-use Rattle.tlb_lexer.proofs.Runs.{and_parts, or_parts, among}
+use Rattle.tlb_lexer.proofs.ListPrefix.{and_parts, or_parts, among}
 
 letter_not_white : (b : ℕ) → is_letter b ≡ true → is_white b ≡ false
 letter_not_white b e = grind arith
@@ -61,7 +61,7 @@ class_tells b =
 pub tells : (b : ℕ) (kind : Class) → class b ≡ kind → Tells kind b
 tells b kind e = let P : Class → Type 0 = λ k. Tells k b in subst P e (class_tells b)
 
--- the kind of a token by its first byte's class and the bytes behind it
+-- the kind of a token by its first byte's class and the bytes after it
 abbrev pub hexy : List ℕ → Bool
 hexy [] = false
 hexy (c ∷ cs) = is_hex_digit c || c == 95

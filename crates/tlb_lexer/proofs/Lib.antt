@@ -1,6 +1,6 @@
-pub mod Runs
 pub mod Classes
-pub mod Spelled
-pub mod Stands
-pub mod Once
-pub mod Whole
+pub mod ListPrefix
+pub mod LongestTokens
+pub mod OneTokenization
+pub mod StretchOf
+pub mod Tokenization

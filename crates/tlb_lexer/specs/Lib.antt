@@ -1,5 +1,5 @@
 pub mod Bytes
 pub mod Spelling
-pub mod Cut
+pub mod Tokenization
 pub mod Answer
 pub mod Stretch

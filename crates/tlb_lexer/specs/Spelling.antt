@@ -3,7 +3,8 @@ use Rattle.std.specs.Prelude.{ℕ, Bool, false, ◌==◌, ◌&&◌, ◌||◌, Li
 use Rattle.std.specs.List.{list_all}
 use Rattle.tlb_lexer.specs.declared.TokenKind.{TokenKind}
 use Rattle.tlb_lexer.specs.declared.TokenKind.TheVariants.{Name, Blank, Number, BinaryTag, HexTag, Symbol}
-use Rattle.tlb_lexer.specs.Bytes.{is_letter, is_digit, is_name_byte, is_bit, is_hex_digit, is_sign, is_sign_of_two, is_sign_of_three}
+use Rattle.tlb_lexer.specs.Bytes.{is_letter, is_digit, is_name_byte, is_bit, is_hex_digit, is_sign, is_sign_of_two}
+use Rattle.tlb_lexer.specs.Bytes.{is_sign_of_three}
 
 -- `_` alone
 abbrev pub is_underscore : List ℕ → Bool

@@ -31,7 +31,7 @@ pub enum Run {
     Line,
 }
 
-fn is_blank(byte: u8) -> bool
+fn is_white(byte: u8) -> bool
     ensures { result ≡ is_white byte }
 {
     byte == b' ' || byte == b'\t' || byte == b'\r' || byte == b'\n'
@@ -91,7 +91,7 @@ fn sign_class(byte: u8) -> Class
 pub fn class_of(byte: u8) -> Class
     ensures { result ≡ class byte }
 {
-    if is_blank(byte) {
+    if is_white(byte) {
         Class::White
     } else if is_alphabetic(byte) {
         Class::Letter
@@ -120,7 +120,7 @@ fn run_end(bytes: &[u8], run: Run) -> Option<usize>
     bytes.iter().position(|byte| !goes_on(run, *byte))
 }
 
-/// How many bytes in front are of the run.
+/// How many first bytes are of the run.
 pub fn run_len(bytes: &[u8], run: Run) -> usize
     ensures exact { result ≡ prefix_len (is_in_run run) bytes.now }
     ensures within { result ≤ length bytes.now }

@@ -1,22 +1,30 @@
 //! Laws of the cut: functions of no parameters, whose contracts speak of the definitions alone.
-ghost use Rattle.std.specs.Prelude.{◌≡◌, ◌⊎◌, ℕ, List};
-ghost use Rattle.tlb_lexer.specs.Cut.{Cut, CutRefused, PlacedFrom};
+ghost use Rattle.std.specs.Prelude.{◌≡◌, ◌∷◌, ◌⊎◌, ℕ, List};
+ghost use Rattle.tlb_lexer.specs.Tokenization.{Tokenizes, TokenRefusal, Longest, PlacedFrom};
+ghost use Rattle.tlb_lexer.specs.Stretch.{class};
 ghost use Rattle.tlb_lexer.specs.declared.Token.{Token};
+ghost use Rattle.tlb_lexer.specs.declared.TokenKind.TheVariants as kinds;
+ghost use Rattle.tlb_lexer.specs.declared.bytes.Class.TheVariants as classes;
 ghost use Rattle.tlb_lexer.specs.declared.LexError.{LexError};
 
 /// A text has at most one cut, at most one refusal, and not both.
 pub fn at_most_one()
-    ensures cut { (text : List ℕ) (a b : List Token) → Cut text a → Cut text b → a ≡ b }
-    ensures refusal { (text : List ℕ) (a b : LexError) → CutRefused text a → CutRefused text b → a ≡ b }
-    ensures not_both { (text : List ℕ) (ts : List Token) (e : LexError) → Cut text ts → CutRefused text e → ⊥ }
+    ensures tokenized { (text : List ℕ) (a b : List Token) → Tokenizes text a → Tokenizes text b → a ≡ b }
+    ensures refusal { (text : List ℕ) (a b : LexError) → TokenRefusal text a → TokenRefusal text b → a ≡ b }
+    ensures not_both { (text : List ℕ) (ts : List Token) (e : LexError) → Tokenizes text ts → TokenRefusal text e → ⊥ }
 {}
 
 /// A text has a cut or a refusal.
 pub fn at_least_one()
-    ensures { (text : List ℕ) → ((ts : List Token) × Cut text ts) ⊎ ((e : LexError) × CutRefused text e) }
+    ensures { (text : List ℕ) → ((ts : List Token) × Tokenizes text ts) ⊎ ((e : LexError) × TokenRefusal text e) }
 {}
 
 /// The tokens of a cut stand in order within the text, and their bytes spell their kinds.
 pub fn in_order()
-    ensures { (text : List ℕ) (ts : List Token) → Cut text ts → PlacedFrom text 0 ts }
+    ensures { (text : List ℕ) (ts : List Token) → Tokenizes text ts → PlacedFrom text 0 ts }
+{}
+
+/// A symbol that begins no longer one is a token, whatever follows.
+pub fn signs_stand_alone()
+    ensures { (b : ℕ) (bs : List ℕ) → class b ≡ classes.Sign → Longest kinds.Symbol 1 (b ∷ bs) }
 {}

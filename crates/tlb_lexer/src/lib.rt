@@ -5,7 +5,7 @@
 
 ghost use Rattle.std.specs.Prelude.{◌≡◌, ◌≤◌, ◌^◌, ℕ, List, Result, Ok, Err, length, IfOk, ⊤};
 ghost use Rattle.tlb_lexer.specs.Answer.{IfAnswered};
-ghost use Rattle.tlb_lexer.specs.Cut.{Cut, CutRefused, PlacedFrom};
+ghost use Rattle.tlb_lexer.specs.Tokenization.{Tokenizes, TokenRefusal, PlacedFrom};
 ghost use Rattle.tlb_lexer.specs.declared.Token.{Token};
 ghost use Rattle.tlb_lexer.specs.declared.LexError.{LexError};
 
@@ -29,7 +29,7 @@ pub enum TokenKind {
     Number,
     /// `$_`, or `$` and one or more of `0` and `1`.
     BinaryTag,
-    /// `#_`, or `#` and one or more hexadecimal digits of either case, with or without a `_` behind them.
+    /// `#_`, or `#` and one or more hexadecimal digits of either case, with or without a `_` after them.
     HexTag,
     /// `#` `##` `#<` `#<=` `:` `;` `=` `(` `)` `{` `}` `[` `]` `^` `~` `?` `.` `*` `+` `<` `<=` `>` `>=` `!`.
     Symbol,
@@ -93,14 +93,14 @@ impl From<NoMemory> for LexError {
 }
 
 // The tokens, or the first refusal, by one pass over the text.
-fn cut(alloc: Global, text: &[u8]) -> Result<Vec<Token>, LexError>
+fn tokenize(alloc: Global, text: &[u8]) -> Result<Vec<Token>, LexError>
     requires { length text.now ≤ 1048576 }
-    ensures { IfAnswered result (λ ts. Cut text.now ts.items) (λ e. CutRefused text.now e) }
+    ensures { IfAnswered result (λ ts. Tokenizes text.now ts.items) (λ e. TokenRefusal text.now e) }
 {
     let mut tokens = Vec::new(alloc);
     let mut place = 0;
     'stretches: while place < text.len() {
-        match scan::front(&text[place..]) {
+        match scan::first_stretch(&text[place..]) {
             Stretch::Gap(len) => place += len,
             Stretch::Spelled(kind, len) => {
                 let token = Token {
@@ -121,17 +121,17 @@ fn cut(alloc: Global, text: &[u8]) -> Result<Vec<Token>, LexError>
 
 /// Cuts a text of at most 1,048,576 bytes into its tokens. White space (space, tab, carriage return, line
 /// feed) and comments stand freely between: `//` to the end of its line, which a line feed alone or the
-/// text's end ends, and `/*` to the next `*/` behind it.
+/// text's end ends, and `/*` to the next `*/` after it.
 pub fn tokens(alloc: Global, text: &[u8]) -> Result<Vec<Token>, LexError>
     requires { length text.now ≤ 1048576 }
     // What is answered holds of the text.
-    ensures holds { IfAnswered result (λ ts. Cut text.now ts.items) (λ e. CutRefused text.now e) }
-    // The tokens of the text are answered, unless memory is wanted.
-    ensures cut { (ts : List Token) → Cut text.now ts → IfAnswered result (λ found. found.items ≡ ts) (λ _. ⊥) }
-    // The refusal of the text is answered, unless memory is wanted.
-    ensures refused { (e : LexError) → CutRefused text.now e → IfAnswered result (λ _. ⊥) (λ found. found ≡ e) }
+    ensures holds { IfAnswered result (λ ts. Tokenizes text.now ts.items) (λ e. TokenRefusal text.now e) }
+    // The tokens of the text are answered, unless memory runs out.
+    ensures tokenized { (ts : List Token) → Tokenizes text.now ts → IfAnswered result (λ found. found.items ≡ ts) (λ _. ⊥) }
+    // The refusal of the text is answered, unless memory runs out.
+    ensures refused { (e : LexError) → TokenRefusal text.now e → IfAnswered result (λ _. ⊥) (λ found. found ≡ e) }
     // The tokens stand in order within the text, and their bytes spell their kinds.
     ensures placed { IfAnswered result (λ ts. PlacedFrom text.now 0 ts.items) (λ _. ⊤) }
 {
-    cut(alloc, text)
+    tokenize(alloc, text)
 }

@@ -1,7 +1,7 @@
-//! What stands in front of a text.
+//! What stands before a text.
 ghost use Rattle.std.specs.Prelude.{◌≡◌, ◌<◌, ◌≤◌, length, MatchOption, IfSome, ℕ, List, drop, codes};
-ghost use Rattle.tlb_lexer.specs.Cut.{StandsAt, FirstAt};
-ghost use Rattle.tlb_lexer.specs.Stretch.{Stands, Advances, Begins, hash_symbol_len};
+ghost use Rattle.tlb_lexer.specs.Tokenization.{OccursAt, OccursFirstAt};
+ghost use Rattle.tlb_lexer.specs.Stretch.{IsFirstStretch, Advances, Begins, hash_symbol_len};
 ghost use Rattle.tlb_lexer.specs.declared.bytes.Class.TheVariants as classes;
 
 use crate::TokenKind;
@@ -9,7 +9,7 @@ use crate::bytes::{Class, Run, class_of, run_len};
 
 const LONGEST_NAME: usize = 127;
 
-/// What stands in front of a text, with its length in bytes where the text goes on behind it.
+/// What stands before a text, with its length in bytes where the text goes on after it.
 #[derive(Clone, Copy)]
 pub enum Stretch {
     Gap(usize),
@@ -82,7 +82,8 @@ fn hex_tag(after: &[u8]) -> Stretch
 
 // Where the first end of a block comment stands.
 fn comment_end(body: &[u8]) -> Option<usize>
-    ensures first { MatchOption result ((place : ℕ) → StandsAt (codes "*/") place body.now → ⊥) (λ place. FirstAt (codes "*/") place body.now) }
+    ensures first { MatchOption result ((place : ℕ) → OccursAt (codes "*/") place body.now
+        → ⊥) (λ place. OccursFirstAt (codes "*/") place body.now) }
     ensures within { IfSome result (λ place. place < length body.now) }
 {
     for place in 0..body.len() {
@@ -95,7 +96,7 @@ fn comment_end(body: &[u8]) -> Option<usize>
 
 fn block_comment(body: &[u8]) -> Stretch
     requires { length body.now < 1048576 }
-    ensures { (text : List ℕ) → StandsAt (codes "/*") 0 text → drop 2 text ≡ body.now → Stands text result }
+    ensures { (text : List ℕ) → OccursAt (codes "/*") 0 text → drop 2 text ≡ body.now → IsFirstStretch text result }
 {
     match comment_end(body) {
         Some(place) => Stretch::Gap(place + 4),
@@ -144,11 +145,11 @@ fn stretch_by(kind: Class, after: &[u8]) -> Stretch
     }
 }
 
-/// What stands in front of a text that has not ended.
-pub fn front(text: &[u8]) -> Stretch
+/// What stands before a text that has not ended.
+pub fn first_stretch(text: &[u8]) -> Stretch
     requires not_ended { 0 < length text.now }
     requires within { length text.now ≤ 1048576 }
-    ensures stands { Stands text.now result }
+    ensures stands { IsFirstStretch text.now result }
     ensures advances { Advances text.now result }
 {
     stretch_by(class_of(text[0]), &text[1..])

@@ -4,8 +4,8 @@ use Rattle.std.specs.Prelude.{Bool, Option, Some, None, max}
 use Rattle.tlb_syntax.specs.Lexeme.{Lexeme}
 use Rattle.tlb_syntax.specs.Tree.{ExprView, ExprList, ItemView, ItemList, TypeView, TagView, ConstructorView, SchemaView, lit, named, nat32, bits, below, up_to, plus, star, out, ref, group, no_exprs, an_expr}
 use Rattle.tlb_syntax.specs.Grammar.{Count, Spends, freely, one_less, Heads, by_name, by_blank, Tagged, tagged, untagged, Term, Terms, Apply, Product, Sum, Addends, Typed, AnItem, Items, Params, Declared, Declaration, Declarations, TypeWord, a_number, a_name, a_hash, an_output, a_reference, a_paren, a_record, no_terms, a_term, of_name, of_bits, of_below, of_up_to, of_term, one_factor, two_factors, a_sum, no_addend, an_addend, always, on_number, on_bit, of_numbers, of_types, a_check, a_field, a_bare_field, no_item, one_item, no_param, a_param, a_declaration, of_ordinary, of_exotic, no_declaration, one_more}
-use Rattle.tlb_syntax.specs.Written.{standard, HasFew}
-use Rattle.tlb_syntax.specs.Limits.{Place, in_term, in_application, in_product, in_sum, levels, levels_of, type_levels, item_levels, levels_in, IsWordOrNone, IsTag, IsExpr, AreExprs, IsType, IsItem, AreItems, expr_count, item_count, IsConstructor, AreConstructors, IsWithinLimits, IsWordWithinLimits, IsOfText, AreOfText}
+use Rattle.tlb_syntax.specs.Written.{standard, WithinCounts}
+use Rattle.tlb_syntax.specs.Limits.{Precedence, in_term, in_application, in_product, in_sum, levels, levels_of, type_levels, item_levels, levels_in, IsWordOrNone, IsTag, IsExpr, AreExprs, IsType, IsItem, AreItems, expr_count, item_count, IsConstructor, AreConstructors, IsWithinLimits, IsWordWithinLimits, IsOfText, AreOfText}
 
 -- at most so many, where there is a bound
 abbrev pub AtMost : Count → ℕ → Type 0
@@ -92,7 +92,7 @@ as-sum (group is) = omega arith
 
 -- ---- what a production leaves and writes
 
-record Writes (place : Place) (d : Count) (e : ExprView) (r : List Lexeme) : Type 0 where
+record Writes (place : Precedence) (d : Count) (e : ExprView) (r : List Lexeme) : Type 0 where
   rest : AreOfText r
   shallow : AtMost d (levels place e)
   formed : IsExpr e
@@ -122,7 +122,7 @@ heads : {l : Lexeme} {x : Option (List ℕ)} → Heads l x → IsOfText l → Is
 heads by_name h = h
 heads by_blank h = tt
 
-moved : (p q : Place) (d : Count) (e : ExprView) (r : List Lexeme) → levels q e ≤ levels p e → Writes p d e r → Writes q d e r
+moved : (p q : Precedence) (d : Count) (e : ExprView) (r : List Lexeme) → levels q e ≤ levels p e → Writes p d e r → Writes q d e r
 moved p q d e r h w = record { rest = w.rest; shallow = less d (levels q e) (levels p e) h w.shallow; formed = w.formed }
 
 alone : (e : ExprView) → levels_of (an_expr e no_exprs) ≤ levels in_term e
@@ -271,8 +271,8 @@ declarations (one_more d ds) h =
     let w = declaration d h in
     (w.formed, declarations ds w.rest)
 
-pub within_limits : (ls : List Lexeme) (s : SchemaView) → Declarations standard ls s → AreOfText ls → HasFew s → IsWithinLimits s
-within_limits ls s d h few = record { few = few; constructors = declarations d h }
+pub within_limits : (ls : List Lexeme) (s : SchemaView) → Declarations standard ls s → AreOfText ls → WithinCounts s → IsWithinLimits s
+within_limits ls s d h few = record { counts = few; constructors = declarations d h }
 
 pub word_within : (ls : List Lexeme) (e : ExprView) → TypeWord standard ls e → AreOfText ls → IsWordWithinLimits e
 word_within ls e d h = let w = sum d h in record { expression = w.formed; levels = w.shallow }

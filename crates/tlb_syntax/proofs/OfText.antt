@@ -11,9 +11,9 @@ use Rattle.tlb_lexer.specs.declared.TokenKind.TheVariants as kinds
 use Rattle.tlb_lexer.specs.declared.Token.{Token}
 use Rattle.tlb_lexer.specs.Bytes.{is_bit, is_hex_digit}
 use Rattle.tlb_lexer.specs.Spelling.{spells, is_underscore, are_bits, ends_hex}
-use Rattle.tlb_lexer.specs.Cut.{longest_name, CutFrom, ended, gap, token, Cut}
+use Rattle.tlb_lexer.specs.Tokenization.{longest_name, TokenizesFrom, ended, gap, token, Tokenizes}
 use Rattle.tlb_syntax.specs.declared.sign.Sign.{Sign}
-use Rattle.tlb_syntax.specs.Lexeme.{Lexeme, number, tag, sign, decimal_onto, at_most_1023, and_at_most_1023, hex_bits, or_behind, without_completion, hex_digits, is_completed, sign_text, sign_among, signs, meaning, lexemes}
+use Rattle.tlb_syntax.specs.Lexeme.{Lexeme, number, tag, sign, decimal_onto, at_most_1023, and_at_most_1023, hex_bits, before_completion, without_completion, hex_digits, is_completed, sign_text, sign_among, signs, meaning, lexemes}
 use Rattle.tlb_syntax.specs.Limits.{IsOfText, AreOfText}
 use Rattle.tlb_syntax.proofs.TagBits.{hex_value-small}
 
@@ -34,7 +34,7 @@ a-symbol (s ∷ ss) text = chosen (bytes_eq (sign_text s) text) s (sign_among ss
 -- ---- tags
 
 few-bits : (bits : List ℕ) (b : Bool) → nat_le (length bits) 1023 ≡ b → AreBits bits → IsOfText (tag (if b then Some bits else None))
-few-bits bits true h are = record { are_bits = are; few = grind (arith, nat_tests, h) }
+few-bits bits true h are = record { are_bits = are; short = grind (arith, nat_tests, h) }
 few-bits bits false h are = tt
 
 abbrev AreSome : Option (List ℕ) → Type 0
@@ -45,7 +45,7 @@ few-some : (found : Option (List ℕ)) → AreSome found → IsOfText (tag (and_
 few-some None h = tt
 few-some (Some bits) h = few-bits bits (nat_le (length bits) 1023) refl h
 
-behind : (b : ℕ) (found : Option (List ℕ)) → b < 2 → AreSome found → AreSome (or_behind b found)
+behind : (b : ℕ) (found : Option (List ℕ)) → b < 2 → AreSome found → AreSome (before_completion b found)
 behind zero None h rest = tt
 behind (suc zero) None h rest = tt
 behind (suc (suc b)) None h rest = absurd (omega arith)
@@ -65,7 +65,7 @@ hex-bits (d ∷ ds) h =
     let small = hex_value-small d (grind (arith, h)) in
     AreBits-append (hex_bits d) (flat_map hex_bits ds) (omega (arith, small), (omega arith, (omega arith, (omega arith, tt)))) (hex-bits ds (grind (arith, h)))
 
--- ---- what stands behind the marks of tags
+-- ---- what stands after the marks of tags
 
 digits-before : (ds : List ℕ) → ends_hex ds ≡ true → list_all is_hex_digit (hex_digits ds) ≡ true
 digits-before [] h = refl
@@ -87,7 +87,7 @@ digits-only (d ∷ e ∷ ds) h c =
 
 a-hex_tag : (ds : List ℕ) (alone completed : Bool) → is_completed ds ≡ completed → ends_hex ds ≡ true
     → IsOfText (tag (if alone then Some [] else if completed then and_at_most_1023 (without_completion (flat_map hex_bits (hex_digits ds))) else at_most_1023 (flat_map hex_bits ds)))
-a-hex_tag ds true completed c h = record { are_bits = tt; few = omega arith }
+a-hex_tag ds true completed c h = record { are_bits = tt; short = omega arith }
 a-hex_tag ds false true c h =
     few-some (without_completion (flat_map hex_bits (hex_digits ds))) (uncompleted (flat_map hex_bits (hex_digits ds)) (hex-bits (hex_digits ds) (digits-before ds h)))
 a-hex_tag ds false false c h = few-bits (flat_map hex_bits ds) (nat_le (length (flat_map hex_bits ds)) 1023) refl (hex-bits ds (digits-only ds h c))
@@ -98,7 +98,7 @@ all-bits (d ∷ ds) h = h
 
 a-binary_tag : (ds : List ℕ) (alone : Bool) → is_underscore ds ≡ alone → (alone || are_bits ds) ≡ true
     → IsOfText (tag (if alone then Some [] else at_most_1023 (map (λ d. d - 48) ds)))
-a-binary_tag ds true e h = record { are_bits = tt; few = omega arith }
+a-binary_tag ds true e h = record { are_bits = tt; short = omega arith }
 a-binary_tag ds false e h = few-bits (map (λ d. d - 48) ds) (nat_le (length (map (λ d. d - 48) ds)) 1023) refl (digit-bits ds (all-bits ds h))
 
 -- ---- tokens
@@ -113,17 +113,17 @@ meant kinds.HexTag [] h short = absurd (cc)
 meant kinds.HexTag (b ∷ bs) h short = a-hex_tag bs (is_underscore bs) (is_completed bs) refl (grind (arith, h))
 meant kinds.Symbol text h short = a-symbol signs text
 
-cut-of_text : (text : List ℕ) (place : ℕ) (rest : List ℕ) (ts : List Token) → rest ≡ drop place text → CutFrom place rest ts → AreOfText (lexemes text ts)
-cut-of_text text place _ _ e ended = tt
-cut-of_text text place rest ts e (gap {n = n} g c) = cut-of_text text (place + n) (drop n rest) ts (ap (drop n) e ∙ drop-drop n place text) c
-cut-of_text text place rest _ e (token {n = n} {kind = kind} {tokens = ts} l s c) =
+tokens-of_text : (text : List ℕ) (place : ℕ) (rest : List ℕ) (ts : List Token) → rest ≡ drop place text → TokenizesFrom place rest ts → AreOfText (lexemes text ts)
+tokens-of_text text place _ _ e ended = tt
+tokens-of_text text place rest ts e (gap {n = n} g c) = tokens-of_text text (place + n) (drop n rest) ts (ap (drop n) e ∙ drop-drop n place text) c
+tokens-of_text text place rest _ e (token {n = n} {kind = kind} {tokens = ts} l s c) =
     let size : place + n - place ≡ n = omega arith in
     let bytes : take (place + n - place) (drop place text) ≡ take n rest = rw (size, ← e) refl in
     let count : length (take n rest) ≡ n = length-take-le n rest l.within in
     let P : List ℕ → Type 0 = λ x. IsOfText (meaning kind x) in (
       subst P (sym bytes) (meant kind (take n rest) l.spelled (λ k. omega (arith, count, s k))),
-      cut-of_text text (place + n) (drop n rest) ts (ap (drop n) e ∙ drop-drop n place text) c,
+      tokens-of_text text (place + n) (drop n rest) ts (ap (drop n) e ∙ drop-drop n place text) c,
     )
 
-pub of_text : (text : List ℕ) (ts : List Token) → Cut text ts → AreOfText (lexemes text ts)
-of_text text ts c = cut-of_text text 0 text ts refl c
+pub of_text : (text : List ℕ) (ts : List Token) → Tokenizes text ts → AreOfText (lexemes text ts)
+of_text text ts c = tokens-of_text text 0 text ts refl c

@@ -12,7 +12,7 @@ use Rattle.bit_slice.specs.Bits.{spelled}
 use Rattle.bit_slice.specs.HexLists.{take-spelled}
 use Rattle.tlb_lexer.specs.Bytes.{is_hex_digit, is_bit}
 use Rattle.tlb_lexer.specs.Spelling.{is_underscore, are_bits, ends_hex}
-use Rattle.tlb_syntax.specs.Lexeme.{hex_value, hex_bits, or_behind, without_completion, hex_digits, is_completed, hexadecimal_bits, at_most_1023, and_at_most_1023}
+use Rattle.tlb_syntax.specs.Lexeme.{hex_value, hex_bits, before_completion, without_completion, hex_digits, is_completed, hexadecimal_bits, at_most_1023, and_at_most_1023}
 use Rattle.tlb_syntax.specs.Tags.{HasBits, IsCompleted, IsLastNonzero, IsUncompleted}
 
 -- ---- one digit
@@ -88,18 +88,18 @@ few-enough bits h = grind (arith, nat_tests, h)
 
 -- ---- completions
 
--- bits behind others that end in a 1
+-- bits after others that end in a 1
 completed-behind : (xs ys r : List ℕ) → without_completion ys ≡ Some r → without_completion (xs ++ ys) ≡ Some (xs ++ r)
 completed-behind [] ys r h = h
-completed-behind (x ∷ xs) ys r h = ap (or_behind x) (completed-behind xs ys r h)
+completed-behind (x ∷ xs) ys r h = ap (before_completion x) (completed-behind xs ys r h)
 
 -- the four bits of a number below 16
 abbrev four_bits : ℕ → List ℕ
 four_bits v = v / 8 ∷ (v / 4) % 2 ∷ (v / 2) % 2 ∷ v % 2 ∷ []
 
 behind-zeros : (v : ℕ) (zs : List ℕ) → without_completion zs ≡ None
-    → without_completion (four_bits v ++ zs) ≡ or_behind (v / 8) (or_behind ((v / 4) % 2) (or_behind ((v / 2) % 2) (or_behind (v % 2) None)))
-behind-zeros v zs n = ap (λ o. or_behind (v / 8) (or_behind ((v / 4) % 2) (or_behind ((v / 2) % 2) (or_behind (v % 2) o)))) n
+    → without_completion (four_bits v ++ zs) ≡ before_completion (v / 8) (before_completion ((v / 4) % 2) (before_completion ((v / 2) % 2) (before_completion (v % 2) None)))
+behind-zeros v zs n = ap (λ o. before_completion (v / 8) (before_completion ((v / 4) % 2) (before_completion ((v / 2) % 2) (before_completion (v % 2) o)))) n
 
 -- a digit other than 0, before bits that are all 0
 digit-completed : (v : ℕ) (zs : List ℕ) → v < 16 → 0 < v → without_completion zs ≡ None
@@ -136,12 +136,12 @@ trailing-few ds i l all =
     let digit = AllPass-from_list_all is_hex_digit ds all i 0 l.within in
     (digit-completed (hex_value (get_or ds i 0)) [] (hex_value-small (get_or ds i 0) digit) (hex_value-nonzero (get_or ds i 0) digit l.nonzero) refl).1
 
-cut-at : (ds : List ℕ) (i : ℕ) → i < length ds → ds ≡ take i ds ++ (get_or ds i 0 ∷ drop (i + 1) ds)
-cut-at ds i h = sym (take-append-drop i ds) ∙ at_drop_more (λ x. take i ds ++ x) ds i 0 h
+split-at : (ds : List ℕ) (i : ℕ) → i < length ds → ds ≡ take i ds ++ (get_or ds i 0 ∷ drop (i + 1) ds)
+split-at ds i h = sym (take-append-drop i ds) ∙ at_drop_more (λ x. take i ds ++ x) ds i 0 h
 
-hex_bits-cut : (ds : List ℕ) (i : ℕ) → i < length ds
+hex_bits-split : (ds : List ℕ) (i : ℕ) → i < length ds
     → flat_map hex_bits ds ≡ flat_map hex_bits (take i ds) ++ (hex_bits (get_or ds i 0) ++ flat_map hex_bits (drop (i + 1) ds))
-hex_bits-cut ds i h = ap (flat_map hex_bits) (cut-at ds i h) ∙ flat_map-append hex_bits (take i ds) (get_or ds i 0 ∷ drop (i + 1) ds)
+hex_bits-split ds i h = ap (flat_map hex_bits) (split-at ds i h) ∙ flat_map-append hex_bits (take i ds) (get_or ds i 0 ∷ drop (i + 1) ds)
 
 -- the first bits are those of whole digits and of a part of the next one
 pub take-hex_bits : (ds : List ℕ) (i m : ℕ) → i < length ds → m ≤ 4
@@ -150,7 +150,7 @@ take-hex_bits ds i m h few =
     let front = flat_map hex_bits (take i ds) in
     let later = hex_bits (get_or ds i 0) ++ flat_map hex_bits (drop (i + 1) ds) in
     let size : length front ≡ 4 * i = length-hex_bits (take i ds) ∙ ap (λ n. 4 * n) (length-take-le i ds (omega arith)) in
-    ap (take (4 * i + m)) (hex_bits-cut ds i h) ∙ ap (λ n. take (n + m) (front ++ later)) (sym size)
+    ap (take (4 * i + m)) (hex_bits-split ds i h) ∙ ap (λ n. take (n + m) (front ++ later)) (sym size)
     ∙ take-append-add front later m ∙ ap (λ x. front ++ x) (take-append-le m (hex_bits (get_or ds i 0)) (flat_map hex_bits (drop (i + 1) ds)) few)
 
 pub completion : (ds : List ℕ) (i : ℕ) → IsLastNonzero ds i → list_all is_hex_digit ds ≡ true
@@ -162,7 +162,7 @@ completion ds i l all =
     let one = digit-completed (hex_value d) (flat_map hex_bits (drop (i + 1) ds)) (hex_value-small d digit) (hex_value-nonzero d digit l.nonzero) zeros in
     let part : 4 * i + (3 - count_trailing_zeros 8 (hex_value d)) ≡ 4 * i + 3 - count_trailing_zeros 8 (hex_value d) = omega (arith, one.1) in
     let some : List ℕ → Option (List ℕ) = λ x. Some x in
-    ap without_completion (hex_bits-cut ds i l.within)
+    ap without_completion (hex_bits-split ds i l.within)
     ∙ completed-behind (flat_map hex_bits (take i ds)) (hex_bits d ++ flat_map hex_bits (drop (i + 1) ds)) (take (3 - count_trailing_zeros 8 (hex_value d)) (hex_bits d)) one.0
     ∙ ap some (sym (take-hex_bits ds i (3 - count_trailing_zeros 8 (hex_value d)) l.within (omega arith)) ∙ ap (λ n. take n (flat_map hex_bits ds)) part)
 
@@ -175,7 +175,7 @@ long-completion ds i l all long =
     let size : length (take n (flat_map hex_bits ds)) ≡ n = length-take-le n (flat_map hex_bits ds) (omega (arith, length-hex_bits ds, l.within)) in
     ap and_at_most_1023 (completion ds i l all) ∙ too-many (take n (flat_map hex_bits ds)) (omega (arith, few, size, long))
 
--- ---- an underscore behind digits
+-- ---- an underscore after digits
 
 underscore-behind : (front : List ℕ) → (is_completed (front ++ codes "_") ≡ true) × (hex_digits (front ++ codes "_") ≡ front)
 underscore-behind [] = (refl, refl)
@@ -229,7 +229,7 @@ pub HasBits-whole : (ds : List ℕ) → ends_hex ds ≡ true → ((front : List 
 HasBits-whole ds h n short =
     let some : List ℕ → Option (List ℕ) = λ x. Some x in
     record {
-      few = omega arith;
+      short = omega arith;
       within = omega arith;
       are_digits = list_all-take is_hex_digit ((4 * length ds + 3) / 4) ds (digits-all ds h n);
       bits = whole-bits ds n ∙ few-enough (flat_map hex_bits ds) (omega (arith, short, length-hex_bits ds))
@@ -239,7 +239,7 @@ HasBits-whole ds h n short =
 pub HasBits-none : (digits front : List ℕ) → digits ≡ front ++ codes "_" → front ≡ [] → HasBits digits 0
 HasBits-none digits front is none =
     let alone : digits ≡ codes "_" = is ∙ ap (λ x. x ++ codes "_") none in
-    record { few = omega arith; within = omega arith; are_digits = refl; bits = ap hexadecimal_bits alone }
+    record { short = omega arith; within = omega arith; are_digits = refl; bits = ap hexadecimal_bits alone }
 
 completed-bits : (digits front : List ℕ) → digits ≡ front ++ codes "_" → front ≢ []
     → hexadecimal_bits digits ≡ and_at_most_1023 (without_completion (flat_map hex_bits front))
@@ -258,7 +258,7 @@ no-bits digits front is n none = completed-bits digits front is n ∙ none
 pub HasBits-completed : (digits front : List ℕ) (n : ℕ) → digits ≡ front ++ codes "_" → front ≢ [] → ends_hex digits ≡ true
     → IsCompleted front n → HasBits digits n
 HasBits-completed digits front n is some_front h done =
-    let few = done.few in
+    let few = done.short in
     let within = done.within in
     let size : length digits ≡ length front + 1 = ap length is ∙ length-append front (codes "_") in
     let some : List ℕ → Option (List ℕ) = λ x. Some x in
@@ -266,7 +266,7 @@ HasBits-completed digits front n is some_front h done =
     ap (λ x. take n (flat_map hex_bits x)) is ∙ ap (take n) (flat_map-append hex_bits front (codes "_"))
     ∙ take-append-le n (flat_map hex_bits front) (flat_map hex_bits (codes "_")) (omega (arith, within, length-hex_bits front)) in
     record {
-      few = few;
+      short = few;
       within = omega (arith, size, within);
       are_digits = ap (λ x. list_all is_hex_digit (take ((n + 3) / 4) x)) is
           ∙ ap (list_all is_hex_digit) (take-append-le ((n + 3) / 4) front (codes "_") (omega (arith, within)))

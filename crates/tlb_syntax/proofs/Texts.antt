@@ -13,7 +13,7 @@ use Rattle.tlb_syntax.specs.Text.{expr_text, addend_text, addends_text, spaced}
 pub along : {a b c : List ℕ} → a ≡ b → b ≡ c → a ≡ c
 along p q = p ∙ q
 
--- a part in front, and one that is written if it is
+-- a part in prefix, and one that is written if it is
 pub joined : {E : Type 0} (r : Result (Unit {0}) E) (old mid new front back rest : List ℕ) → mid ≡ old ++ front → back ≡ rest
     → OnOk r (new ≡ mid ++ back) → OnOk r (new ≡ old ++ (front ++ rest))
 joined (Ok u) old mid new front back rest f b h = h ∙ ap (λ x. x ++ back) f ∙ ap (λ x. old ++ front ++ x) b ∙ append_assoc old front rest
@@ -64,7 +64,7 @@ regrouped old opened t addend later = simp append_assoc refl
 plus-text : (t u : ExprView) → codes "(" ++ expr_text t ++ addend_text u ≡ expr_text (plus t u)
 plus-text t u = simp append_assoc refl
 
--- the first term behind the parentheses, and then each further one
+-- the first term after the parentheses, and then each further one
 pub sum-written : {E : Type 0} (r : Result (Unit {0}) E) (old opened paren first second whole : List ℕ) (t u : Expr) (ts : List Expr)
     → opened ≡ old ++ replicate (length ts) 40 → paren ≡ opened ++ codes "(" → first ≡ paren ++ expr_text (expr t)
     → second ≡ first ++ addend_text (expr u) → OnOk r (whole ≡ second ++ addends_text (map expr ts))

@@ -1,17 +1,22 @@
 -- The tokens of a schema with what they stand for.
 -- Source: the TON documentation on the TL-B language (names, numbers, tags, symbols).
-use Rattle.std.specs.Prelude.{ℕ, ◌+◌, ◌-◌, ◌*◌, ◌/◌, ◌%◌, ◌^◌, ◌==◌, Bool, true, false, List, [], ◌∷◌, map, drop, length, Option, Some, None, if◌then◌else◌, nat_lt, nat_le, bytes_eq, codes}
+use Rattle.std.specs.Prelude.{ℕ, ◌+◌, ◌-◌, ◌*◌, ◌/◌, ◌%◌, ◌^◌, ◌==◌, Bool, true, false, List, [], ◌∷◌, map, drop}
+use Rattle.std.specs.Prelude.{length, Option, Some, None, if◌then◌else◌, nat_lt, nat_le, bytes_eq, codes}
 use Rattle.std.specs.List.{flat_map}
 use Rattle.tlb_lexer.specs.declared.Token.{Token}
 use Rattle.tlb_lexer.specs.declared.TokenKind.{TokenKind}
 use Rattle.tlb_lexer.specs.declared.TokenKind.TheVariants as kinds
 use Rattle.tlb_lexer.specs.Bytes.{is_digit}
 use Rattle.tlb_lexer.specs.Spelling.{is_underscore}
-use Rattle.tlb_lexer.specs.Cut.{token_bytes}
+use Rattle.tlb_lexer.specs.Tokenization.{token_bytes}
 use Rattle.tlb_syntax.specs.declared.lexeme.Lexeme.{Lexeme as Entry}
 use Rattle.tlb_syntax.specs.declared.lexeme.Lexeme.TheVariants as entries
 use Rattle.tlb_syntax.specs.declared.sign.Sign.{Sign}
-use Rattle.tlb_syntax.specs.declared.sign.Sign.TheVariants.{Hash, HashHash, HashLess, HashLessEqual, Colon, Semicolon, Equal, OpenParen, CloseParen, OpenBrace, CloseBrace, OpenBracket, CloseBracket, Caret, Tilde, Question, Dot, Asterisk, Plus, Less, LessEqual, Greater, GreaterEqual, Bang}
+use Rattle.tlb_syntax.specs.declared.sign.Sign.TheVariants.{Hash, HashHash, HashLess, HashLessEqual, Colon, Semicolon}
+use Rattle.tlb_syntax.specs.declared.sign.Sign.TheVariants.{Equal, OpenParen, CloseParen, OpenBrace, CloseBrace}
+use Rattle.tlb_syntax.specs.declared.sign.Sign.TheVariants.{OpenBracket, CloseBracket, Caret, Tilde, Question, Dot}
+use Rattle.tlb_syntax.specs.declared.sign.Sign.TheVariants.{Asterisk, Plus, Less, LessEqual, Greater, GreaterEqual}
+use Rattle.tlb_syntax.specs.declared.sign.Sign.TheVariants.{Bang}
 
 -- A name by its bytes, `_`, a number, the bits of a tag, a symbol. A number above 2^32 - 1 and a tag that stands for
 -- no bits, or for more than 1023, have none.
@@ -44,7 +49,7 @@ abbrev pub and_at_most_1023 : Option (List ℕ) → Option (List ℕ)
 and_at_most_1023 None = None
 and_at_most_1023 (Some bits) = at_most_1023 bits
 
--- the bits of what stands behind a `$`: a bit for each digit, or `_`
+-- the bits of what stands after a `$`: a bit for each digit, or `_`
 abbrev pub binary_bits : List ℕ → Option (List ℕ)
 binary_bits digits = if is_underscore digits then Some [] else at_most_1023 (map (λ d. d - 48) digits)
 
@@ -56,16 +61,16 @@ hex_value d = if is_digit d then d - 48 else if nat_le 97 d then d - 87 else d -
 abbrev pub hex_bits : ℕ → List ℕ
 hex_bits d = hex_value d / 8 ∷ (hex_value d / 4) % 2 ∷ (hex_value d / 2) % 2 ∷ hex_value d % 2 ∷ []
 
-abbrev pub or_behind : ℕ → Option (List ℕ) → Option (List ℕ)
-or_behind b (Some bits) = Some (b ∷ bits)
-or_behind b None = if b == 1 then Some [] else None
+abbrev pub before_completion : ℕ → Option (List ℕ) → Option (List ℕ)
+before_completion b (Some bits) = Some (b ∷ bits)
+before_completion b None = if b == 1 then Some [] else None
 
 -- bits without the last 1 and the zeros after it; none where no bit is 1
 abbrev pub without_completion : List ℕ → Option (List ℕ)
 without_completion [] = None
-without_completion (b ∷ bits) = or_behind b (without_completion bits)
+without_completion (b ∷ bits) = before_completion b (without_completion bits)
 
--- hexadecimal digits, and whether a `_` stands behind them
+-- hexadecimal digits, and whether a `_` stands after them
 abbrev pub hex_digits : List ℕ → List ℕ
 hex_digits [] = []
 hex_digits (d ∷ ds) = if is_underscore (d ∷ ds) then [] else d ∷ hex_digits ds
@@ -74,7 +79,8 @@ abbrev pub is_completed : List ℕ → Bool
 is_completed [] = false
 is_completed (d ∷ ds) = if is_underscore (d ∷ ds) then true else is_completed ds
 
--- the bits of what stands behind a `#`: four for each digit, less the completion where a `_` follows; `_` alone is no bits
+-- the bits of what stands after a `#`: four for each digit, less the completion where a `_` follows; `_` alone is no
+-- bits
 abbrev pub hexadecimal_bits : List ℕ → Option (List ℕ)
 hexadecimal_bits digits =
     if is_underscore digits then Some []
@@ -85,8 +91,9 @@ hexadecimal_bits digits =
 
 abbrev pub signs : List Sign
 signs =
-    Hash ∷ HashHash ∷ HashLess ∷ HashLessEqual ∷ Colon ∷ Semicolon ∷ Equal ∷ OpenParen ∷ CloseParen ∷ OpenBrace ∷ CloseBrace ∷ OpenBracket ∷
-    CloseBracket ∷ Caret ∷ Tilde ∷ Question ∷ Dot ∷ Asterisk ∷ Plus ∷ Less ∷ LessEqual ∷ Greater ∷ GreaterEqual ∷ Bang ∷ []
+    Hash ∷ HashHash ∷ HashLess ∷ HashLessEqual ∷ Colon ∷ Semicolon ∷ Equal ∷ OpenParen ∷ CloseParen ∷ OpenBrace ∷
+    CloseBrace ∷ OpenBracket ∷ CloseBracket ∷ Caret ∷ Tilde ∷ Question ∷ Dot ∷ Asterisk ∷ Plus ∷ Less ∷ LessEqual ∷
+    Greater ∷ GreaterEqual ∷ Bang ∷ []
 
 abbrev pub sign_text : Sign → List ℕ
 sign_text Hash = codes "#"

@@ -1,37 +1,41 @@
 -- The limits of a schema's size, as they hold of its tree.
-use Rattle.std.specs.Prelude.{ℕ, ◌≡◌, ◌≤◌, ◌<◌, ◌+◌, ◌^◌, true, max, List, [], ◌∷◌, length, Option, Some, None, nat_le, if◌then◌else◌}
+use Rattle.std.specs.Prelude.{ℕ, ◌≡◌, ◌≤◌, ◌<◌, ◌+◌, ◌^◌, true, max, List, [], ◌∷◌, length, Option, Some, None, nat_le}
+use Rattle.std.specs.Prelude.{if◌then◌else◌}
 use Rattle.bit_slice.specs.Bits.{AreBits}
 use Rattle.tlb_lexer.specs.Spelling.{is_name}
-use Rattle.tlb_lexer.specs.Cut.{longest_name}
+use Rattle.tlb_lexer.specs.Tokenization.{longest_name}
 use Rattle.tlb_syntax.specs.Lexeme.{Lexeme, word, blank, number, tag, sign, other}
-use Rattle.tlb_syntax.specs.Tree.{ExprView, ExprList, ItemView, ItemList, TypeView, TagView, ConstructorView, SchemaView, lit, named, nat32, bits, below, up_to, plus, star, out, ref, group, no_exprs, an_expr, plain, when, when_bit, implicit, check, explicit, no_items, an_item, computed, given}
+use Rattle.tlb_syntax.specs.Tree.{ExprView, ExprList, ItemView, ItemList, TypeView, TagView, ConstructorView}
+use Rattle.tlb_syntax.specs.Tree.{SchemaView, lit, named, nat32, bits, below, up_to, plus, star, out, ref, group}
+use Rattle.tlb_syntax.specs.Tree.{no_exprs, an_expr, plain, when, when_bit, implicit, check, explicit, no_items}
+use Rattle.tlb_syntax.specs.Tree.{an_item, computed, given}
 use Rattle.tlb_syntax.specs.Text.{are_none}
-use Rattle.tlb_syntax.specs.Written.{HasFew}
+use Rattle.tlb_syntax.specs.Written.{WithinCounts}
 
 -- ---- levels
 
 -- the places in which an expression may stand without parentheses, where it is such a form or a form of an earlier line
-pub data Place : Type 0 where
-  -- anything alone, or behind `~` or `^`
-  in_term : Place
+pub data Precedence : Type 0 where
+  -- anything alone, or after `~` or `^`
+  in_term : Precedence
   -- a name with arguments; `##`, `#<` and `#<=`
-  in_application : Place
-  in_product : Place
-  in_sum : Place
+  in_application : Precedence
+  in_product : Precedence
+  in_sum : Precedence
 
-abbrev pub place_rank : Place → ℕ
-place_rank in_term = 0
-place_rank in_application = 1
-place_rank in_product = 2
-place_rank in_sum = 3
+abbrev pub precedence_rank : Precedence → ℕ
+precedence_rank in_term = 0
+precedence_rank in_application = 1
+precedence_rank in_product = 2
+precedence_rank in_sum = 3
 
 -- the levels of a form that opens so many itself, with its parentheses where the place takes no such form
-abbrev pub enclosed : Place → Place → ℕ → ℕ
-enclosed place form levels = if nat_le (place_rank form) (place_rank place) then levels else levels + 1
+abbrev pub enclosed : Precedence → Precedence → ℕ → ℕ
+enclosed place form levels = if nat_le (precedence_rank form) (precedence_rank place) then levels else levels + 1
 
 -- the least number of levels that a text of it opens at a place: each `(`, `[`, `^` and `~` opens one
 abbrev mutual
-  pub levels : Place → ExprView → ℕ
+  pub levels : Precedence → ExprView → ℕ
   levels place (lit n) = 0
   levels place (named x es) = if are_none es then 0 else enclosed place in_application (levels_of es)
   levels place nat32 = 0
@@ -75,7 +79,7 @@ IsWordOrNone (Some x) = IsWord x
 
 pub record AreTagBits (b : List ℕ) : Type 0 where
   pub are_bits : AreBits b
-  pub few : length b ≤ 1023
+  pub short : length b ≤ 1023
 
 abbrev pub IsTag : TagView → Type 0
 IsTag computed = Unit {0}
@@ -141,7 +145,7 @@ AreConstructors [] = Unit {0}
 AreConstructors (c ∷ cs) = IsConstructor c × AreConstructors cs
 
 pub record IsWithinLimits (s : SchemaView) : Type 0 where
-  pub few : HasFew s
+  pub counts : WithinCounts s
   pub constructors : AreConstructors s
 
 -- the expression of a type word, which opens at most 64 levels

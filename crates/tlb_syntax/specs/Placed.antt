@@ -14,7 +14,8 @@ abbrev pub AreWithin : List ℕ → List Token → Type 0
 AreWithin text [] = Unit {0}
 AreWithin text (t ∷ ts) = IsWithin text t × AreWithin text ts
 
--- names are names, and the digits of tags are `_`, binary digits, or hexadecimal digits with or without a `_` behind them
+-- names are names, and the digits of tags are `_`, binary digits, or hexadecimal digits with or without a `_` after
+-- them
 abbrev pub IsSpelled : Entry → Type 0
 IsSpelled (entries.Name text) = IsName text.now
 IsSpelled entries.Blank = Unit {0}

@@ -1,8 +1,10 @@
 -- The bits of tags.
-use Rattle.std.specs.Prelude.{ℕ, ◌≡◌, ◌≢◌, ◌<◌, ◌≤◌, ◌+◌, ◌*◌, ◌/◌, true, List, length, take, slice_index, Option, Some, None}
+use Rattle.std.specs.Prelude.{ℕ, ◌≡◌, ◌≢◌, ◌<◌, ◌≤◌, ◌+◌, ◌*◌, ◌/◌, true, List, length, take, slice_index, Option, Some}
+use Rattle.std.specs.Prelude.{None}
 use Rattle.std.specs.List.{flat_map, list_all}
 use Rattle.tlb_lexer.specs.Bytes.{is_hex_digit}
-use Rattle.tlb_syntax.specs.Lexeme.{Lexeme, word, blank, number, tag, sign, other, hex_bits, without_completion, and_at_most_1023, hexadecimal_bits}
+use Rattle.tlb_syntax.specs.Lexeme.{Lexeme, word, blank, number, tag, sign, other, hex_bits, without_completion}
+use Rattle.tlb_syntax.specs.Lexeme.{and_at_most_1023, hexadecimal_bits}
 
 -- the bits of a lexeme that is a tag
 abbrev pub bits_of : Lexeme → Option (List ℕ)
@@ -13,16 +15,16 @@ bits_of (tag bits) = bits
 bits_of (sign s) = None
 bits_of other = None
 
--- what stands behind a `#` stands for the first n bits of its digits, at most 1023
+-- what stands after a `#` stands for the first n bits of its digits, at most 1023
 pub record HasBits (digits : List ℕ) (n : ℕ) : Type 0 where
-  pub few : n ≤ 1023
+  pub short : n ≤ 1023
   pub within : n ≤ 4 * length digits
   pub are_digits : list_all is_hex_digit (take ((n + 3) / 4) digits) ≡ true
   pub bits : hexadecimal_bits digits ≡ Some (take n (flat_map hex_bits digits))
 
 -- the bits of the digits before their last 1 are the first n, at most 1023
 pub record IsCompleted (digits : List ℕ) (n : ℕ) : Type 0 where
-  pub few : n ≤ 1023
+  pub short : n ≤ 1023
   pub within : n ≤ 4 * length digits
   pub bits : without_completion (flat_map hex_bits digits) ≡ Some (take n (flat_map hex_bits digits))
 

@@ -1,11 +1,14 @@
 -- The canonical texts of expressions, items and constructors.
 -- Source: the TON documentation on the TL-B language; the choice of one text for a tree is this project's own.
-use Rattle.std.specs.Prelude.{ℕ, ◌+◌, List, [], ◌∷◌, ◌++◌, map, Option, Some, None, Bool, true, false, codes, decimal, if◌then◌else◌}
+use Rattle.std.specs.Prelude.{ℕ, ◌+◌, List, [], ◌∷◌, ◌++◌, map, Option, Some, None, Bool, true, false, codes, decimal}
+use Rattle.std.specs.Prelude.{if◌then◌else◌}
 use Rattle.nat_solver.specs.declared.compare.Op.{Op}
 use Rattle.nat_solver.specs.declared.compare.Op.TheVariants.{Eq, Lt, Le, Gt, Ge}
 use Rattle.tlb_syntax.specs.declared.tree.ParamKind.{ParamKind}
 use Rattle.tlb_syntax.specs.declared.tree.ParamKind.TheVariants.{Nat, Ty}
-use Rattle.tlb_syntax.specs.Tree.{ExprView, ExprList, ItemView, ItemList, TypeView, TagView, ConstructorView, lit, named, nat32, bits, below, up_to, plus, star, out, ref, group, no_exprs, an_expr, plain, when, when_bit, implicit, check, explicit, no_items, an_item, computed, given}
+use Rattle.tlb_syntax.specs.Tree.{ExprView, ExprList, ItemView, ItemList, TypeView, TagView, ConstructorView, lit}
+use Rattle.tlb_syntax.specs.Tree.{named, nat32, bits, below, up_to, plus, star, out, ref, group, no_exprs, an_expr}
+use Rattle.tlb_syntax.specs.Tree.{plain, when, when_bit, implicit, check, explicit, no_items, an_item, computed, given}
 
 -- a name, or `_`
 abbrev pub name_text : Option (List ℕ) → List ℕ
@@ -47,7 +50,7 @@ abbrev mutual
   expr_text (ref e) = codes "^" ++ expr_text e
   expr_text (group is) = codes "[" ++ spaced_items is ++ codes " ]"
 
-  -- each behind a space
+  -- each after a space
   pub spaced : ExprList → List ℕ
   spaced no_exprs = []
   spaced (an_expr e es) = codes " " ++ expr_text e ++ spaced es
@@ -59,10 +62,11 @@ abbrev mutual
 
   pub item_text : ItemView → List ℕ
   item_text (implicit x k) = codes "{" ++ x ++ codes ":" ++ kind_text k ++ codes "}"
-  item_text (check a op b) = codes "{" ++ expr_text a ++ codes " " ++ op_text op ++ codes " " ++ expr_text b ++ codes "}"
+  item_text (check a op b) = codes "{" ++ expr_text a ++ codes " " ++ op_text op ++ codes " " ++ expr_text b
+      ++ codes "}"
   item_text (explicit x t) = name_text x ++ codes ":" ++ type_text t
 
-  -- each behind a space
+  -- each after a space
   pub spaced_items : ItemList → List ℕ
   spaced_items no_items = []
   spaced_items (an_item i is) = codes " " ++ item_text i ++ spaced_items is
@@ -81,4 +85,5 @@ exotic_text true = codes "!"
 exotic_text false = []
 
 abbrev pub constructor_text : ConstructorView → List ℕ
-constructor_text c = exotic_text c.exotic ++ name_text c.name ++ tag_text c.tag ++ spaced_items c.items ++ codes " = " ++ c.result ++ spaced c.params
+constructor_text c = exotic_text c.exotic ++ name_text c.name ++ tag_text c.tag ++ spaced_items c.items
+    ++ codes " = " ++ c.result ++ spaced c.params

@@ -29,7 +29,7 @@ mutual
     no_exprs : ExprList
     an_expr : ExprView → ExprList → ExprList
 
-  -- the type of an explicit field: alone, behind a condition, or behind a tested bit
+  -- the type of an explicit field: alone, after a condition, or after a tested bit
   pub data TypeView : Type 0 where
     plain : ExprView → TypeView
     when : ExprView → ExprView → TypeView

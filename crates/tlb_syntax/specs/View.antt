@@ -1,7 +1,9 @@
 -- The trees that the program's values stand for.
 use Rattle.std.specs.Prelude.{List, map}
 use Rattle.tlb_syntax.specs.declared.tree.Expr.{Expr, fold-Expr}
-use Rattle.tlb_syntax.specs.declared.tree.Expr.TheOpen.{Expr-F, Item-F, FieldType-F, Lit, Named, Nat32, Bits, Below, UpTo, Sum, Star, Out, Ref, Group, Implicit, Check, Explicit, Plain, If, IfBit}
+use Rattle.tlb_syntax.specs.declared.tree.Expr.TheOpen.{Expr-F, Item-F, FieldType-F, Lit, Named, Nat32, Bits, Below}
+use Rattle.tlb_syntax.specs.declared.tree.Expr.TheOpen.{UpTo, Sum, Star, Out, Ref, Group, Implicit, Check, Explicit}
+use Rattle.tlb_syntax.specs.declared.tree.Expr.TheOpen.{Plain, If, IfBit}
 use Rattle.tlb_syntax.specs.declared.tree.Expr.TheFolds.{fold-Item, fold-FieldType}
 use Rattle.tlb_syntax.specs.declared.tree.Item.{Item}
 use Rattle.tlb_syntax.specs.declared.tree.FieldType.{FieldType}
@@ -9,7 +11,9 @@ use Rattle.tlb_syntax.specs.declared.tree.Tag.{Tag}
 use Rattle.tlb_syntax.specs.declared.tree.Tag.TheVariants.{Computed, Given}
 use Rattle.tlb_syntax.specs.declared.tree.Constructor.{Constructor}
 use Rattle.tlb_syntax.specs.declared.tree.Schema.{Schema}
-use Rattle.tlb_syntax.specs.Tree.{ExprView, ExprList, ItemView, ItemList, TypeView, TagView, ConstructorView, SchemaView, lit, named, nat32, bits, below, up_to, star, out, ref, group, plain, when, when_bit, implicit, check, explicit, computed, given, exprs_of, items_of, sum_of}
+use Rattle.tlb_syntax.specs.Tree.{ExprView, ExprList, ItemView, ItemList, TypeView, TagView, ConstructorView}
+use Rattle.tlb_syntax.specs.Tree.{SchemaView, lit, named, nat32, bits, below, up_to, star, out, ref, group, plain, when}
+use Rattle.tlb_syntax.specs.Tree.{when_bit, implicit, check, explicit, computed, given, exprs_of, items_of, sum_of}
 
 abbrev pub expr_step : Expr-F ExprView TypeView ItemView → ExprView
 expr_step (Lit n) = lit n
@@ -54,7 +58,8 @@ tag Computed = computed
 tag (Given b) = given b
 
 abbrev pub constructor : Constructor → ConstructorView
-constructor c = record { exotic = c.exotic; name = c.name; tag = tag c.tag; items = items c.items; result = c.result; params = exprs c.params }
+constructor c = record { exotic = c.exotic; name = c.name; tag = tag c.tag; items = items c.items; result =
+    c.result; params = exprs c.params }
 
 abbrev pub schema : Schema → SchemaView
 schema s = map constructor s.constructors

@@ -1,10 +1,11 @@
 -- What a text writes, and what it is refused for where it writes nothing.
 --
--- A front of a text can go on where some text begins with it. So the places of refusals are told by the productions
--- alone: the first lexeme with which a front can't go on, and the first with which it can't go on within a limit.
-use Rattle.std.specs.Prelude.{ℕ, zero, suc, ◌≡◌, ◌<◌, ◌≤◌, ◌+◌, ◌⊎◌, List, [], ◌∷◌, ◌++◌, length, take, drop, count_by, bytes_eq, Option, Some, None}
+-- A prefix of a text can go on where some text begins with it. So the places of refusals are given by the productions
+-- alone: the first lexeme with which a prefix can't go on, and the first with which it can't go on within a limit.
+use Rattle.std.specs.Prelude.{ℕ, zero, suc, ◌≡◌, ◌<◌, ◌≤◌, ◌+◌, ◌⊎◌, List, [], ◌∷◌, ◌++◌, length, take, drop, count_by}
+use Rattle.std.specs.Prelude.{bytes_eq, Option, Some, None}
 use Rattle.tlb_lexer.specs.declared.Token.{Token}
-use Rattle.tlb_lexer.specs.Cut.{Cut}
+use Rattle.tlb_lexer.specs.Tokenization.{Tokenizes}
 use Rattle.tlb_syntax.specs.Lexeme.{Lexeme, number, sign, lexemes}
 use Rattle.tlb_syntax.specs.declared.sign.Sign.TheVariants.{Bang}
 use Rattle.tlb_syntax.specs.Grammar.{Bounds, Heads, Declarations, TypeWord}
@@ -27,7 +28,7 @@ abbrev pub constructors_of : SchemaView → List ℕ → ℕ
 constructors_of s x = count_by (λ (c : ConstructorView). bytes_eq c.result x) s
 
 -- at most 4,096 constructors, and 256 of each type
-pub record HasFew (s : SchemaView) : Type 0 where
+pub record WithinCounts (s : SchemaView) : Type 0 where
   pub all : length s ≤ 4096
   pub of_one : (x : List ℕ) → constructors_of s x ≤ 256
 
@@ -39,11 +40,11 @@ abbrev pub Grammar : Type 0 → Type 1
 Grammar X = Bounds → List Lexeme → X → Type 0
 
 -- some text begins so that writes such a tree within the bounds
-pub record CanGoOn {X : Type 0} (G : Grammar X) (m : Bounds) (P : X → Type 0) (front : List Lexeme) : Type 0 where
+pub record CanGoOn {X : Type 0} (G : Grammar X) (m : Bounds) (P : X → Type 0) (prefix : List Lexeme) : Type 0 where
   pub more : List Lexeme
   pub tree : X
   pub kept : P tree
-  pub written : G m (front ++ more) tree
+  pub written : G m (prefix ++ more) tree
 
 -- ---- refusals of a list of lexemes, at the number of lexemes before them
 
@@ -54,22 +55,22 @@ pub data Cause : Type 0 where
   too_many_fields : Cause
   too_many_params : Cause
 
--- the front before the place, the lexeme at it, and those behind it
+-- the prefix before the place, the lexeme at it, and those after it
 pub record Splits (ls : List Lexeme) (place : ℕ) : Type 0 where
-  pub front : List Lexeme
-  pub at : Lexeme
+  pub prefix : List Lexeme
+  pub next : Lexeme
   pub later : List Lexeme
-  pub whole : ls ≡ front ++ at ∷ later
-  pub size : length front ≡ place
+  pub whole : ls ≡ prefix ++ next ∷ later
+  pub size : length prefix ≡ place
 
 abbrev pub ended : List Lexeme → Lexeme → List Lexeme
-ended front t = front ++ t ∷ []
+ended prefix t = prefix ++ t ∷ []
 
--- the front can go on, and not with the lexeme at the place
+-- the prefix can go on, and not with the lexeme at the place
 pub record StopsAt {X : Type 0} (G : Grammar X) (ls : List Lexeme) (place : ℕ) : Type 0 where
   pub split : Splits ls place
-  pub so_far : CanGoOn G unbounded IsAny split.front
-  pub no_further : CanGoOn G unbounded IsAny (ended split.front split.at) → ⊥
+  pub so_far : CanGoOn G unbounded IsAny split.prefix
+  pub no_further : CanGoOn G unbounded IsAny (ended split.prefix split.next) → ⊥
 
 -- the text can go on, and writes nothing yet
 pub record EndsEarly {X : Type 0} (G : Grammar X) (ls : List Lexeme) (place : ℕ) : Type 0 where
@@ -85,17 +86,18 @@ abbrev pub form_of : Lexeme → Lexeme
 form_of (number n) = number (Some 0)
 form_of t = t
 
--- the front can go on within a limit; with a lexeme of this form it can go on, and not within the limit
-pub record Exceeds {X : Type 0} (G : Grammar X) (m : Bounds) (P : X → Type 0) (ls : List Lexeme) (place : ℕ) : Type 0 where
+-- the prefix can go on within a limit; with a lexeme of this form it can go on, and not within the limit
+pub record Exceeds {X : Type 0} (G : Grammar X) (m : Bounds) (P : X
+    → Type 0) (ls : List Lexeme) (place : ℕ) : Type 0 where
   pub split : Splits ls place
-  pub so_far : CanGoOn G m P split.front
-  pub with_it : CanGoOn G unbounded IsAny (ended split.front (form_of split.at))
-  pub too_much : CanGoOn G m P (ended split.front (form_of split.at)) → ⊥
+  pub so_far : CanGoOn G m P split.prefix
+  pub with_it : CanGoOn G unbounded IsAny (ended split.prefix (form_of split.next))
+  pub too_much : CanGoOn G m P (ended split.prefix (form_of split.next)) → ⊥
 
--- the name or the `_` of a declaration that begins with these lexemes stands behind so many: behind the `!`, or first
-pub data NameStands : List Lexeme → ℕ → Type 0 where
-  at_once : {h : Lexeme} {x : Option (List ℕ)} {s : List Lexeme} → Heads h x → NameStands (h ∷ s) 0
-  after_mark : {h : Lexeme} {x : Option (List ℕ)} {s : List Lexeme} → Heads h x → NameStands (sign Bang ∷ h ∷ s) 1
+-- the name or the `_` of a declaration that begins with these lexemes stands after so many: after the `!`, or first
+pub data NameOffset : List Lexeme → ℕ → Type 0 where
+  at_once : {h : Lexeme} {x : Option (List ℕ)} {s : List Lexeme} → Heads h x → NameOffset (h ∷ s) 0
+  after_mark : {h : Lexeme} {x : Option (List ℕ)} {s : List Lexeme} → Heads h x → NameOffset (sign Bang ∷ h ∷ s) 1
 
 -- the declaration that the later lexeme belongs to has so many lexemes before it
 pub record Begins (ls : List Lexeme) (start later : ℕ) : Type 0 where
@@ -109,7 +111,7 @@ pub record Declares (ls : List Lexeme) (place later : ℕ) : Type 0 where
   pub start : ℕ
   pub begins : Begins ls start later
   pub offset : ℕ
-  pub name : NameStands (drop start ls) offset
+  pub name : NameOffset (drop start ls) offset
   pub is_place : place ≡ start + offset
 
 abbrev pub MeetsLevels : {X : Type 0} → Grammar X → List Lexeme → ℕ → Type 0
@@ -122,7 +124,8 @@ MeetsItems G = Exceeds G (bounds None (Some 255) None) IsAny
 abbrev pub SchemaRefusal : List Lexeme → Cause → ℕ → Type 0
 SchemaRefusal ls syntax place = IsSyntax Declarations ls place
 SchemaRefusal ls deep_type place = MeetsLevels Declarations ls place
-SchemaRefusal ls too_many_constructors place = (later : ℕ) × Exceeds Declarations unbounded HasFew ls later × Declares ls place later
+SchemaRefusal ls too_many_constructors place = (later : ℕ) × Exceeds Declarations unbounded WithinCounts ls later
+    × Declares ls place later
 SchemaRefusal ls too_many_fields place = MeetsItems Declarations ls place
 SchemaRefusal ls too_many_params place = Exceeds Declarations (bounds None None (Some 8)) IsAny ls place
 
@@ -162,14 +165,14 @@ byte_of (t ∷ ts) size (suc n) = byte_of ts size n
 -- the text writes the schema
 pub record Writes (text : List ℕ) (s : SchemaView) : Type 0 where
   pub tokens : List Token
-  pub cut : Cut text tokens
+  pub tokenized : Tokenizes text tokens
   pub written : Declarations standard (lexemes text tokens) s
-  pub few : HasFew s
+  pub counts : WithinCounts s
 
 -- the text is cut into tokens, and the first refusal of these stands at the byte
 pub record SchemaRefused (text : List ℕ) (cause : Cause) (byte : ℕ) : Type 0 where
   pub tokens : List Token
-  pub cut : Cut text tokens
+  pub tokenized : Tokenizes text tokens
   pub place : ℕ
   pub first : IsFirst (SchemaRefusal (lexemes text tokens)) cause place
   pub is_byte : byte ≡ byte_of tokens (length text) place
@@ -177,12 +180,12 @@ pub record SchemaRefused (text : List ℕ) (cause : Cause) (byte : ℕ) : Type 0
 -- the text writes the expression as a type word
 pub record WritesWord (text : List ℕ) (e : ExprView) : Type 0 where
   pub tokens : List Token
-  pub cut : Cut text tokens
+  pub tokenized : Tokenizes text tokens
   pub written : TypeWord standard (lexemes text tokens) e
 
 pub record WordRefused (text : List ℕ) (cause : Cause) (byte : ℕ) : Type 0 where
   pub tokens : List Token
-  pub cut : Cut text tokens
+  pub tokenized : Tokenizes text tokens
   pub place : ℕ
   pub first : IsFirst (WordRefusal (lexemes text tokens)) cause place
   pub is_byte : byte ≡ byte_of tokens (length text) place

@@ -1,11 +1,14 @@
 //! Tokens with what they stand for.
-ghost use Rattle.std.specs.Prelude.{◌≡◌, ◌≢◌, ◌<◌, ◌≤◌, ◌+◌, ◌*◌, ◌/◌, ◌^◌, ◌||◌, ◌++◌, Some, None, ℕ, List, [], length, take, drop, codes, IfOk, IsTrue, IsSome, MatchOption, ◌↔◌, EachIndex, slice_index};
+ghost use Rattle.std.specs.Prelude.{◌≡◌, ◌≢◌, ◌<◌, ◌≤◌, ◌+◌, ◌*◌, ◌/◌, ◌^◌, ◌||◌, ◌++◌, Some, None, ℕ, List, []};
+ghost use Rattle.std.specs.Prelude.{length, take, drop, codes, IfOk, IsTrue, IsSome, MatchOption, ◌↔◌, EachIndex};
+ghost use Rattle.std.specs.Prelude.{slice_index};
 ghost use Rattle.std.specs.List.{flat_map, list_all};
 ghost use Rattle.bit_slice.specs.Bits.{spelled};
 ghost use Rattle.tlb_lexer.specs.Bytes.{is_hex_digit};
-ghost use Rattle.tlb_lexer.specs.Cut.{token_bytes};
+ghost use Rattle.tlb_lexer.specs.Tokenization.{token_bytes};
 ghost use Rattle.tlb_lexer.specs.Spelling.{spells, is_underscore, are_bits, ends_hex};
-ghost use Rattle.tlb_syntax.specs.Lexeme.{lexeme, lexeme_of, number_of, sign_among, signs, sign_text, binary_bits, hexadecimal_bits, hex_value, hex_bits};
+ghost use Rattle.tlb_syntax.specs.Lexeme.{lexeme, lexeme_of, number_of, sign_among, signs, sign_text, binary_bits};
+ghost use Rattle.tlb_syntax.specs.Lexeme.{hexadecimal_bits, hex_value, hex_bits};
 ghost use Rattle.tlb_syntax.specs.Placed.{IsWithin, IsSpelled};
 ghost use Rattle.tlb_syntax.specs.Tags.{bits_of, HasBits, IsCompleted, IsLastNonzero, IsUncompleted};
 
@@ -24,9 +27,9 @@ pub enum Lexeme<'a> {
     Blank,
     /// A number, or `None` where it is above 2^32 − 1.
     Number(Option<u32>),
-    /// The bytes behind the `$` of a tag.
+    /// The bytes after the `$` of a tag.
     BinaryTag(&'a [u8]),
-    /// The bytes behind the `#` of a tag.
+    /// The bytes after the `#` of a tag.
     HexTag(&'a [u8]),
     Sign(Sign),
     /// Bytes that spell no symbol.
@@ -45,8 +48,8 @@ pub fn lexeme_at<'a>(text: &'a [u8], token: &Token) -> Lexeme<'a>
         TokenKind::Name => Lexeme::Name(bytes),
         TokenKind::Blank => Lexeme::Blank,
         TokenKind::Number => Lexeme::Number(number_of(bytes)),
-        TokenKind::BinaryTag => Lexeme::BinaryTag(behind_mark(bytes)),
-        TokenKind::HexTag => Lexeme::HexTag(behind_mark(bytes)),
+        TokenKind::BinaryTag => Lexeme::BinaryTag(after_first(bytes)),
+        TokenKind::HexTag => Lexeme::HexTag(after_first(bytes)),
         TokenKind::Symbol => sign_among(&Sign::ALL, bytes),
     }
 }
@@ -59,8 +62,8 @@ fn bytes_of<'a>(text: &'a [u8], token: &Token) -> &'a [u8]
     &text[token.from as usize..token.to as usize]
 }
 
-// What stands behind the first byte.
-fn behind_mark(bytes: &[u8]) -> &[u8]
+// What stands after the first byte.
+fn after_first(bytes: &[u8]) -> &[u8]
     ensures { result.now ≡ drop 1 bytes.entry.now }
 {
     match bytes {
@@ -107,7 +110,7 @@ pub fn has_tag_bits(tag: &Lexeme<'_>) -> bool
 }
 
 /// The bits of a tag, where it stands for at most 1023 bits. In a hexadecimal tag a `_` at the end drops the last
-/// 1 bit and the zeros behind it.
+/// 1 bit and the zeros after it.
 pub fn tag_bits(alloc: Global, tag: &Lexeme<'_>) -> Result<Option<BitString>, NoMemory>
     requires { IsSpelled tag.now }
     ensures { IfOk result (λ found. found ≡ bits_of (lexeme tag.now)) }
@@ -146,11 +149,11 @@ fn hexadecimal_bits(alloc: Global, digits: &[u8]) -> Result<Option<BitString>, N
     let Some(count) = hex_len(digits) else {
         return Ok(None);
     };
-    push_front(&mut bits, digits, count);
+    push_prefix(&mut bits, digits, count);
     Ok(Some(bits.finish()))
 }
 
-// How many bits the digits behind a `#` stand for.
+// How many bits the digits after a `#` stand for.
 fn hex_len(digits: &[u8]) -> Option<usize>
     requires { IsTrue (ends_hex digits.now) }
     ensures { MatchOption result (hexadecimal_bits digits.now ≡ None) (λ n. HasBits digits.now n) }
@@ -170,7 +173,8 @@ fn hex_len(digits: &[u8]) -> Option<usize>
 }
 
 fn before_underscore(digits: &[u8]) -> Option<&[u8]>
-    ensures { MatchOption result ((front : List ℕ) → digits.entry.now ≢ front ++ codes "_") (λ front. digits.entry.now ≡ front.now ++ codes "_") }
+    ensures { MatchOption result ((front : List ℕ)
+        → digits.entry.now ≢ front ++ codes "_") (λ front. digits.entry.now ≡ front.now ++ codes "_") }
 {
     digits.strip_suffix(b"_")
 }
@@ -188,7 +192,8 @@ fn completed_len(digits: &[u8]) -> Option<usize>
 }
 
 fn last_nonzero(digits: &[u8]) -> Option<usize>
-    ensures { MatchOption result (EachIndex digits.now (λ i. slice_index digits.now i ≡ 48)) (λ last. IsLastNonzero digits.now last) }
+    ensures { MatchOption result (EachIndex digits.now (λ i. slice_index digits.now i
+        ≡ 48)) (λ last. IsLastNonzero digits.now last) }
 {
     'digits: for i in (0..digits.len()).rev() {
         if digits[i] != b'0' {
@@ -211,7 +216,7 @@ fn hex_value(digit: u8) -> u8
 }
 
 // Adds the first bits of the digits.
-fn push_front(bits: &mut BitWriter, digits: &[u8], count: usize)
+fn push_prefix(bits: &mut BitWriter, digits: &[u8], count: usize)
     requires room { length bits.old + count ≤ 1023 }
     requires within { count ≤ 4 * length digits.now }
     requires digits { IsTrue (list_all is_hex_digit (take ((count + 3) / 4) digits.now)) }

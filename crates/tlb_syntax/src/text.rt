@@ -1,6 +1,7 @@
 //! Canonical texts.
 ghost use Rattle.std.specs.Prelude.{◌≡◌, ◌+◌, ◌++◌, map, decimal, codes, replicate, IfOk, OnOk};
-ghost use Rattle.tlb_syntax.specs.Text.{addend_text, addends_text, constructor_text, exotic_text, expr_text, item_text, kind_text, name_text, op_text, spaced, spaced_items, tag_text, type_text};
+ghost use Rattle.tlb_syntax.specs.Text.{addend_text, addends_text, constructor_text, exotic_text, expr_text, item_text};
+ghost use Rattle.tlb_syntax.specs.Text.{kind_text, name_text, op_text, spaced, spaced_items, tag_text, type_text};
 ghost use Rattle.tlb_syntax.specs.View.{constructor, expr, exprs, field_type, item, items, tag};
 
 use crate::tree::{Constructor, Expr, FieldType, Item, ParamKind, Tag};
@@ -130,7 +131,8 @@ fn put_applied(
     word: &[u8],
     args: &[Expr],
 ) -> Result<(), AllocError>
-    ensures { OnOk result (text.new.items ≡ text.old.items ++ (codes "(" ++ word.now ++ spaced (exprs args.now) ++ codes ")")) }
+    ensures { OnOk result (text.new.items
+        ≡ text.old.items ++ (codes "(" ++ word.now ++ spaced (exprs args.now) ++ codes ")")) }
 {
     text.extend_from_slice(b"(")?;
     text.extend_from_slice(word)?;

@@ -3,8 +3,8 @@ use Rattle.tlb_lexer.specs.declared.TokenKind.TheVariants.{Name}
 use Rattle.tlb_lexer.specs.declared.Token.{Token}
 use Rattle.tlb_syntax.specs.Lexeme.{lexeme}
 use Rattle.syntax_check.specs.Judge.{advance}
-use Rattle.syntax_check.specs.Judged.{stand, may_end}
-use Rattle.syntax_check.proofs.Judging.{placed_at, tokens_before, advance_place, not_refused, goes_on}
+use Rattle.syntax_check.specs.Judged.{position, may_end}
+use Rattle.syntax_check.proofs.JudgeSteps.{placed_at, tokens_before, advance_place, not_refused, goes_on}
 use Rattle.syntax_check.proofs.check.Goals as goal
 
 -- what is read past the end of the tokens
@@ -29,12 +29,12 @@ advance-requires-clause-room c =
 pub loop-token-preserved : goal.loop-token-preserved
 unfolding no_token
 loop-token-preserved c =
-    let further : advance (stand c.loop-token.judge) (lexeme c.lexeme_at.result) ≡ Ok (stand c.advance.new.self) =
-    not_refused (stand c.loop-token.judge) (stand c.advance.new.self) (lexeme c.lexeme_at.result) c.in_ok-refused.refused c.in_ok-refused.ensures c.if-is_some.ensures in
+    let further : advance (position c.loop-token.judge) (lexeme c.lexeme_at.result) ≡ Ok (position c.advance.new.self) =
+    not_refused (position c.loop-token.judge) (position c.advance.new.self) (lexeme c.lexeme_at.result) c.in_ok-refused.refused c.in_ok-refused.ensures c.if-is_some.ensures in
     record {
-      place = advance_place (stand c.loop-token.judge) (stand c.advance.new.self) (lexeme c.lexeme_at.result) further ∙ ap (λ n. n + 1) c.loop-token.invariant.place;
+      place = advance_place (position c.loop-token.judge) (position c.advance.new.self) (lexeme c.lexeme_at.result) further ∙ ap (λ n. n + 1) c.loop-token.invariant.place;
       verdict =
-          goes_on (may_end c.args.whole) (stand c.loop-token.judge) (stand c.advance.new.self) c.args.text.now c.args.tokens.now c.loop-token.token-index no_token
+          goes_on (may_end c.args.whole) (position c.loop-token.judge) (position c.advance.new.self) c.args.text.now c.args.tokens.now c.loop-token.token-index no_token
           (lexeme c.lexeme_at.result) c.loop-token-test.true c.lexeme_at.ensures.meaning further
           ∙ c.loop-token.invariant.verdict;
     }

@@ -1,5 +1,5 @@
 use Rattle.tlb_syntax.specs.Lexeme.{lexemes}
-use Rattle.syntax_check.proofs.Answered.{schema-answered}
+use Rattle.syntax_check.proofs.CheckAnswers.{schema-answered}
 use Rattle.syntax_check.proofs.check_schema.Goals as goal
 
 pub returns : goal.returns

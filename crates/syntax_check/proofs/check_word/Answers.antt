@@ -1,5 +1,5 @@
 use Rattle.tlb_syntax.specs.Lexeme.{lexemes}
-use Rattle.syntax_check.proofs.Answered.{word-answered}
+use Rattle.syntax_check.proofs.CheckAnswers.{word-answered}
 use Rattle.syntax_check.proofs.check_word.Goals as goal
 
 pub returns : goal.returns

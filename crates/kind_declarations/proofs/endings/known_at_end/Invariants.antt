@@ -5,5 +5,5 @@ use Rattle.kind_declarations.proofs.endings.known_at_end.Given as goal
 
 abbrev pub invariant-loop-item : goal.invariant-loop-item
 invariant-loop-item l =
-    map (λ n. n.now) l.known ++ made_known (map constructor l.types) (items (drop l.item-index l.items))
-    ≡ map (λ n. n.now) l.initial.known ++ made_known (map constructor l.types) (items l.items)
+    map (λ n. n.now) l.known ++ made_known (map constructor l.types) (map (λ n. n.now) l.inputs) (items (drop l.item-index l.items))
+    ≡ made_known (map constructor l.types) (map (λ n. n.now) l.inputs) (items l.items)

@@ -1,6 +1,6 @@
 use Rattle.tlb_syntax.specs.Lexeme.{lexemes}
 use Rattle.tlb_syntax.specs.Written.{standard}
-use Rattle.tlb_grammar.proofs.Whole.{schema_found, schema_is_found}
+use Rattle.tlb_grammar.proofs.TokenLoop.{schema_found, schema_is_found}
 use Rattle.tlb_grammar.proofs.build.build_schema.Goals as goal
 
 pub returns : goal.returns

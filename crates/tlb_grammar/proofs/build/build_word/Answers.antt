@@ -1,6 +1,6 @@
 use Rattle.tlb_syntax.specs.Lexeme.{lexemes}
 use Rattle.tlb_syntax.specs.Written.{standard}
-use Rattle.tlb_grammar.proofs.Whole.{word_found, word_is_found}
+use Rattle.tlb_grammar.proofs.TokenLoop.{word_found, word_is_found}
 use Rattle.tlb_grammar.proofs.build.build_word.Goals as goal
 
 pub returns : goal.returns

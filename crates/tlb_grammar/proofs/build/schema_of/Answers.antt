@@ -1,4 +1,4 @@
-use Rattle.tlb_grammar.proofs.Whole.{placed-read}
+use Rattle.tlb_grammar.proofs.TokenLoop.{placed-read}
 use Rattle.tlb_grammar.proofs.build.schema_of.Goals as goal
 
 pub behind-requires : goal.behind-requires

@@ -1,4 +1,4 @@
-use Rattle.tlb_grammar.proofs.Runs.{word_once}
+use Rattle.tlb_grammar.proofs.Completeness.{word_once}
 use Rattle.tlb_grammar.proofs.laws.one_expression.Goals as goal
 
 pub returns : goal.returns

@@ -1,4 +1,4 @@
-use Rattle.tlb_grammar.proofs.Runs.{schema_once}
+use Rattle.tlb_grammar.proofs.Completeness.{schema_once}
 use Rattle.tlb_grammar.proofs.laws.one_schema.Goals as goal
 
 pub returns : goal.returns

@@ -1,4 +1,4 @@
-use Rattle.tlb_grammar.proofs.Reading.{schema_or_refusal, word_or_refusal}
+use Rattle.tlb_grammar.proofs.TextAnswers.{schema_or_refusal, word_or_refusal}
 use Rattle.tlb_grammar.proofs.laws.written_or_refused.Goals as goal
 
 pub returns-clause-schema : goal.returns-clause-schema

@@ -1,6 +1,6 @@
 use Rattle.std.proofs.Common.{◌∙◌, ap, sym, length}
 use Rattle.tlb_lexer.specs.declared.Token.{Token}
-use Rattle.tlb_grammar.proofs.Reading.{byte_within, byte_behind}
+use Rattle.tlb_grammar.proofs.TextAnswers.{byte_within, byte_behind}
 use Rattle.tlb_grammar.proofs.read.byte_of.Goals as goal
 
 pub returns-in-Some : goal.returns-in-Some

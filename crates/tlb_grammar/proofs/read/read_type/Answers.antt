@@ -2,14 +2,14 @@ use Rattle.tlb_syntax.specs.Limits.{IsWordWithinLimits}
 use Rattle.tlb_syntax.specs.View.{expr}
 use Rattle.tlb_syntax.specs.Written.{WritesWord}
 use Rattle.tlb_grammar.specs.Answer.{RefusesWord}
-use Rattle.tlb_grammar.proofs.Reading.{Laws, answered_written, answered_refused, answered_limits, word_at_most_once, word_refused_at_most_once, not_both_words}
+use Rattle.tlb_grammar.proofs.TextAnswers.{Laws, answered_written, answered_refused, answered_limits, word_at_most_once, word_refused_at_most_once, not_both_words}
 use Rattle.tlb_grammar.proofs.read.read_type.Goals as goal
 
 pub returns-clause-written : goal.returns-clause-written
 returns-clause-written c =
     let text = c.args.word.now in
     let laws : Laws = record {
-      tokens = record { cut = c.at_most_one.ensures.cut; refusal = c.at_most_one.ensures.refusal; not_both = c.at_most_one.ensures.not_both };
+      tokens = record { tokenized = c.at_most_one.ensures.tokenized; refusal = c.at_most_one.ensures.refusal; not_both = c.at_most_one.ensures.not_both };
       one_schema = c.one_answer.ensures.schema;
       one_word = c.one_answer.ensures.word;
       first_schema = c.one_answer.ensures.schema_first;
@@ -21,7 +21,7 @@ pub returns-clause-refused : goal.returns-clause-refused
 returns-clause-refused c =
     let text = c.args.word.now in
     let laws : Laws = record {
-      tokens = record { cut = c.at_most_one.ensures.cut; refusal = c.at_most_one.ensures.refusal; not_both = c.at_most_one.ensures.not_both };
+      tokens = record { tokenized = c.at_most_one.ensures.tokenized; refusal = c.at_most_one.ensures.refusal; not_both = c.at_most_one.ensures.not_both };
       one_schema = c.one_answer.ensures.schema;
       one_word = c.one_answer.ensures.word;
       first_schema = c.one_answer.ensures.schema_first;

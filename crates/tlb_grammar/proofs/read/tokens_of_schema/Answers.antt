@@ -1,4 +1,4 @@
-use Rattle.tlb_grammar.proofs.Reading.{schema_is_refused}
+use Rattle.tlb_grammar.proofs.TextAnswers.{schema_is_refused}
 use Rattle.tlb_grammar.proofs.read.tokens_of_schema.Goals as goal
 
 pub returns-in-Some : goal.returns-in-Some

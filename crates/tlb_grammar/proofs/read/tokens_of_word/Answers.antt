@@ -1,4 +1,4 @@
-use Rattle.tlb_grammar.proofs.Reading.{word_is_refused}
+use Rattle.tlb_grammar.proofs.TextAnswers.{word_is_refused}
 use Rattle.tlb_grammar.proofs.read.tokens_of_word.Goals as goal
 
 pub returns-in-Some : goal.returns-in-Some

@@ -19,7 +19,7 @@ judge_headings-requires c =
     let size = length-map c.as_slice.result.now constructor in
     let same = ap length seen in
     let few = ordinary_few s in
-    let all = c.requires.few.all in
+    let all = c.requires.counts.all in
     omega (arith, size, same, few, all)
 
 pub returns-in_err-judge_headings : goal.returns-in_err-judge_headings
@@ -41,7 +41,7 @@ judge_kept-requires-clause-bounded c =
     let size = length-map c.as_slice-2.result.now constructor in
     let same = ap length seen in
     let few = kept_few s in
-    let all = c.requires.few.all in
+    let all = c.requires.counts.all in
     omega (arith, size, same, few, all)
 
 pub judge_kept-requires-clause-within : goal.judge_kept-requires-clause-within

@@ -1,7 +1,8 @@
 use Rattle.std.proofs.Common.{◌≡◌, ◌<◌, ◌∙◌, ap, sym, true, take, map, length, get_or, arith}
 use Rattle.tlb_syntax.specs.declared.tree.Constructor.{Constructor}
 use Rattle.tlb_syntax.specs.View.{constructor}
-use Rattle.kind_terms.specs.Dictionaries.{is_dictionary, without_dictionaries}
+use Rattle.kind_terms.specs.Classes.{is_dictionary}
+use Rattle.kind_terms.specs.Dictionaries.{without_dictionaries}
 use Rattle.tlb_kinds.proofs.Loops.{removed, prefix_kept, length-removed}
 use Rattle.tlb_kinds.proofs.check.without_dictionaries.Goals as goal
 

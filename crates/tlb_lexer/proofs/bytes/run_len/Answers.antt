@@ -1,5 +1,5 @@
 use Rattle.tlb_lexer.specs.Stretch.{is_in_run}
-use Rattle.tlb_lexer.proofs.Runs.{none_fails}
+use Rattle.tlb_lexer.proofs.ListPrefix.{none_fails}
 use Rattle.tlb_lexer.proofs.bytes.run_len.Goals as goal
 
 pub returns-in-None-clause-exact : goal.returns-in-None-clause-exact

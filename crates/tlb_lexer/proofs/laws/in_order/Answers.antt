@@ -1,4 +1,4 @@
-use Rattle.tlb_lexer.proofs.Whole.{placed}
+use Rattle.tlb_lexer.proofs.Tokenization.{placed}
 use Rattle.tlb_lexer.proofs.laws.in_order.Goals as goal
 
 pub returns : goal.returns

@@ -1,5 +1,5 @@
 use Rattle.std.proofs.Common.{sym, ◌∙◌}
-use Rattle.tlb_lexer.proofs.Spelled.{two_longest, angle_longest}
+use Rattle.tlb_lexer.proofs.LongestTokens.{two_longest, angle_longest}
 use Rattle.tlb_lexer.proofs.scan.angle.Goals as goal
 
 pub returns-then-starts_with : goal.returns-then-starts_with

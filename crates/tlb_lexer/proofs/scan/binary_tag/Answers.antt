@@ -1,8 +1,8 @@
 use Rattle.std.proofs.Common.{arith, sym, ◌∙◌, ◌≡◌, ◌<◌}
 use Rattle.std.specs.List.{prefix_len}
 use Rattle.tlb_lexer.specs.Bytes.{is_bit}
-use Rattle.tlb_lexer.proofs.Spelled.{bits_longest, empty_binary_longest}
-use Rattle.tlb_lexer.proofs.Stands.{dollar_stands}
+use Rattle.tlb_lexer.proofs.LongestTokens.{bits_longest, empty_binary_longest}
+use Rattle.tlb_lexer.proofs.StretchOf.{dollar_stands}
 use Rattle.tlb_lexer.proofs.scan.binary_tag.Goals as goal
 
 pub returns-then-bits-gt0 : goal.returns-then-bits-gt0

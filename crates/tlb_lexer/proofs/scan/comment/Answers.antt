@@ -1,5 +1,5 @@
 use Rattle.std.proofs.Common.{sym, ◌∙◌, ◌∷◌}
-use Rattle.tlb_lexer.proofs.Stands.{rest_whole, line_stands, block_opens, slash_stands}
+use Rattle.tlb_lexer.proofs.StretchOf.{rest_whole, line_stands, block_opens, slash_stands}
 use Rattle.tlb_lexer.proofs.scan.comment.Goals as goal
 
 pub returns-then-starts_with : goal.returns-then-starts_with

@@ -1,6 +1,6 @@
 use Rattle.std.proofs.Common.{sym, ◌∙◌, ap, codes, nat_eq}
 use Rattle.std.specs.List.{starts_with}
-use Rattle.tlb_lexer.proofs.Stands.{stands_if, rest_whole}
+use Rattle.tlb_lexer.proofs.StretchOf.{stands_if, rest_whole}
 use Rattle.tlb_lexer.proofs.scan.comment_end.Goals as goal
 
 pub returns-then-starts_with-clause-first : goal.returns-then-starts_with-clause-first

@@ -1,6 +1,6 @@
 use Rattle.std.proofs.Common.{ℕ, ◌<◌, codes}
-use Rattle.tlb_lexer.specs.Cut.{StandsAt}
+use Rattle.tlb_lexer.specs.Tokenization.{OccursAt}
 use Rattle.tlb_lexer.proofs.scan.comment_end.Given as goal
 
 abbrev pub invariant-loop-place : goal.invariant-loop-place
-invariant-loop-place l = (k : ℕ) → k < l.place → StandsAt (codes "*/") k l.body → ⊥
+invariant-loop-place l = (k : ℕ) → k < l.place → OccursAt (codes "*/") k l.body → ⊥

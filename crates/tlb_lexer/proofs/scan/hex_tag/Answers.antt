@@ -1,8 +1,8 @@
 use Rattle.std.proofs.Common.{arith, ◌∙◌, ◌≡◌, ◌<◌}
 use Rattle.std.specs.List.{prefix_len}
 use Rattle.tlb_lexer.specs.Bytes.{is_hex_digit}
-use Rattle.tlb_lexer.proofs.Spelled.{closed_longest, hex_longest, hash_longest, not_hexy}
-use Rattle.tlb_lexer.proofs.Stands.{closes_is}
+use Rattle.tlb_lexer.proofs.LongestTokens.{closed_longest, hex_longest, hash_longest, not_hexy}
+use Rattle.tlb_lexer.proofs.StretchOf.{closes_is}
 use Rattle.tlb_lexer.proofs.scan.hex_tag.Goals as goal
 
 pub returns-then-starts_with : goal.returns-then-starts_with

@@ -1,7 +1,7 @@
 use Rattle.std.proofs.Common.{arith, ◌+◌}
 use Rattle.std.specs.List.{prefix_len}
 use Rattle.tlb_lexer.specs.Bytes.{is_name_byte}
-use Rattle.tlb_lexer.proofs.Spelled.{name_longest}
+use Rattle.tlb_lexer.proofs.LongestTokens.{name_longest}
 use Rattle.tlb_lexer.proofs.scan.name.Goals as goal
 
 pub returns-then-len-gt-LONGEST_NAME : goal.returns-then-len-gt-LONGEST_NAME

@@ -1,4 +1,4 @@
-use Rattle.tlb_lexer.proofs.Spelled.{number_longest}
+use Rattle.tlb_lexer.proofs.LongestTokens.{number_longest}
 use Rattle.tlb_lexer.proofs.scan.number.Goals as goal
 
 pub returns : goal.returns

@@ -1,6 +1,6 @@
 use Rattle.std.proofs.Common.{◌∙◌}
-use Rattle.tlb_lexer.proofs.Spelled.{blank_longest, sign_longest}
-use Rattle.tlb_lexer.proofs.Stands.{other_stands}
+use Rattle.tlb_lexer.proofs.LongestTokens.{blank_longest, sign_longest}
+use Rattle.tlb_lexer.proofs.StretchOf.{other_stands}
 use Rattle.tlb_lexer.proofs.scan.stretch_by.Goals as goal
 
 pub returns-in-Underscore : goal.returns-in-Underscore

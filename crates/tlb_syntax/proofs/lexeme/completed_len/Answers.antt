@@ -27,7 +27,7 @@ returns c =
     let bits = flat_map hex_bits c.args.digits.now in
     let some : ℕ → Option (List ℕ) = λ v. Some (take (4 * last + 3 - count_trailing_zeros 8 v) bits) in
     record {
-      few = omega (arith, c.if-last.false);
+      short = omega (arith, c.if-last.false);
       within = omega (arith, within);
       bits = completion c.args.digits.now last c.in_ok-last.ensures c.requires ∙ sym (ap some c.hex_value.ensures.value);
     }

@@ -126,10 +126,10 @@ judge_items-returns-clause-judged t c = items_end _ _ c.loop-item.self c.args.se
 
 pub judge_inner-returns-in_err-judge_items-clause-judged : goal.judge_inner-returns-in_err-judge_items-clause-judged
 judge_inner-returns-in_err-judge_items-clause-judged t c =
-    judges_err _ _ _ _ c.from_residual.ensures.1 (inner_judged c.args.self.now c.len-bindings.result (items c.args.list.now) (path_by c.judge_items.new.self) (Err c.in_err-judge_items.field-0.0) c.len-bindings.ensures c.in_err-judge_items.ensures.judged)
+    judges_err _ _ _ _ c.from_residual.ensures.1 (inner_judged c.args.self.now c.len-bindings.result c.no_inputs-self.result (items c.args.list.now) (path_by c.judge_items.new.self) (Err c.in_err-judge_items.field-0.0) c.len-bindings.ensures c.no_inputs-self.ensures c.in_err-judge_items.ensures.judged)
 
 pub judge_inner-returns-clause-judged : goal.judge_inner-returns-clause-judged
-judge_inner-returns-clause-judged t c = inner_judged c.args.self.now c.len-bindings.result (items c.args.list.now) (path_by c.args.self.now) (Ok tt) c.len-bindings.ensures c.in_ok-judge_items.ensures.judged
+judge_inner-returns-clause-judged t c = inner_judged c.args.self.now c.len-bindings.result c.no_inputs-self.result (items c.args.list.now) (path_by c.args.self.now) (Ok tt) c.len-bindings.ensures c.no_inputs-self.ensures c.in_ok-judge_items.ensures.judged
 
 pub judge_item-returns-in-Implicit-clause-kept : goal.judge_item-returns-in-Implicit-clause-kept
 judge_item-returns-in-Implicit-clause-kept t c =

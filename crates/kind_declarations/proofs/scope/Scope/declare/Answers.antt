@@ -8,7 +8,7 @@ use Rattle.kind_declarations.proofs.scope.Scope.declare.Goals as goal
 pub returns-clause-scope : goal.returns-clause-scope
 returns-clause-scope c =
     let s = c.args.self.now in
-    added_scope (map constructor s.types.now) s.bindings c.add_binding.new.bindings s.around (words s.known) (words c.add_known.new.known)
+    added_scope (map constructor s.types.now) s.bindings c.add_binding.new.bindings s.around (words s.inputs.now) (words s.known) (words c.add_known.new.known)
     (item c.args.item.now) c.requires c.in_ok-add_binding.ensures c.in_ok-add_known.ensures.names
 
 pub returns-clause-follows : goal.returns-clause-follows

@@ -4,7 +4,7 @@ use Rattle.std.specs.Option.{IsSome}
 use Rattle.tlb_syntax.specs.Lexeme.{Lexeme, lexeme, tag}
 use Rattle.tlb_syntax.specs.Grammar.{Count, Bounds}
 use Rattle.tlb_syntax.specs.Tags.{bits_of}
-use Rattle.syntax_check.specs.declared.machine.Mode.TheVariants.{Headed, Items}
+use Rattle.syntax_check.specs.declared.machine.ParserState.TheVariants.{Headed, Items}
 use Rattle.syntax_check.specs.declared.machine.Cause.TheVariants.{Syntax}
 use Rattle.syntax_check.specs.declared.machine.Frame.{Frame}
 use Rattle.syntax_check.specs.Machine.{at, step_mode}

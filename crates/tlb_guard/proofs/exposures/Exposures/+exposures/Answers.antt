@@ -5,7 +5,8 @@ use Rattle.tlb_syntax.specs.declared.tree.Constructor.{Constructor}
 use Rattle.kind_terms.specs.SumLaws.{of_sum}
 use Rattle.tlb_syntax.specs.View.{expr, exprs}
 use Rattle.tlb_guard.specs.declared.exposures.Exposures.{Exposures}
-use Rattle.tlb_guard.specs.Empty.{is_variable, may_be_empty}
+use Rattle.tlb_guard.specs.Empty.{may_be_empty}
+use Rattle.tlb_guard.specs.NameLaws.{is_variable}
 use Rattle.tlb_guard.specs.Exposed.{terms_of_arguments, terms_of}
 use Rattle.tlb_guard.specs.Facts.{holds}
 use Rattle.tlb_guard.specs.Numbering.{parameter_at, place_of, types_in, views, width, word_at}

@@ -1,8 +1,0 @@
-use Rattle.tlb_grammar.proofs.Whole.{read_at}
-use Rattle.tlb_grammar.proofs.build.behind.Goals as goal
-
-pub lexeme_at-requires : goal.lexeme_at-requires
-lexeme_at-requires c = (read_at c.args.text.now c.args.tokens.now c.tokens.token-index _ c.tokens-test.true c.requires).within
-
-pub step-requires : goal.step-requires
-step-requires c = c.lexeme_at.ensures.spelled (read_at c.args.text.now c.args.tokens.now c.tokens.token-index _ c.tokens-test.true c.requires).spelled

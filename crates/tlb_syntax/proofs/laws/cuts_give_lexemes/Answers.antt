@@ -1,5 +1,0 @@
-use Rattle.tlb_syntax.proofs.OfText.{of_text}
-use Rattle.tlb_syntax.proofs.laws.cuts_give_lexemes.Goals as goal
-
-pub returns : goal.returns
-returns c = of_text
