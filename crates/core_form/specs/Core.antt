@@ -93,6 +93,10 @@ CoreSchema = List Declaration
 
 -- ---- parts
 
+-- the slot of what has no meaning: no constructor has it, so it is never set
+abbrev pub no_slot : ℕ
+no_slot = 4294967295
+
 abbrev pub no_condition : Option Condition
 no_condition = None
 

@@ -4,3 +4,7 @@ pub mod Scope
 pub mod Closing
 pub mod Fit
 pub mod Determined
+pub mod Plain
+pub mod Bounds
+pub mod Laws
+pub mod FitLaws

@@ -11,29 +11,30 @@ use Rattle.tlb_syntax.specs.Tree.{nat32, bits, below, up_to, plus, star, out, re
 use Rattle.tlb_syntax.specs.Tree.{when_bit, implicit, check, explicit, no_items, an_item}
 use Rattle.kind_terms.specs.declared.kind.TermKind.{TermKind}
 use Rattle.kind_terms.specs.declared.kind.TermKind.TheVariants.{NumberIn, TypeIn, NumberOut, NoKind}
+use Rattle.kind_terms.specs.declared.words.Family.{Family}
+use Rattle.kind_terms.specs.declared.words.Family.TheVariants.{Uint, Int, Bits}
 use Rattle.kind_terms.specs.Words.{Word}
 use Rattle.kind_terms.specs.Params.{bare_name, kinds}
 use Rattle.kind_terms.specs.Forms.{is_field_of_numbers, out_name}
-use Rattle.kind_terms.specs.Sought.{sought}
 use Rattle.kind_terms.specs.Positions.{shown, is_unnamed}
-use Rattle.core_form.specs.Core.{Ty, Args, Item, Items, Input, Parameter, Constructor, Condition, no_condition}
+use Rattle.core_form.specs.Core.{Ty, Args, Item, Items, Input, Parameter, Constructor, Condition, no_condition, no_slot}
 use Rattle.core_form.specs.Core as core
-use Rattle.schema_core.specs.Names.{Names, Variable, a_number, a_type, other, Family, uints, ints, bit_strings, TypeName}
+use Rattle.schema_core.specs.Names.{Names, Variable, a_number, a_type, other, TypeName}
 use Rattle.schema_core.specs.Names.{no_type, type_word, anything, family, family_of, hashmap_type, hashmap_e_type, declared}
 use Rattle.schema_core.specs.Names.{declares, meaning, type_called, declared_kinds}
 use Rattle.schema_core.specs.Slots.{field_slots, next_slot, slots_in}
-use Rattle.schema_core.specs.Numbers.{number_of, side_of, first_number, named_number, no_number}
+use Rattle.schema_core.specs.Numbers.{number_of, side_of, first_number, named_number, no_number, unknown_by}
 
 -- ---- types
 
--- what has no meaning as a type
+-- what has no meaning as a type: it has no closed type
 abbrev pub no_meaning : Ty
-no_meaning = core.whole
+no_meaning = core.variable no_slot
 
 abbrev pub of_family : Family → Expr → Ty
-of_family uints e = core.uint e
-of_family ints e = core.int e
-of_family bit_strings e = core.bit_str e
+of_family Uint e = core.uint e
+of_family Int e = core.int e
+of_family Bits e = core.bit_str e
 
 -- the name of a type, with its first argument as a number, its second as a type, and its arguments
 abbrev pub applied : TypeName → Word → Expr → Ty → Args → Ty
@@ -108,10 +109,14 @@ own_slot (Some x) true v = Some v
 own_slot (Some x) false v = None
 own_slot None b v = None
 
--- an equation where it seeks a variable, else a check
-abbrev pub constraint_of : Names → Option ℕ → ExprView → Op → ExprView → ℕ → Item
-constraint_of names None a op b place = core.check (number_of names a) op (number_of names b) place
-constraint_of names (Some v) a op b place = core.solve v (side_of names a) (side_of names b) place
+-- an equation with these sides where it has this unknown, else a check
+abbrev pub constraint_by : Option ℕ → Names → ExprView → Op → ExprView → ℕ → Item
+constraint_by None names a op b place = core.check (number_of names a) op (number_of names b) place
+constraint_by (Some v) names a op b place = core.solve v (side_of names a) (side_of names b) place
+
+abbrev pub constraint_of : Names → ExprView → Op → ExprView → ℕ → Item
+constraint_of names a op b place =
+    constraint_by (unknown_by op (side_of names a) (side_of names b)) names a op b place
 
 abbrev pub onto : Option Item → Items → Items
 onto None is = is
@@ -134,8 +139,7 @@ abbrev mutual
   -- what an item does, unless it is an implicit field
   pub item_of : SchemaView → Names → ℕ → ℕ → ℕ → ItemView → Option Item
   item_of types names next place unnamed (implicit x k) = None
-  item_of types names next place unnamed (check a op b) =
-      Some (constraint_of names (named_number names (sought a op b)) a op b place)
+  item_of types names next place unnamed (check a op b) = Some (constraint_of names a op b place)
   item_of types names next place unnamed (explicit x t) =
       Some (field_of types names (shown x unnamed) (own_slot x (is_field_of_numbers t) next)
       (next + field_slots x (is_field_of_numbers t)) t)

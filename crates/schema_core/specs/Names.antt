@@ -1,14 +1,18 @@
 -- What a name of a schema is where it is used: the one place where names are looked up.
 -- Source: the TON documentation on the TL-B language (built-in types, implicit and explicit fields); that a name in scope
 -- hides a type is this project's rule.
-use Rattle.std.specs.Prelude.{ℕ, Bool, true, false, List, [], ◌∷◌, Option, Some, None, codes, bytes_eq, if◌then◌else◌}
+use Rattle.std.specs.Prelude.{ℕ, Bool, true, false, List, [], ◌∷◌, Option, Some, None, bytes_eq, if◌then◌else◌}
 use Rattle.tlb_syntax.specs.declared.tree.ParamKind.{ParamKind}
 use Rattle.tlb_syntax.specs.declared.tree.ParamKind.TheVariants.{Nat, Ty}
 use Rattle.tlb_syntax.specs.Tree.{ItemView, SchemaView, implicit, check, explicit}
 use Rattle.kind_terms.specs.declared.kind.TermKind.{TermKind}
-use Rattle.kind_terms.specs.Words.{Word, is_among, width_in}
-use Rattle.kind_terms.specs.Words as words
-use Rattle.kind_terms.specs.Dictionaries.{hashmap, hashmap_e, hashmap_node, of_type}
+use Rattle.kind_terms.specs.declared.words.Family.{Family}
+use Rattle.kind_terms.specs.declared.words.WordClass.{WordClass}
+use Rattle.kind_terms.specs.declared.words.WordClass.TheVariants.{TypeWord, Any, Cell, Sized, Numbered, Hashmap}
+use Rattle.kind_terms.specs.declared.words.WordClass.TheVariants.{HashmapE, HashmapNode, Free}
+use Rattle.kind_terms.specs.Words.{Word, width_in}
+use Rattle.kind_terms.specs.Classes.{word_class}
+use Rattle.kind_terms.specs.Dictionaries.{of_type}
 use Rattle.kind_terms.specs.Params.{kinds}
 use Rattle.kind_terms.specs.Forms.{is_field_of_numbers}
 
@@ -56,11 +60,7 @@ number_called names x = number_slot (meaning names x)
 
 -- ---- names of types
 
-pub data Family : Type 0 where
-  uints : Family
-  ints : Family
-  bit_strings : Family
-
+-- what a name may be as a type
 pub data TypeName : Type 0 where
   no_type : TypeName
   -- the word Type, which is no type by itself
@@ -81,25 +81,26 @@ abbrev pub declared_by : SchemaView → TypeName
 declared_by [] = no_type
 declared_by (c ∷ cs) = declared (kinds c)
 
-abbrev pub by_width : Option ℕ → Family → TypeName → TypeName
-by_width (Some n) f rest = family_of f n
-by_width None f rest = rest
+-- a width of a name, which is there where its class says so
+abbrev pub width_or_0 : Option ℕ → ℕ
+width_or_0 (Some n) = n
+width_or_0 None = 0
+
+-- what a name of this class is as a type
+abbrev pub type_by : SchemaView → Word → WordClass → TypeName
+type_by types x TypeWord = type_word
+type_by types x Any = anything
+type_by types x Cell = anything
+type_by types x (Sized f) = family f
+type_by types x (Numbered f) = family_of f (width_or_0 (width_in f x))
+type_by types x Hashmap = hashmap_type
+type_by types x HashmapE = hashmap_e_type
+type_by types x HashmapNode = no_type
+type_by types x Free = declared_by (of_type types x)
 
 -- what a name is as a type
-unfoldable pub type_called : SchemaView → Word → TypeName
-type_called types x =
-    if bytes_eq x (codes "Type") then type_word
-    else if is_among (codes "Any" ∷ codes "Cell" ∷ []) x then anything
-    else if bytes_eq x (codes "uint") then family uints
-    else if bytes_eq x (codes "int") then family ints
-    else if bytes_eq x (codes "bits") then family bit_strings
-    else by_width (width_in words.uint x) uints
-    (by_width (width_in words.int x) ints
-    (by_width (width_in words.bits x) bit_strings
-    (if bytes_eq x hashmap then hashmap_type
-    else if bytes_eq x hashmap_e then hashmap_e_type
-    else if bytes_eq x hashmap_node then no_type
-    else declared_by (of_type types x))))
+abbrev pub type_called : SchemaView → Word → TypeName
+type_called types x = type_by types x (word_class x)
 
 -- the kinds of the parameters of a declared type
 abbrev pub declared_kinds : TypeName → List TermKind

@@ -1,6 +1,8 @@
 -- Numbers of a schema, with slots for names.
 -- Source: the TON documentation on the TL-B language (naturals in types, `{a = b}` and `~`).
-use Rattle.std.specs.Prelude.{ℕ, Option, Some, None}
+use Rattle.std.specs.Prelude.{ℕ, List, [], ◌∷◌, ◌++◌, Option, Some, None, if◌then◌else◌}
+use Rattle.nat_solver.specs.declared.compare.Op.{Op}
+use Rattle.nat_solver.specs.declared.compare.Op.TheVariants.{Eq, Lt, Le, Gt, Ge}
 use Rattle.nat_solver.specs.Number.{Expr}
 use Rattle.nat_solver.specs.Number as num
 use Rattle.tlb_syntax.specs.Tree.{ExprView, ExprList, lit, named, nat32, bits, below, up_to, plus, star, out, ref, group}
@@ -8,11 +10,12 @@ use Rattle.tlb_syntax.specs.Tree.{no_exprs, an_expr}
 use Rattle.kind_terms.specs.Words.{Word}
 use Rattle.kind_terms.specs.Closed.{closed}
 use Rattle.kind_terms.specs.Params.{bare_name}
+use Rattle.core_form.specs.Core.{no_slot}
 use Rattle.schema_core.specs.Names.{Names, number_called}
 
--- what has no meaning as a number
+-- what has no meaning as a number: it has no value
 abbrev pub no_number : Expr
-no_number = num.lit 0
+no_number = num.var no_slot
 
 -- a product of a number without variables and another number
 abbrev pub product : Option ℕ → Option ℕ → Expr → Expr → Expr
@@ -61,6 +64,29 @@ side_of names (below es) = no_number
 side_of names (up_to es) = no_number
 side_of names (ref e) = no_number
 side_of names (group is) = no_number
+
+-- ---- the unknown of an equation
+
+abbrev pub only_one : List ℕ → Option ℕ
+only_one [] = None
+only_one (v ∷ []) = Some v
+only_one (v ∷ w ∷ vs) = None
+
+-- the unknown of two sides, where there is one, which stands there once and not under a factor 0
+abbrev pub unknown_of : Expr → Expr → Option ℕ
+unknown_of left right =
+    if num.is_empty (num.cancelled left ++ num.cancelled right) then only_one (num.unknowns left ++ num.unknowns right)
+    else None
+
+-- of a constraint, which has one where it is an equation
+abbrev pub unknown_by : Op → Expr → Expr → Option ℕ
+unknown_by Eq left right = unknown_of left right
+unknown_by Lt left right = None
+unknown_by Le left right = None
+unknown_by Gt left right = None
+unknown_by Ge left right = None
+
+-- ---- arguments
 
 -- the number of a basic type
 abbrev pub first_number : Names → ExprList → Expr
