@@ -13,8 +13,8 @@ use Rattle.tlb_guard.specs.Cycles.{is_edge, back_rules, is_reached, is_on_cycle,
 use Rattle.tlb_guard.specs.Laws.{ReachedWithinTypeCount}
 use Rattle.schema_leads.specs.Tags.{cores}
 use Rattle.schema_leads.specs.Leads.{type_count}
-use Rattle.schema_leads.specs.FirstFields.{IsDeclared, BeginsWithType, Chain, IsGuarded}
-use Rattle.schema_leads.specs.Laws.{FirstIsExposed, NoLongChain}
+use Rattle.schema_leads.specs.FirstFields.{IsDeclared, BeginsWithType, Chain, LeadsTo, IsGuarded}
+use Rattle.schema_leads.specs.Laws.{FirstIsExposed, NoCycle, NoLongChain}
 use Rattle.schema_leads.proofs.Words.{same_word, self_word, words_equiv, among_distinct, any_among}
 use Rattle.schema_leads.proofs.Declarations.{core_types, any_of_type}
 
@@ -77,10 +77,10 @@ pub record IsEdge (s : SchemaView) (x y : Word) : Type 0 where
 edge_by : FirstIsExposed → (s : SchemaView) (x y : Word) → IsGuarded s → BeginsWithType (cores s) x y → IsEdge s x y
 unfolding first_unguarded
 edge_by exposed s x y ok b =
-    let r = exposed s x y ok b in
+    let r = exposed s x y b in
     let c = r.0 in
     let is : bytes_eq c.result x ≡ true = ap (λ w. bytes_eq w x) r.3 ∙ self_word x in
-    let item = no_first (known s) 0 s ok.guarded r.1 c r.2 in
+    let item = no_first (known s) 0 s ok r.1 c r.2 in
     let none = none_found (λ (e : Exposed). leads_back (known s) c.result e.term) (exposed_by (known s) c) item in
     let off = off_cycle (known s) c.result y (exposed_by (known s) c) none r.4 in
     let P : Word → Type 0 = λ w. is_on_cycle (known s) w y ≡ false in
@@ -144,6 +144,17 @@ reaches exposed s ok (suc n) x c z h = elim (or_cases (bytes_eq z x) (is_among (
   | inl e ↦ reached_self s x z e
   | inr e ↦ reached_by exposed s ok x c.0 z c.1 (reaches exposed s ok n c.0 c.2 z e)
 ]
+
+-- what leads to a type reaches it
+leads_reach : FirstIsExposed → (s : SchemaView) → IsGuarded s → (n : ℕ) (x y : Word) → LeadsTo (cores s) n x y → IsReached s x y
+leads_reach exposed s ok zero x y same = reached_self s x y (ap (bytes_eq y) same ∙ self_word y)
+leads_reach exposed s ok (suc n) x y way = reached_by exposed s ok x way.0 y way.1 (leads_reach exposed s ok n way.0 y way.2)
+
+pub no_cycle : FirstIsExposed → ReachedWithinTypeCount → NoCycle
+no_cycle exposed within s n x y ok way back =
+    let r = leads_reach exposed s ok n x y way in
+    let edge = edge_by exposed s y x ok back in
+    both_ways (is_on_cycle (known s) y x) edge.off_cycle (within (known s) r.0 x y r.1)
 
 none_same : (x : Word) (xs : List Word) → is_among xs x ≡ false → AllByRecursion (λ y. bytes_eq x y ≡ false) xs
 none_same x [] e = tt

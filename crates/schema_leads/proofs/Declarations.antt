@@ -1,16 +1,15 @@
 -- The declarations of a schema and their core forms.
-use Rattle.std.proofs.Common.{◌≡◌, ℕ, zero, suc, inl, inr, Bool, true, false, List, [], ◌∷◌, ◌++◌, refl, ap, ◌∙◌, map}
-use Rattle.std.specs.Prelude.{not, cond, bytes_eq, Some, slice_get}
+use Rattle.std.proofs.Common.{◌≡◌, ℕ, zero, suc, Bool, true, false, List, [], ◌∷◌, ◌++◌, refl, ap, ◌∙◌, map}
+use Rattle.std.specs.Prelude.{cond, bytes_eq, Some, slice_get}
 use Rattle.std.specs.List.{list_any}
-use Rattle.std.proofs.lemmas.Bool.{false≢true, or_cases, or_left, or_right}
+use Rattle.std.proofs.lemmas.Bool.{false≢true, or_left, or_right}
 use Rattle.tlb_syntax.specs.Tree.{ConstructorView, SchemaView}
-use Rattle.kind_terms.specs.Words.{Word, is_among}
-use Rattle.kind_terms.specs.Dictionaries.{is_dictionary, without_dictionaries, of_type}
+use Rattle.kind_terms.specs.Words.{Word}
+use Rattle.kind_terms.specs.Dictionaries.{of_type}
 use Rattle.tlb_guard.specs.DeclaredTypes.{result_of}
 use Rattle.core_form.specs.Core.{Declaration}
 use Rattle.schema_core.specs.Cores.{declaration_of, cores_after}
 use Rattle.schema_leads.specs.Tags.{tag_of, cores}
-use Rattle.schema_leads.proofs.Words.{same_word}
 
 abbrev type_of_declaration : Declaration → Word
 type_of_declaration d = d.of_type
@@ -42,26 +41,6 @@ core_after types before (c ∷ cs) (suc i) d e =
 
 pub core_at : (s : SchemaView) (i : ℕ) (d : Declaration) → slice_get (cores s) i ≡ Some d → StandsFor s s i d
 core_at s i d e = core_after s [] s i d e
-
--- of a schema without declarations of dictionaries, no declared type is a dictionary
-at_dictionary : (x : Word) (c : ConstructorView) (cs : SchemaView)
-    → (is_among (map result_of (without_dictionaries cs)) x ≡ true → is_dictionary x ≡ false) → (b : Bool) → is_dictionary c.result ≡ b
-    → is_among (map result_of (cond (not b) (c ∷ without_dictionaries cs) (without_dictionaries cs))) x ≡ true
-    → is_dictionary x ≡ false
-at_dictionary x c cs rest true is e = rest e
-at_dictionary x c cs rest false is e =
-    elim (or_cases (bytes_eq x c.result) (is_among (map result_of (without_dictionaries cs)) x) e) [
-      | inl h ↦ ap is_dictionary (same_word x c.result h) ∙ is
-      | inr h ↦ rest h
-    ]
-
-no_dictionary : (x : Word) (s : SchemaView) → is_among (map result_of (without_dictionaries s)) x ≡ true → is_dictionary x ≡ false
-no_dictionary x [] e = absurd (false≢true e)
-no_dictionary x (c ∷ cs) e = at_dictionary x c cs (no_dictionary x cs) (is_dictionary c.result) refl e
-
-pub kept_is_no_dictionary : (s : SchemaView) (x : Word) → without_dictionaries s ≡ s → is_among (map result_of s) x ≡ true → is_dictionary x ≡ false
-kept_is_no_dictionary s x kept e =
-    no_dictionary x s (ap (λ (r : SchemaView). is_among (map result_of r) x) kept ∙ e)
 
 -- a declaration that passes a test is found among those of its type
 at_kept : (p : ConstructorView → Bool) (b : ConstructorView) (cs : SchemaView) (t : Bool) → t ≡ true → p b ≡ true → list_any p (cond t (b ∷ cs) cs) ≡ true

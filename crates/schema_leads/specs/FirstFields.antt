@@ -2,7 +2,6 @@
 -- field, and so on.
 use Rattle.std.specs.Prelude.{ℕ, zero, suc, ◌≡◌, true, [], Some, None, map, slice_get}
 use Rattle.tlb_syntax.specs.Tree.{SchemaView}
-use Rattle.kind_terms.specs.Dictionaries.{without_dictionaries}
 use Rattle.kind_terms.specs.Words.{is_among}
 use Rattle.tlb_guard.specs.Cycles.{first_unguarded}
 use Rattle.core_form.specs.Core.{Word, Declaration, CoreSchema}
@@ -26,7 +25,11 @@ abbrev pub Chain : CoreSchema → ℕ → Word → Type 0
 Chain s zero x = Unit {0}
 Chain s (suc n) x = (y : Word) × BeginsWithType s x y × Chain s n y
 
--- a schema without declarations of dictionaries, in which no type leads back to itself before anything is taken
-pub record IsGuarded (s : SchemaView) : Type 0 where
-  pub kept : without_dictionaries s ≡ s
-  pub guarded : first_unguarded s ≡ None
+-- so many types that begin with one another lead from the first type to the second
+abbrev pub LeadsTo : CoreSchema → ℕ → Word → Word → Type 0
+LeadsTo s zero x y = x ≡ y
+LeadsTo s (suc n) x y = (z : Word) × BeginsWithType s x z × LeadsTo s n z y
+
+-- no type leads back to itself before anything is taken
+abbrev pub IsGuarded : SchemaView → Type 0
+IsGuarded s = first_unguarded s ≡ None

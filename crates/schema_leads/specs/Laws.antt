@@ -6,19 +6,26 @@ use Rattle.tlb_guard.specs.Exposed.{Exposed, is_type, exposed_by, known}
 use Rattle.core_form.specs.Core.{Word, Declaration, CoreSchema}
 use Rattle.schema_leads.specs.Tags.{cores}
 use Rattle.schema_leads.specs.Leads.{Leads, of_declaration, together, rounds, type_count, leads}
-use Rattle.schema_leads.specs.FirstFields.{IsDeclared, BeginsWithType, Chain, IsGuarded}
+use Rattle.schema_leads.specs.FirstFields.{IsDeclared, BeginsWithType, Chain, LeadsTo, IsGuarded}
 use Rattle.schema_leads.specs.Separation.{AreSeparated, are_separated, CanEnter}
 
 -- What a type begins with by a constructor with the empty tag is exposed in the sense of the guard.
 abbrev pub FirstIsExposed : Type 0
 FirstIsExposed =
-    (s : SchemaView) (x y : Word) → IsGuarded s → BeginsWithType (cores s) x y
+    (s : SchemaView) (x y : Word) → BeginsWithType (cores s) x y
     → (c : ConstructorView) × (i : ℕ) × (slice_get s i ≡ Some c) × (c.result ≡ x)
       × (list_any (λ (e : Exposed). is_type y e.term) (exposed_by (known s) c) ≡ true)
 
--- So no chain of types that begin with one another, from a declared one on, is as long as there are types.
+-- So in a guarded schema no type begins, by one type after another, with itself.
+abbrev pub NoCycle : Type 0
+NoCycle =
+    (s : SchemaView) (n : ℕ) (x y : Word) → IsGuarded s → LeadsTo (cores s) n x y → BeginsWithType (cores s) y x → ⊥
+
+-- Nor is a chain of types that begin with one another, from a declared one on, as long as there are types.
 abbrev pub NoLongChain : Type 0
-NoLongChain = (s : SchemaView) (x : Word) → IsGuarded s → IsDeclared (cores s) x → Chain (cores s) (type_count (cores s)) x → ⊥
+NoLongChain =
+    (s : SchemaView) (x : Word) → IsGuarded s → IsDeclared (cores s) x
+    → Chain (cores s) (type_count (cores s)) x → ⊥
 
 -- No round of the leads after the last one differs.
 abbrev pub RoundsEnd : Type 0

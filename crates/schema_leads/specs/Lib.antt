@@ -3,3 +3,4 @@ pub mod Leads
 pub mod FirstFields
 pub mod Separation
 pub mod Laws
+pub mod PatternLaws

@@ -1,5 +1,5 @@
 //! What follows from the definitions alone.
-ghost use Rattle.schema_leads.specs.Laws.{FirstIsExposed, NoLongChain, RoundsEnd, OneTable};
+ghost use Rattle.schema_leads.specs.Laws.{FirstIsExposed, NoCycle, NoLongChain, RoundsEnd, OneTable};
 ghost use Rattle.schema_leads.specs.Laws.{SeparationIsDecided, SeparatedEnterOne};
 
 use tlb_guard::laws::reached_within_type_count;
@@ -8,6 +8,13 @@ use tlb_guard::laws::reached_within_type_count;
 pub fn first_is_exposed()
     ensures { FirstIsExposed }
 {}
+
+/// In a guarded schema no type begins, by one type after another, with itself.
+pub fn no_cycle()
+    ensures { NoCycle }
+{
+    reached_within_type_count();
+}
 
 /// No chain of types that begin with one another is as long as there are types.
 pub fn no_long_chain()
