@@ -1,0 +1,6 @@
+mod Places
+mod Firsts
+mod Sets
+mod Listing
+mod Entries
+mod Following

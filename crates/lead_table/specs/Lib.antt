@@ -1,0 +1,4 @@
+pub mod Heads
+pub mod Scoping
+pub mod Chains
+pub mod Tables

@@ -1,4 +1,9 @@
 //! What the leads of each constructor come from.
+ghost use Rattle.std.specs.Prelude.{◌≡◌, All, IfOk, length};
+ghost use Rattle.tlb_syntax.specs.View.{constructor as constructor_view};
+ghost use Rattle.tlb_guard.specs.Numbering.{views};
+ghost use Rattle.lead_table.specs.Heads.{AreHeads, IsHead, IsTypeBelow};
+
 use crate::first::{First, first_of};
 use crate::tag::tag_of;
 use bit_slice::BitString;
@@ -16,7 +21,9 @@ pub struct Head {
     pub first: First,
 }
 
-fn head_of(alloc: Global, types: &Types<'_>, constructor: &Constructor) -> Result<Head, NoMemory> {
+fn head_of(alloc: Global, types: &Types<'_>, constructor: &Constructor) -> Result<Head, NoMemory>
+    ensures { IfOk result (λ head. IsHead (views types.now) (constructor_view constructor.now) head) }
+{
     let of_type = types.place(&constructor.result).ok_or(NoMemory)?;
     let tag = tag_of(alloc, constructor)?;
     let first = first_of(alloc, types, constructor.items.as_slice())?;
@@ -28,7 +35,9 @@ fn head_of(alloc: Global, types: &Types<'_>, constructor: &Constructor) -> Resul
 }
 
 /// The heads of the constructors, in order.
-pub fn heads_of(alloc: Global, types: &Types<'_>) -> Result<Items<Head>, NoMemory> {
+pub fn heads_of(alloc: Global, types: &Types<'_>) -> Result<Items<Head>, NoMemory>
+    ensures { IfOk result (λ heads. AreHeads (views types.now) (views types.now) heads) }
+{
     let mut heads = Items::new(alloc);
     for constructor in types.constructors() {
         heads.push(head_of(alloc, types, constructor)?)?;

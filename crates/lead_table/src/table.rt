@@ -1,4 +1,11 @@
 //! Tags and leads of all constructors.
+ghost use Rattle.std.specs.Prelude.{◌≡◌, IfOk, map};
+ghost use Rattle.tlb_guard.specs.Numbering.{views};
+ghost use Rattle.schema_leads.specs.FirstFields.{IsGuarded};
+ghost use Rattle.lead_table.specs.Chains.{done_leads};
+ghost use Rattle.lead_table.specs.Heads.{leads_by};
+ghost use Rattle.lead_table.specs.Tables.{IsLeadTable};
+
 use crate::chain::entries;
 use crate::heads::{Head, heads_of};
 use crate::leads::{Entry, head_leads};
@@ -23,7 +30,9 @@ fn all_leads(
     alloc: Global,
     heads: &[Head],
     table: &[Entry],
-) -> Result<Items<Items<BitString>>, NoMemory> {
+) -> Result<Items<Items<BitString>>, NoMemory>
+    ensures { IfOk result (λ leads. leads ≡ map (leads_by (done_leads table.now)) heads.now) }
+{
     let mut leads = Items::new(alloc);
     for head in heads {
         leads.push(head_leads(alloc, head, table)?)?;
@@ -32,7 +41,9 @@ fn all_leads(
 }
 
 /// Of a schema in which nothing is passed over and no type leads back to itself.
-pub fn lead_table(alloc: Global, constructors: &[Constructor]) -> Result<LeadTable, NoMemory> {
+pub fn lead_table(alloc: Global, constructors: &[Constructor]) -> Result<LeadTable, NoMemory>
+    ensures { IfOk result (λ table. IsGuarded (views constructors.now) → IsLeadTable (views constructors.now) table) }
+{
     let types = Types::new(alloc, constructors)?;
     let heads = heads_of(alloc, &types)?;
     let members = members_of(alloc, heads.as_slice())?;
