@@ -342,7 +342,7 @@ same_type s c h t number is false e = go (bytes_eq c.result (word_at s t)) refl
 members_flat : (s : SchemaView) (whole : List Head) (t : ℕ) → IsNumber s t → (M : ℕ → Leads) → (cs before : SchemaView) (hs : List Head) (k : ℕ) → AreHeads s cs hs
     → ((j : ℕ) → slice_get whole (k + j) ≡ slice_get hs j)
     → ((j : ℕ) (h : Head) (c : ConstructorView) (b : SchemaView) → slice_get hs j ≡ Some h → IsHead s c h → h.of_type ≡ t
-        → leads_by M h ≡ of_declaration (type_leads (cores s)) (declaration_of s (tag_of c) b c))
+    → leads_by M h ≡ of_declaration (type_leads (cores s)) (declaration_of s (tag_of c) b c))
     → leads_of_members M whole (places t k hs) ≡ flat_map (of_declaration (type_leads (cores s))) (of_type_named (cores_after s tag_of before cs) (word_at s t))
 members_flat s whole t number M [] before [] k are at same = refl
 members_flat s whole t number M [] before (g ∷ hs) k are at same = absurd are
@@ -376,7 +376,7 @@ entry_seen table h n seen none first =
 
 -- the entry that is made of the last type holds its leads
 pub done_right : NoCycle → RoundsEnd → (s : SchemaView) (hs : List Head) (members : List (List ℕ)) (chain : List ℕ) (table : List Entry) (t : ℕ) (of_t : List ℕ)
-    → IsFollowing s hs members → IsFollowed s (chain ++ t ∷ []) table → length table ≡ length hs → t < length members
+    → IsFollowing s hs members → IsFollowed s (chain ++ t ∷ []) table → length table ≡ length members → t < length members
     → slice_get members t ≡ Some of_t → All (λ i. unseen_at table (slice_get hs i) ≡ None) of_t
     → at_most_64 (with_leads [] (leads_of_members (done_leads table) hs of_t)) ≡ kept_leads s t
 unfolding together rounds
@@ -385,11 +385,11 @@ done_right no_cycle rounds_end s hs members chain table t of_t is f size within 
     let places_are : of_t ≡ places t 0 hs = (let e : Some of_t ≡ Some (places t 0 hs) = sym there ∙ is.are_members t within in cc) in
     let whole = head_count s s hs is.are_heads in
     let right = members_flat s hs t number (done_leads table) s [] hs 0 is.are_heads
-        (λ j. (let e : 0 + j ≡ j = omega arith in ap (slice_get hs) e))
-        (λ j h c b at head of_type. head_leads_are s (done_leads table) h c b head
-          (λ n none first. done_first no_cycle s hs chain table t n is.guarded f (size ∙ whole)
-            (begins_by s hs j t n h is.are_heads at of_type none first)
-            (entry_seen table h n (seen_there j h at of_type) none first))) in
+    (λ j. (let e : 0 + j ≡ j = omega arith in ap (slice_get hs) e))
+    (λ j h c b at head of_type. head_leads_are s (done_leads table) h c b head
+    (λ n none first. done_first no_cycle s hs chain table t n is.guarded f (size ∙ is.size ∙ whole)
+    (begins_by s hs j t n h is.are_heads at of_type none first)
+    (entry_seen table h n (seen_there j h at of_type) none first))) in
     let rounds_same = rounds_end s (suc (type_count (cores s))) (word_at s t) is.guarded (omega arith) in
     ap (λ ms. at_most_64 (with_leads [] (leads_of_members (done_leads table) hs ms))) places_are
     ∙ ap (λ ls. at_most_64 (with_leads [] ls)) right ∙ ap at_most_64 rounds_same
@@ -404,3 +404,84 @@ done_right no_cycle rounds_end s hs members chain table t of_t is f size within 
         let below = slice_get_within of_t k j member in
         let got : get_or of_t k 0 ≡ j = (let same : Some (get_or of_t k 0) ≡ Some j = sym (slice_get-get_or of_t k 0 below) ∙ member in cc) in
         ap (unseen_at table) (sym at) ∙ ap (λ i. unseen_at table (slice_get hs i)) (sym got) ∙ seen k 0 below
+
+-- the members of a type as the code has them
+pub members_at : (hs : List Head) (members : List (List ℕ)) (t : ℕ) (m of_t : List ℕ) → AreMembers hs members → t < length members → m ≡ get_or members t m → of_t ≡ m
+    → (of_t ≡ places t 0 hs) × (slice_get members t ≡ Some of_t)
+members_at hs members t m of_t are within at is =
+    let there : slice_get members t ≡ Some of_t = slice_get-get_or members t m within ∙ ap Some (sym at ∙ sym is) in
+    let both : Some of_t ≡ Some (places t 0 hs) = sym there ∙ are t within in
+    (cc, there)
+
+pub all_and : (P : ℕ → Type 0) (xs : List ℕ) (x : ℕ) → All P xs → P x → All P (xs ++ x ∷ [])
+all_and P [] x all here zero d lt = here
+all_and P [] x all here (suc k) d lt = absurd (omega (arith, lt))
+all_and P (y ∷ xs) x all here zero d lt = all 0 d (omega arith)
+all_and P (y ∷ xs) x all here (suc k) d lt = all_and P xs x (λ j e below. all (suc j) e (omega (arith, below))) here k d (omega (arith, lt))
+
+pub all_front : (P : ℕ → Type 0) (xs : List ℕ) (x : ℕ) → All P (xs ++ x ∷ []) → All P xs
+all_front P [] x all k d lt = absurd (omega (arith, lt))
+all_front P (y ∷ xs) x all zero d lt = all 0 d (omega arith)
+all_front P (y ∷ xs) x all (suc k) d lt = all_front P xs x (λ j e below. all (suc j) e (omega (arith, below))) k d (omega (arith, lt))
+
+-- a head's type stands by its number
+pub head_number : (s : SchemaView) (hs : List Head) (i : ℕ) (h : Head) → AreHeads s s hs → slice_get hs i ≡ Some h → IsNumber s h.of_type
+head_number s hs i h are there =
+    let at = head_at s s hs i h are there in
+    place_number s at.of.result h.of_type at.is_head.of_type
+
+word_there : (s : SchemaView) (n : ℕ) (c : ConstructorView) → slice_get s n ≡ Some c → c.result ≡ word_at s n
+word_there [] n c is = cc
+word_there (d ∷ cs) zero c is = let same : d ≡ c = cc in ap (λ (z : ConstructorView). z.result) (sym same)
+word_there (d ∷ cs) (suc n) c is = word_there cs n c is
+
+-- ---- the whole table
+
+-- a type that is seen is done where nothing is open
+pub seen_done : (s : SchemaView) (table : List Entry) (n : ℕ) → IsSettled s table → IsSeen table n → n < length table → IsDone s table n
+seen_done s table n settled seen lt = at (slice_get table n) refl seen
+  where
+    at : (o : Option Entry) → slice_get table n ≡ o → is_unseen o ≡ false → o ≡ Some (Done (kept_leads s n))
+    at None is seen = let clash : None ≡ Some (get_or table n Unseen) = sym is ∙ slice_get-get_or table n Unseen lt in cc
+    at (Some Unseen) is seen = absurd (true≢false seen)
+    at (Some Open) is seen = absurd (settled.none_open n is)
+    at (Some (Done ls)) is seen = ap (λ ks. Some (Done ks)) (settled.done n ls is)
+
+-- with each type done the heads have the leads of their constructors
+pub all_right : (s : SchemaView) (table : List Entry) (cs before : SchemaView) (hs : List Head) → AreHeads s cs hs → ((n : ℕ) → IsNumber s n → done_leads table n ≡ kept_leads s n)
+    → map (leads_by (done_leads table)) hs ≡ map (leads (cores s)) (cores_after s tag_of before cs)
+unfolding leads
+all_right s table [] before [] are done = refl
+all_right s table [] before (g ∷ hs) are done = absurd are
+all_right s table (c ∷ cs) before [] are done = absurd are
+all_right s table (c ∷ cs) before (h ∷ hs) are done =
+    let N : ProgramFirst → Type 0 = λ f. IsNumbered s f in
+    let first = head_leads_are s (done_leads table) h c before are.0 (λ n none is. done n (subst N is are.0.first.numbered)) in
+    let rest = all_right s table cs (before ++ c ∷ []) hs are.1 done in
+    rw (first, rest) refl
+
+-- the head at the number of a type is one of that type
+pub number_head : (s : SchemaView) (hs : List Head) (n : ℕ) → AreHeads s s hs → IsNumber s n → (h : Head) × (slice_get hs n ≡ Some h) × (h.of_type ≡ n)
+number_head s hs n are number =
+    let placed = place_word s (word_at s n) n number in
+    let below : n < length hs = omega (arith, placed.below, head_count s s hs are) in
+    let h = get_or hs n (record { of_type = 0; tag = []; first = Anything }) in
+    let there = slice_get-get_or hs n (record { of_type = 0; tag = []; first = Anything }) below in
+    let at = head_at s s hs n h are there in
+    let word : at.of.result ≡ word_at s n = word_there s n at.of at.there in
+    let both : Some h.of_type ≡ Some n = sym at.is_head.of_type ∙ ap (place_of s) word ∙ number in
+    (h, there, (let same : h.of_type ≡ n = cc in same))
+
+-- so each declared type is done
+pub all_done : (s : SchemaView) (hs : List Head) (table : List Entry) → AreHeads s s hs → All (λ (h : Head). IsDone s table h.of_type) hs → (n : ℕ) → IsNumber s n
+    → done_leads table n ≡ kept_leads s n
+all_done s hs table are done n number =
+    let r = number_head s hs n are number in
+    let below = slice_get_within hs n r.0 r.1 in
+    let at = done n r.0 below in
+    let got : Some (get_or hs n r.0) ≡ Some r.0 = sym (slice_get-get_or hs n r.0 below) ∙ r.1 in
+    let same : get_or hs n r.0 ≡ r.0 = cc in
+    let P : Head → Type 0 = λ h. IsDone s table h.of_type in
+    let here = subst P same at in
+    let Q : ℕ → Type 0 = λ k. slice_get table k ≡ Some (Done (kept_leads s k)) in
+    ap leads_in (subst Q r.2 here)

@@ -92,11 +92,12 @@ member_step hs ms new n h lt is size below are added =
     let place = ap (λ k. set ms h.of_type (get_or ms h.of_type [] ++ k ∷ [])) count in
     let e : n + 1 ≡ suc n = omega arith in
     let grown : take n hs ++ h ∷ [] ≡ take (n + 1) hs =
-        ap (λ (x : Head). take n hs ++ x ∷ []) is ∙ sym (take-suc hs n h lt) ∙ ap (λ k. take k hs) (sym e) in
+    ap (λ (x : Head). take n hs ++ x ∷ []) is ∙ sym (take-suc hs n h lt) ∙ ap (λ k. take k hs) (sym e) in
     let P : List Head → Type 0 = λ z. AreMembers z new in
-    let Q : List (List ℕ) → Type 0 = λ z. AreMembers (take n hs ++ h ∷ []) z in
-    (ap length added ∙ length-set ms h.of_type (get_or ms h.of_type [] ++ n ∷ []) ∙ size,
-     subst P grown (subst Q (place ∙ sym added) one))
+    let Q : List (List ℕ) → Type 0 = λ z. AreMembers (take n hs ++ h ∷ []) z in (
+      ap length added ∙ length-set ms h.of_type (get_or ms h.of_type [] ++ n ∷ []) ∙ size,
+      subst P grown (subst Q (place ∙ sym added) one),
+    )
 
 pub heads_step : (s : SchemaView) (xs : List Constructor) (n : ℕ) (x : Constructor) (hs new : List Head) (h : Head) → n < length xs → x ≡ get_or xs n x
     → AreHeads s (take n (map constructor xs)) hs → IsHead s (constructor x) h → new ≡ hs ++ h ∷ [] → AreHeads s (take (n + 1) (map constructor xs)) new
@@ -106,7 +107,28 @@ heads_step s xs n x hs new h lt is are head added =
     let here : get_or (map constructor xs) n (constructor x) ≡ constructor x = get_or-map constructor xs n x (constructor x) lt ∙ ap constructor (sym is) in
     let long : n < length (map constructor xs) = omega (arith, lt, length-map xs constructor) in
     let grown : take n (map constructor xs) ++ constructor x ∷ [] ≡ take (n + 1) (map constructor xs) =
-        ap (λ (z : ConstructorView). take n (map constructor xs) ++ z ∷ []) (sym here) ∙ sym (take-suc (map constructor xs) n (constructor x) long) ∙ ap (λ k. take k (map constructor xs)) (sym e) in
+    ap (λ (z : ConstructorView). take n (map constructor xs) ++ z ∷ []) (sym here) ∙ sym (take-suc (map constructor xs) n (constructor x) long) ∙ ap (λ k. take k (map constructor xs)) (sym e) in
     let P : SchemaView → Type 0 = λ z. AreHeads s z new in
     let Q : List Head → Type 0 = λ z. AreHeads s (take n (map constructor xs) ++ constructor x ∷ []) z in
     subst P grown (subst Q (sym added) one)
+
+-- the places of a type are those of heads
+pub places_below : (t k : ℕ) (hs : List Head) → All (λ i. i < k + length hs) (places t k hs)
+places_below t k [] j d lt = absurd (omega (arith, lt))
+places_below t k (h ∷ hs) j d lt = at (nat_eq h.of_type t) j lt (λ l below. places_below t (suc k) hs l d below)
+  where
+    at : (b : Bool) (j : ℕ) → j < length (cond b (k ∷ places t (suc k) hs) (places t (suc k) hs))
+        → ((l : ℕ) → l < length (places t (suc k) hs) → get_or (places t (suc k) hs) l d < suc k + length hs)
+        → get_or (cond b (k ∷ places t (suc k) hs) (places t (suc k) hs)) j d < k + suc (length hs)
+    at true zero lt rest = omega arith
+    at true (suc j) lt rest = omega (arith, rest j (omega (arith, lt)))
+    at false j lt rest = omega (arith, rest j lt)
+
+pub members_within : (hs : List Head) (members : List (List ℕ)) → AreMembers hs members → All (All (λ i. i < length hs)) members
+members_within hs members are k d lt j e below =
+    let m = get_or members k d in
+    let is : m ≡ places k 0 hs = index_or_from members k (places k 0 hs) d (are k lt) in
+    let P : List ℕ → Type 0 = λ z. All (λ i. i < length hs) z in
+    let z : 0 + length hs ≡ length hs = omega arith in
+    let Q : ℕ → Type 0 = λ n. All (λ i. i < n) (places k 0 hs) in
+    subst P (sym is) (subst Q z (places_below k 0 hs)) j e below

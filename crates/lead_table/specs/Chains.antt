@@ -73,6 +73,7 @@ pub record IsFollowing (s : SchemaView) (heads : List Head) (members : List (Lis
   pub guarded : IsGuarded s
   pub are_heads : AreHeads s s heads
   pub are_members : AreMembers heads members
+  pub size : length members ≡ length heads
 
 -- What holds of a table of types while a chain is followed.
 pub record IsFollowed (s : SchemaView) (chain : List ℕ) (table : List Entry) : Type 0 where

@@ -97,10 +97,8 @@ fn follow(
     rounds_end();
     match first_unseen(heads, members[of].as_slice(), table) {
         Some(next) => {
-            if next < table.len() {
-                chain.push(of)?;
-                open(chain, table, next)?;
-            }
+            chain.push(of)?;
+            open(chain, table, next)?;
         }
         None => {
             let leads = type_leads(alloc, heads, members[of].as_slice(), table)?;

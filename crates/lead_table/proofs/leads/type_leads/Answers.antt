@@ -13,10 +13,10 @@ returns-then-len-gt-MOST c =
     let i = get_or c.args.members.now k 0 in
     let below : i < length c.args.heads.now = c.requires k 0 c.loop-place-test.true in
     let same : c.add_leads.new.leads ≡ with_leads [] (leads_of_members M c.args.heads.now (take (k + 1) c.args.members.now)) =
-        members_step M c.args.heads.now c.args.members.now k c.index-heads-place.result c.loop-place.leads c.add_leads.new.leads _ c.loop-place-test.true below
-          c.index-heads-place.is c.loop-place.invariant.are (c.as_slice.ensures ∙ c.in_ok-more.ensures) c.in_ok-add_leads.ensures in
+    members_step M c.args.heads.now c.args.members.now k c.index-heads-place.result c.loop-place.leads c.add_leads.new.leads _ c.loop-place-test.true below
+    c.index-heads-place.is c.loop-place.invariant.are (c.as_slice.ensures ∙ c.in_ok-more.ensures) c.in_ok-add_leads.ensures in
     let many : 64 < length (with_leads [] (leads_of_members M c.args.heads.now (take (k + 1) c.args.members.now))) =
-        omega (arith, ap length same, c.len.ensures, c.if-len-gt-MOST.true) in
+    omega (arith, ap length same, c.len.ensures, c.if-len-gt-MOST.true) in
     IfOk-weaker c.any_bits.result _ _ (λ leads e. e ∙ sym (too_many M c.args.heads.now c.args.members.now (k + 1) many)) c.any_bits.ensures
 
 pub loop-place-preserved : goal.loop-place-preserved
