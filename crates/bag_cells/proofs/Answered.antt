@@ -1,12 +1,11 @@
 -- What is answered for a file.
-use Rattle.std.proofs.Common.{◌≡◌, ℕ, List, refl, arith, sym, subst, ◌∙◌}
+use Rattle.std.proofs.Common.{◌≡◌, ℕ, List, refl, sym, ◌∙◌}
 use Rattle.std.specs.Prelude.{Result, Ok, Err, Some, slice_index}
 use Rattle.cell_nodes.specs.declared.tree.Tree.{Tree}
 use Rattle.bag_cells.specs.Form.{raw_of, raw_of_hex, raw_of_base64, trimmed}
 use Rattle.bag_cells.specs.Bag.{refusal, BagHolds, BagRefused, content, IfAnswered}
-use Rattle.bag_cells.specs.Header.{root}
-use Rattle.bag_cells.specs.Unfolds.{Unfolds}
-use Rattle.bag_cells.proofs.Unfolding.{root_unfolds, unfolds_once}
+use Rattle.bag_cells.specs.BagLaws.{holds_once, refused_once, not_both}
+use Rattle.bag_cells.proofs.Unfolding.{root_unfolds}
 use Rattle.bag_cells.specs.Known.{IsAccepted}
 use Rattle.bag_cells.specs.declared.error.BagError.{BagError}
 
@@ -33,17 +32,6 @@ upper_form file first e h = let k : slice_index file 0 ≡ 66 = sym e ∙ h in r
 
 pub base64_form : (file : List ℕ) (first : ℕ) → first ≡ slice_index file 0 → first ≡ 116 → raw_of file ≡ raw_of_base64 (trimmed file)
 base64_form file first e h = let k : slice_index file 0 ≡ 116 = sym e ∙ h in rw k refl
-
-pub holds_once : (file : List ℕ) (a b : Tree) → BagHolds file a → BagHolds file b → a ≡ b
-holds_once file a b h k =
-    let same : h.raw ≡ k.raw = cc (h.form, k.form) in
-    unfolds_once k.raw (root k.raw) a b (subst (λ (raw : List ℕ). Unfolds raw (root raw) a) same h.unfolded) k.unfolded
-
-pub refused_once : (file : List ℕ) (a b : BagError) → BagRefused file a → BagRefused file b → a ≡ b
-refused_once file a b h k = grind arith
-
-pub not_both : (file : List ℕ) (t : Tree) (e : BagError) → BagHolds file t → BagRefused file e → ⊥
-not_both file t e h k = grind arith
 
 pub answers_tree : (file : List ℕ) (r : Result Tree BagError) → IfAnswered r (λ t. BagHolds file t) (λ e. BagRefused file e)
     → (t : Tree) → BagHolds file t → IfAnswered r (λ c. c ≡ t) (λ _. ⊥)

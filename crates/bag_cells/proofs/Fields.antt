@@ -10,17 +10,17 @@ use Rattle.bag_cells.specs.Written.{number_bytes, width_of, header_bytes}
 use Rattle.bag_cells.proofs.Widths.{length-number_bytes, width-fits, one_le-width}
 
 -- a number is read as it is written
-pub number_at-written : (raw front rest : List ℕ) (from w v : ℕ) → raw ≡ front ++ (number_bytes w v ++ rest) → from ≡ length front → v < 256 ^ w → number_at raw from w ≡ v
+pub number_at-written : (raw prefix rest : List ℕ) (from w v : ℕ) → raw ≡ prefix ++ (number_bytes w v ++ rest) → from ≡ length prefix → v < 256 ^ w → number_at raw from w ≡ v
 unfolding number_at number_bytes
-number_at-written raw front rest from zero v e p h = omega arith
-number_at-written raw front rest from (suc w) v e p h =
+number_at-written raw prefix rest from zero v e p h = omega arith
+number_at-written raw prefix rest from (suc w) v e p h =
     let high = number_bytes w (v / 256) in
     let l : v / 256 < 256 ^ w = omega (arith, pow-succ' 256 w) in
-    let f : raw ≡ front ++ (high ++ (v % 256 ∷ rest)) = e ∙ ap (λ (x : List ℕ). front ++ x) (append_assoc high (v % 256 ∷ []) rest) in
-    let g : raw ≡ (front ++ high) ++ (v % 256 ∷ rest) = f ∙ sym (append_assoc front high (v % 256 ∷ rest)) in
-    let i = number_at-written raw front (v % 256 ∷ rest) from w (v / 256) f p l in
-    let n : length (front ++ high) ≡ from + w = omega (arith, length-append front high, length-number_bytes w (v / 256)) in
-    let b : slice_index raw (from + w) ≡ v % 256 = ap (λ (x : List ℕ). slice_index x (from + w)) g ∙ get_or_at (front ++ high) (v % 256) rest 0 (from + w) n in
+    let f : raw ≡ prefix ++ (high ++ (v % 256 ∷ rest)) = e ∙ ap (λ (x : List ℕ). prefix ++ x) (append_assoc high (v % 256 ∷ []) rest) in
+    let g : raw ≡ (prefix ++ high) ++ (v % 256 ∷ rest) = f ∙ sym (append_assoc prefix high (v % 256 ∷ rest)) in
+    let i = number_at-written raw prefix (v % 256 ∷ rest) from w (v / 256) f p l in
+    let n : length (prefix ++ high) ≡ from + w = omega (arith, length-append prefix high, length-number_bytes w (v / 256)) in
+    let b : slice_index raw (from + w) ≡ v % 256 = ap (λ (x : List ℕ). slice_index x (from + w)) g ∙ get_or_at (prefix ++ high) (v % 256) rest 0 (from + w) n in
     omega arith
 
 -- what the header of a bag of n cells tells, with that content after it

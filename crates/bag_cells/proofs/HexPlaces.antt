@@ -10,14 +10,14 @@ use Rattle.bag_cells.specs.declared.error.BagError.{BagError}
 use Rattle.bag_cells.specs.declared.error.BagError.TheVariants.{BadHex}
 
 -- the bytes of a pair of digits and those of the rest, from what the parts gave
-joined : ℕ → ℕ → ℕ → Option ℕ → Option ℕ → Result (List ℕ) FromHexError → Result (List ℕ) FromHexError
+abbrev pub joined : ℕ → ℕ → ℕ → Option ℕ → Option ℕ → Result (List ℕ) FromHexError → Result (List ℕ) FromHexError
 joined i high low first second rest =
     (digit_or_error high i first >>= (λ h. digit_or_error low (i + 1) second >>= (λ l. Ok (h * 16 + l))))
     >>= (λ byte. rest >>= (λ bytes. Ok (byte ∷ bytes)))
 
-pairs_of : (i high low : ℕ) (rest : List ℕ)
+pub pairs_of : (i high low : ℕ) (rest : List ℕ)
     → decode_pairs i (high ∷ low ∷ rest) ≡ joined i high low (hex_digit_value high) (hex_digit_value low) (decode_pairs (i + 2) rest)
-unfolding decode_pairs joined
+unfolding decode_pairs
 pairs_of i high low rest = refl
 
 -- a text from place i of a whole is refused at its first bad byte
@@ -73,7 +73,6 @@ at_rest i high low rest v w e g h r =
 by_parts : (i high low : ℕ) (rest : List ℕ) (first second : Option ℕ) (r : Result (List ℕ) FromHexError) (e : FromHexError)
     → hex_digit_value high ≡ first → hex_digit_value low ≡ second → ((d : FromHexError) → r ≡ Err d → Refused (i + 2) rest d)
     → joined i high low first second r ≡ Err e → Refused i (high ∷ low ∷ rest) e
-unfolding joined
 by_parts i high low rest None second r e g h further k = at_high i high low rest e g (cc)
 by_parts i high low rest (Some v) None r e g h further k = at_low i high low rest v e g h (cc)
 by_parts i high low rest (Some v) (Some w) (Err d) e g h further k = at_rest i high low rest v w e g h (further e (cc))

@@ -1,24 +1,20 @@
 -- The bag that is written for a tree holds it.
-use Rattle.std.proofs.Common.{◌≡◌, ◌≢◌, ◌∙◌, ℕ, zero, suc, ◌+◌, ◌-◌, ◌*◌, ◌/◌, ◌%◌, ◌^◌, ◌<◌, ◌≤◌, Bool, true, false, List, [], ◌∷◌, ◌++◌, length, map, take, drop, reverse, slice_index, append_assoc, refl, ap, sym, subst, ⊎_elim, arith, add-one}
-use Rattle.std.specs.Prelude.{Option, Some, None, Result, Ok, slice_get, nat_lt, nat_le, max, ◌==◌, not, ◌&&◌, ◌||◌, if◌then◌else◌}
+use Rattle.std.proofs.Common.{◌≡◌, ◌≢◌, ◌∙◌, ℕ, zero, suc, ◌+◌, ◌-◌, ◌*◌, ◌%◌, ◌^◌, ◌<◌, ◌≤◌, Bool, true, false, List, [], ◌∷◌, ◌++◌, length, take, drop, reverse, slice_index, append_assoc, refl, ap, sym, subst, arith}
+use Rattle.std.specs.Prelude.{Option, Some, None, Ok, slice_get, nat_lt, nat_le, ◌==◌, ◌&&◌}
 use Rattle.std.specs.List.{flat_map}
-use Rattle.std.proofs.lemmas.Bool.{cases_eq, eq-eqb, ne_eqb, le-ltb, lt-leb}
+use Rattle.std.proofs.lemmas.Bool.{eq-eqb, ne_eqb, le-ltb, lt-leb}
 use Rattle.std.proofs.lemmas.List.{length-append, length-reverse, take_all}
-use Rattle.bit_slice.specs.Bits.{completed}
-use Rattle.bit_slice.specs.Completion.{length-completed}
 use Rattle.cell_nodes.specs.declared.tree.Kind.{Kind}
 use Rattle.cell_nodes.specs.declared.tree.Tree.{Tree, out-Tree}
 use Rattle.cell_nodes.specs.Tree.{tree_of, mask, deepest, unfolded}
 use Rattle.cell_nodes.specs.Equations.{tree_of-out}
 use Rattle.cell_nodes.specs.Good.{IsSound, IsGood}
 use Rattle.cell_nodes.specs.GoodParts.{good-sound}
-use Rattle.bag_cells.specs.First.{first_before, last_before}
 use Rattle.bag_cells.specs.Form.{raw_of}
 use Rattle.bag_cells.specs.Header.{size, cells, root, data_start, data_end, header_refusal}
-use Rattle.bag_cells.specs.Cells.{ref_count, has_stored_hashes, reported_mask, is_completed, last_byte, ref_at, cell_size, is_malformed, goes_back, refusal_at, cell_refusal, start, left_refusal}
-use Rattle.bag_cells.specs.Trees.{cell_bits, cell_kind, one, picked, node_of, node, trees, refusal_of, node_refusal, root_tree, sprawl_of, sprawl_refusal}
+use Rattle.bag_cells.specs.Cells.{ref_count, reported_mask, is_completed, last_byte, ref_at, cell_size, is_malformed, goes_back, refusal_at, cell_refusal, start}
+use Rattle.bag_cells.specs.Trees.{picked, node_of, node, trees, refusal_of, node_refusal, root_tree, sprawl_of, sprawl_refusal}
 use Rattle.bag_cells.specs.Bag.{refusal, BagHolds}
-use Rattle.bag_cells.specs.Known.{IsLater, IsCell}
 use Rattle.cell_pool.specs.Post.{stands, post}
 use Rattle.cell_pool.specs.Post.{place as place_in}
 use Rattle.cell_pool.specs.Listing.{AllStand}
@@ -27,19 +23,19 @@ use Rattle.bag_cells.proofs.Rows.{first_before-none, last_before-none}
 use Rattle.bag_cells.proofs.Refusals.{not_refused}
 use Rattle.bag_cells.proofs.Laid.{well, left_none}
 use Rattle.bag_cells.specs.Unfolds.{Unfolds}
+use Rattle.bag_cells.specs.Once.{ListsEachOnce}
 use Rattle.bag_cells.proofs.Unfolding.{root_unfolds, made_unfolds}
-use Rattle.bag_cells.proofs.Picks.{picked-more, trees-more, refusal_before}
-use Rattle.cell_pool.specs.PlaceLaws.{place-within}
+use Rattle.bag_cells.proofs.Picks.{trees-more, refusal_before}
 use Rattle.cell_pool.specs.PostLaws.{ordered-post}
 use Rattle.cell_pool.specs.PlaceLaws.{some-at, take-some, stands-at, at-place}
 use Rattle.cell_pool.specs.ReverseLaws.{place-reverse}
 use Rattle.cell_pool.specs.OnceLaws.{post-good}
 use Rattle.cell_pool.specs.GrowthLaws.{length-post}
-use Rattle.bag_cells.proofs.Widths.{width-bound, width-fits, one_le-width}
+use Rattle.bag_cells.proofs.Widths.{width-bound, width-fits}
 use Rattle.bag_cells.proofs.Fields.{HasFields, HasEnds, fields, ends}
 use Rattle.bag_cells.proofs.Completed.{last-used}
 use Rattle.bag_cells.proofs.Reread.{IsPlaced, IsReread, reread, bits-reread, kind-reread, ref-reread, size-reread, length-cell}
-use Rattle.bag_cells.proofs.Lists.{within, at-reverse, reverse-at, place-front, place-before, written-split, length-written, length-few, last-post, some-post}
+use Rattle.bag_cells.proofs.Lists.{within, at-reverse, reverse-at, place-prefix, place-before, written-split, length-written, length-few, last-post, some-post}
 
 -- the cells of the tree stand after the header
 pub record IsBag (raw : List ℕ) (t : Tree) : Type 0 where
@@ -64,7 +60,7 @@ placed-from raw t u i b s h =
     let order = reverse (post t) in
     let f = cell_bytes (size raw) order in
     record {
-      front = b.head ++ flat_map f (take i order);
+      prefix = b.head ++ flat_map f (take i order);
       rest = flat_map f (drop (suc i) order);
       bytes_are =
           b.bytes_are
@@ -124,11 +120,11 @@ before-at t u c i j h k =
     let n = length (post t) - 1 - i in
     child-before (out-Tree u).children (take n (post t)) j c ((ordered-post t).before n u (at-reverse (post t) i u h)) k
 
-stands-front : (ts : List Tree) (k : ℕ) (c : Tree) → stands (take k ts) c ≡ true → stands ts c ≡ true
-stands-front [] zero c h = absurd (cc)
-stands-front [] (suc k) c h = absurd (cc)
-stands-front (t ∷ ts) zero c h = absurd (cc)
-stands-front (t ∷ ts) (suc k) c h = stands-at (t ∷ ts) (place_in (take (suc k) (t ∷ ts)) c) c (from_front (t ∷ ts) (suc k) (place_in (take (suc k) (t ∷ ts)) c) c (at-place (take (suc k) (t ∷ ts)) c h))
+stands-prefix : (ts : List Tree) (k : ℕ) (c : Tree) → stands (take k ts) c ≡ true → stands ts c ≡ true
+stands-prefix [] zero c h = absurd (cc)
+stands-prefix [] (suc k) c h = absurd (cc)
+stands-prefix (t ∷ ts) zero c h = absurd (cc)
+stands-prefix (t ∷ ts) (suc k) c h = stands-at (t ∷ ts) (place_in (take (suc k) (t ∷ ts)) c) c (from_front (t ∷ ts) (suc k) (place_in (take (suc k) (t ∷ ts)) c) c (at-place (take (suc k) (t ∷ ts)) c h))
   where
     from_front : (ts : List Tree) (k i : ℕ) (c : Tree) → slice_get (take k ts) i ≡ Some c → slice_get ts i ≡ Some c
     from_front [] zero i c h = absurd (cc)
@@ -141,7 +137,7 @@ stands-front (t ∷ ts) (suc k) c h = stands-at (t ∷ ts) (place_in (take (suc 
 index-at : (t u c : Tree) (i j : ℕ) → slice_get (reverse (post t)) i ≡ Some u → slice_get (out-Tree u).children j ≡ Some c
     → place_in (reverse (post t)) c ≡ length (post t) - 1 - place_in (post t) c
 index-at t u c i j h k =
-    place-reverse (post t) c (ordered-post t).distinct (stands-front (post t) (length (post t) - 1 - i) c (before-at t u c i j h k))
+    place-reverse (post t) c (ordered-post t).distinct (stands-prefix (post t) (length (post t) - 1 - i) c (before-at t u c i j h k))
 
 ref-at : (raw : List ℕ) (t u c : Tree) (i j : ℕ) → IsBag raw t → slice_get (reverse (post t)) i ≡ Some u → slice_get (out-Tree u).children j ≡ Some c
     → ref_at raw (start raw i) j ≡ length (post t) - 1 - place_in (post t) c
@@ -192,8 +188,8 @@ cell-accepted raw t u i b h =
     let r = reread-at raw t u i b h in
     let s = size-reread raw place order u r in
     let f = cell_bytes (size raw) order u in
-    let n : length raw ≡ length p.front + (length f + length p.rest) =
-    ap length p.bytes_are ∙ length-append p.front (f ++ p.rest) ∙ ap (λ (x : ℕ). length p.front + x) (length-append f p.rest) in
+    let n : length raw ≡ length p.prefix + (length f + length p.rest) =
+    ap length p.bytes_are ∙ length-append p.prefix (f ++ p.rest) ∙ ap (λ (x : ℕ). length p.prefix + x) (length-append f p.rest) in
     let l = length-cell (size raw) order u in
     let few : ref_count raw place ≤ 4 = omega (arith, r.refs_are, sound.few) in
     let inside : place + cell_size raw place ≤ data_end raw = omega (arith, p.place_is, b.end_is) in
@@ -219,7 +215,7 @@ picked-at raw t u i (suc m) b h l =
     let e = ref-at raw t u c i m b h some.1 in
     let s = before-at t u c i m h some.1 in
     let p = place-before (post t) k c s in
-    let q : cells raw - 1 - ref_at raw (start raw i) m ≡ place_in (take k (post t)) c = omega (arith, b.cells_are, place-front (post t) k c s) in
+    let q : cells raw - 1 - ref_at raw (start raw i) m ≡ place_in (take k (post t)) c = omega (arith, b.cells_are, place-prefix (post t) k c s) in
     let found : slice_get (take k (post t)) (cells raw - 1 - ref_at raw (start raw i) m) ≡ Some c =
     ap (λ (x : ℕ). slice_get (take k (post t)) x) q ∙ at-place (take k (post t)) c s in
     rw (found, picked-at raw t u i m b h (omega arith)) (sym (take-some (out-Tree u).children m c some.1))
@@ -384,3 +380,6 @@ cells-unfold t u i g l h =
     ∙ at-reverse (post t) i u h in
     let same : cells raw - 1 - (n - 1 - i) ≡ i = omega (arith, b.cells_are, within (reverse (post t)) i u h, length-reverse (post t)) in
     subst (λ (j : ℕ). Unfolds raw j u) same (made_unfolds raw (n - 1 - i) u (accepted raw t b l) found)
+
+pub bag-once : (t : Tree) → IsGood t → unfolded t ≤ 262144 → ListsEachOnce (bag_of t) t
+bag-once t g l = record { count = cells-counted t g l; cell_each = λ i u h. cells-unfold t u i g l h }

@@ -17,4 +17,7 @@ pub mod Lists
 pub mod Holds
 pub mod HexPlaces
 pub mod Sized
+pub mod ByUnfolding
+pub mod FormBytes
+pub mod GoodTrees
 pub mod Ordered

@@ -1,19 +1,14 @@
 -- Places in lists of trees, in a reversed list, and in lists that are written one after the other.
-use Rattle.std.proofs.Common.{◌≡◌, ◌∙◌, ℕ, zero, suc, ◌+◌, ◌-◌, ◌*◌, ◌<◌, ◌≤◌, Bool, true, false, List, [], ◌∷◌, ◌++◌, length, map, take, drop, reverse, get_or, append_assoc, refl, ap, sym, subst, ⊎_elim, arith}
-use Rattle.std.specs.Prelude.{Option, Some, None, slice_get, not, cond}
+use Rattle.std.proofs.Common.{◌≡◌, ◌∙◌, ℕ, zero, suc, ◌+◌, ◌-◌, ◌*◌, ◌<◌, ◌≤◌, true, List, [], ◌∷◌, ◌++◌, length, map, take, drop, reverse, get_or, append_assoc, refl, ap, sym, arith}
+use Rattle.std.specs.Prelude.{Some, slice_get}
 use Rattle.std.specs.List.{flat_map}
-use Rattle.std.proofs.lemmas.Bool.{cases_Bool}
-use Rattle.std.proofs.lemmas.List.{length-append, length-reverse, length-take-le, get_or-reverse, take-append-drop}
+use Rattle.std.proofs.lemmas.List.{length-append, length-reverse, get_or-reverse, take-append-drop}
 use Rattle.std.proofs.lemmas.List.Concat.{flat_map-append}
 use Rattle.cell_nodes.specs.declared.tree.Tree.{Tree, out-Tree}
-use Rattle.cell_nodes.specs.Tree.{total, unfolded}
-use Rattle.cell_nodes.specs.Equations.{unfolded-out}
-use Rattle.cell_pool.specs.Post.{stands, place, without, joined, post}
-use Rattle.cell_pool.specs.Listing.{added, added_all}
-use Rattle.cell_pool.specs.SameLaws.{EachOf, tree_induction}
+use Rattle.cell_pool.specs.Post.{stands, place, joined, post}
 use Rattle.cell_pool.specs.PlaceLaws.{place-within, place-append_left}
-use Rattle.cell_pool.specs.PostLaws.{post-out, stands-post}
-use Rattle.cell_pool.specs.PlaceLaws.{some-at, take-some, stands-at}
+use Rattle.cell_pool.specs.PostLaws.{post-out}
+use Rattle.cell_pool.specs.PlaceLaws.{take-some}
 
 at-get_or : (ts : List Tree) (i : ℕ) (t : Tree) → slice_get ts i ≡ Some t → get_or ts i t ≡ t
 at-get_or [] i t h = absurd (cc)
@@ -46,8 +41,8 @@ reverse-at ts k t h =
     get_or-at (reverse ts) i t (omega (arith, length-reverse ts)) ∙ ap (λ (u : Tree). Some u) e
 
 -- the place of a tree among the first ones
-pub place-front : (ts : List Tree) (k : ℕ) (t : Tree) → stands (take k ts) t ≡ true → place ts t ≡ place (take k ts) t
-place-front ts k t h = ap (λ (l : List Tree). place l t) (sym (take-append-drop k ts)) ∙ place-append_left (take k ts) (drop k ts) t h
+pub place-prefix : (ts : List Tree) (k : ℕ) (t : Tree) → stands (take k ts) t ≡ true → place ts t ≡ place (take k ts) t
+place-prefix ts k t h = ap (λ (l : List Tree). place l t) (sym (take-append-drop k ts)) ∙ place-append_left (take k ts) (drop k ts) t h
 
 pub length-take-most : (ts : List Tree) (k : ℕ) → length (take k ts) ≤ k
 length-take-most [] zero = omega arith
@@ -56,7 +51,7 @@ length-take-most (t ∷ ts) zero = omega arith
 length-take-most (t ∷ ts) (suc k) = omega (arith, length-take-most ts k)
 
 pub place-before : (ts : List Tree) (k : ℕ) (t : Tree) → stands (take k ts) t ≡ true → place ts t < k
-place-before ts k t h = omega (arith, place-front ts k t h, place-within (take k ts) t h, length-take-most ts k)
+place-before ts k t h = omega (arith, place-prefix ts k t h, place-within (take k ts) t h, length-take-most ts k)
 
 -- ---- lists that are written one after the other
 
@@ -82,9 +77,9 @@ length-few f most (t ∷ ts) h =
 -- the tree itself is the last
 pub last-post : (t : Tree) → slice_get (post t) (length (post t) - 1) ≡ Some t
 last-post t =
-    let front = joined [] (map post (out-Tree t).children) in
-    let e : length (front ++ t ∷ []) - 1 ≡ length front = omega (arith, length-append front (t ∷ [])) in
-    ap (λ (l : List Tree). slice_get l (length l - 1)) (post-out t) ∙ ap (λ (n : ℕ). slice_get (front ++ t ∷ []) n) e ∙ at_end front t
+    let prefix = joined [] (map post (out-Tree t).children) in
+    let e : length (prefix ++ t ∷ []) - 1 ≡ length prefix = omega (arith, length-append prefix (t ∷ [])) in
+    ap (λ (l : List Tree). slice_get l (length l - 1)) (post-out t) ∙ ap (λ (n : ℕ). slice_get (prefix ++ t ∷ []) n) e ∙ at_end prefix t
   where
     at_end : (xs : List Tree) (t : Tree) → slice_get (xs ++ t ∷ []) (length xs) ≡ Some t
     at_end [] t = refl

@@ -42,16 +42,15 @@ one-length i reported None h = absurd (cc)
 one-length i reported (Some t) h = refl
 
 -- each of the last n cells has a tree
-pub trees-length : (raw : List ℕ) (n : ℕ) → n ≤ cells raw → ((j : ℕ) → j < cells raw → node_refusal raw j ≡ None) → length (trees raw n) ≡ n
+pub trees-length : (raw : List ℕ) (n : ℕ) → n ≤ cells raw → ((j : ℕ) → cells raw ≤ j + n → j < cells raw → node_refusal raw j ≡ None) → length (trees raw n) ≡ n
 unfolding trees
 trees-length raw zero h each = refl
 trees-length raw (suc n) h each =
     let i = cells raw - 1 - n in
     let whole : i + 1 + n ≡ cells raw = omega arith in
-    let inside : i < cells raw = omega arith in
-    let found = sym (refusal_before raw i n whole) ∙ each i inside in
+    let found = sym (refusal_before raw i n whole) ∙ each i (omega arith) (omega arith) in
     let last = one-length i (reported_mask raw (start raw i)) (node raw (start raw i) (trees raw n)) found in
-    omega (arith, trees-length raw n (omega arith) each, last, length-append (trees raw n) (one (node raw (start raw i) (trees raw n))))
+    omega (arith, trees-length raw n (omega arith) (λ j l m. each j (omega arith) m), last, length-append (trees raw n) (one (node raw (start raw i) (trees raw n))))
 
 le_false : (m n : ℕ) → nat_le m n ≡ false → n < m
 le_false m n h = grind (arith, nat_tests)
@@ -97,6 +96,16 @@ cell_refusals-none raw h =
     h in
     none_first (first_before (cell_refusal raw) (cells raw))
     (first_of (left_refusal raw ∷ last_before (node_refusal raw) (cells raw) ∷ sprawl_refusal raw ∷ [])) h1
+
+pub left_refusal-none : (raw : List ℕ) → refusal raw ≡ None → left_refusal raw ≡ None
+unfolding refusal
+left_refusal-none raw h =
+    let trees = first_of (last_before (node_refusal raw) (cells raw) ∷ sprawl_refusal raw ∷ []) in
+    let left = first_of (left_refusal raw ∷ last_before (node_refusal raw) (cells raw) ∷ sprawl_refusal raw ∷ []) in
+    let each =
+    first_of
+    (first_before (cell_refusal raw) (cells raw) ∷ left_refusal raw ∷ last_before (node_refusal raw) (cells raw) ∷ sprawl_refusal raw ∷ []) in
+    none_first (left_refusal raw) trees (none_second (first_before (cell_refusal raw) (cells raw)) left (none_second (header_refusal raw) each h))
 
 pub there : (xs : List Tree) (i : ℕ) → i < length xs → (t : Tree) × (slice_get xs i ≡ Some t)
 there [] i h = absurd (omega arith)

@@ -1,19 +1,18 @@
 -- The nodes of a pool in the order of a bag, and their places.
-use Rattle.std.proofs.Common.{◌≡◌, ◌∙◌, ◌≢◌, ℕ, zero, suc, ◌+◌, ◌-◌, ◌<◌, ◌≤◌, Bool, true, List, [], ◌∷◌, ◌++◌, length, map, take, reverse, get_or, set, get_or-set_same, get_or-set_other, add-one, refl, ap, sym, subst, ⊎_elim, arith}
+use Rattle.std.proofs.Common.{◌≡◌, ◌∙◌, ◌≢◌, ℕ, zero, suc, ◌+◌, ◌-◌, ◌<◌, ◌≤◌, true, List, [], ◌∷◌, ◌++◌, length, map, take, reverse, get_or, set, get_or-set_same, get_or-set_other, add-one, refl, ap, sym, subst, ⊎_elim, arith}
 use Rattle.std.specs.Prelude.{Some, slice_get}
 use Rattle.std.specs.List.{All, flat_map}
 use Rattle.std.proofs.lemmas.Bool.{cases_lt}
 use Rattle.std.proofs.lemmas.List.{length-map, length-reverse, append-nil}
 use Rattle.std.proofs.lemmas.List.Concat.{flat_map-append}
 use Rattle.std.proofs.lemmas.List.Elements.{All-nil, All-cons, All-head, All-tail}
-use Rattle.cell_nodes.specs.declared.tree.Kind.TheVariants.{Ordinary}
 use Rattle.cell_nodes.specs.declared.tree.Tree.{Tree, out-Tree}
-use Rattle.cell_nodes.specs.Tree.{tree_of, unfolded}
+use Rattle.cell_nodes.specs.Tree.{unfolded}
 use Rattle.cell_pool.specs.Post.{stands, place, post}
-use Rattle.cell_pool.specs.Listing.{AllStand, IsClosed, IsDistinct, IsOrdered}
+use Rattle.cell_pool.specs.Listing.{AllStand, IsClosed, IsDistinct}
 use Rattle.cell_pool.specs.Nodes.{AllSmall}
 use Rattle.cell_pool.specs.Visited.{tree_at, trees_at}
-use Rattle.cell_pool.specs.PlaceLaws.{stands-at, at-place, place-at, place-within, take-some}
+use Rattle.cell_pool.specs.PlaceLaws.{stands-at, at-place, place-at, take-some}
 use Rattle.cell_pool.specs.PostLaws.{closed, ordered-post}
 use Rattle.cell_pool.specs.OnceLaws.{once-post}
 use Rattle.cell_pool.specs.ReverseLaws.{stands-reverse}

@@ -1,12 +1,10 @@
 -- The pieces of a bag, put one after the other.
-use Rattle.std.proofs.Common.{◌≡◌, ◌∙◌, ℕ, suc, ◌+◌, ◌-◌, ◌<◌, ◌≤◌, List, [], ◌∷◌, ◌++◌, length, map, take, reverse, append_assoc, refl, ap, sym, arith}
-use Rattle.std.specs.Prelude.{Some, slice_get}
+use Rattle.std.proofs.Common.{◌≡◌, ◌∙◌, ℕ, List, [], ◌∷◌, ◌++◌, length, map, reverse, append_assoc, ap}
 use Rattle.std.specs.List.{flat_map}
-use Rattle.std.proofs.lemmas.List.{take_all, length-reverse, append-nil}
 use Rattle.bit_slice.specs.Bits.{completed}
 use Rattle.cell_nodes.specs.declared.tree.Tree.{Tree, out-Tree}
 use Rattle.cell_pool.specs.Post.{place, post}
-use Rattle.bag_cells.specs.Written.{number_bytes, width_of, descriptor_of, ref_bytes, cell_bytes, cell_data, header_bytes, bag_over, bag_of}
+use Rattle.bag_cells.specs.Written.{number_bytes, width_of, descriptor_of, cell_bytes, cell_data, header_bytes, bag_over, bag_of}
 
 pieces : (before content refs : List ℕ) (x y : ℕ) → before ++ x ∷ [] ++ y ∷ [] ++ content ++ refs ≡ before ++ (x ∷ y ∷ (content ++ refs))
 pieces before content refs x y = simp append_assoc

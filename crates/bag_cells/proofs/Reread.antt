@@ -26,10 +26,10 @@ use Rattle.bag_cells.proofs.Completed.{lowest-one}
 
 -- the bytes of the cell stand at the place
 pub record IsPlaced (raw : List ℕ) (place : ℕ) (order : List Tree) (u : Tree) : Type 0 where
-  pub front : List ℕ
+  pub prefix : List ℕ
   pub rest : List ℕ
-  pub bytes_are : raw ≡ front ++ (cell_bytes (size raw) order u ++ rest)
-  pub place_is : place ≡ length front
+  pub bytes_are : raw ≡ prefix ++ (cell_bytes (size raw) order u ++ rest)
+  pub place_is : place ≡ length prefix
 
 -- what is read there
 pub record IsReread (raw : List ℕ) (place : ℕ) (u : Tree) : Type 0 where
@@ -59,18 +59,18 @@ refs-bits r m true h = let e : (r + 8 * 1 + 32 * m) % 8 ≡ r = omega arith in e
 refs-bits r m false h = let e : (r + 8 * 0 + 32 * m) % 8 ≡ r = omega arith in e
 
 laid : (raw : List ℕ) (place : ℕ) (order : List Tree) (u : Tree) (p : IsPlaced raw place order u) → raw
-    ≡ p.front ++ ((descriptor_of u).0 ∷ ((descriptor_of u).1 ∷ (completed (out-Tree u).bits ++ (ref_bytes (size raw) order (out-Tree u).children ++ p.rest))))
+    ≡ p.prefix ++ ((descriptor_of u).0 ∷ ((descriptor_of u).1 ∷ (completed (out-Tree u).bits ++ (ref_bytes (size raw) order (out-Tree u).children ++ p.rest))))
 unfolding cell_bytes
 laid raw place order u p =
     p.bytes_are
-    ∙ ap (λ (l : List ℕ). p.front ++ ((descriptor_of u).0 ∷ ((descriptor_of u).1 ∷ l))) (append_assoc (completed (out-Tree u).bits) (ref_bytes (size raw) order (out-Tree u).children) p.rest)
+    ∙ ap (λ (l : List ℕ). p.prefix ++ ((descriptor_of u).0 ∷ ((descriptor_of u).1 ∷ l))) (append_assoc (completed (out-Tree u).bits) (ref_bytes (size raw) order (out-Tree u).children) p.rest)
 
 -- the bytes after the descriptor bytes
 after_two : (raw : List ℕ) (place : ℕ) (order : List Tree) (u : Tree) (p : IsPlaced raw place order u) → raw
-    ≡ (p.front ++ (descriptor_of u).0 ∷ (descriptor_of u).1 ∷ []) ++ (completed (out-Tree u).bits ++ (ref_bytes (size raw) order (out-Tree u).children ++ p.rest))
+    ≡ (p.prefix ++ (descriptor_of u).0 ∷ (descriptor_of u).1 ∷ []) ++ (completed (out-Tree u).bits ++ (ref_bytes (size raw) order (out-Tree u).children ++ p.rest))
 after_two raw place order u p =
     laid raw place order u p
-    ∙ sym (append_assoc p.front ((descriptor_of u).0 ∷ (descriptor_of u).1 ∷ []) (completed (out-Tree u).bits ++ (ref_bytes (size raw) order (out-Tree u).children ++ p.rest)))
+    ∙ sym (append_assoc p.prefix ((descriptor_of u).0 ∷ (descriptor_of u).1 ∷ []) (completed (out-Tree u).bits ++ (ref_bytes (size raw) order (out-Tree u).children ++ p.rest)))
 
 last-completed : (b : List ℕ) → length b % 8 ≢ 0 → slice_index (completed b) (length b / 8) ≡ completed_byte b (length b / 8)
 last-completed b h =
@@ -86,15 +86,15 @@ reread raw place order u sound p =
     let d = descriptor_of u in
     let few : r ≤ 4 = sound.few in
     let first : slice_index raw place ≡ d.0 =
-    ap (λ (l : List ℕ). slice_index l place) (laid raw place order u p) ∙ get_or_at p.front d.0 (d.1 ∷ (completed b ++ (refs ++ p.rest))) 0 place (sym p.place_is) in
-    let one_on : length (p.front ++ d.0 ∷ []) ≡ place + 1 = omega (arith, length-append p.front (d.0 ∷ []), p.place_is) in
-    let two_on : length (p.front ++ d.0 ∷ d.1 ∷ []) ≡ place + 2 = omega (arith, length-append p.front (d.0 ∷ d.1 ∷ []), p.place_is) in
+    ap (λ (l : List ℕ). slice_index l place) (laid raw place order u p) ∙ get_or_at p.prefix d.0 (d.1 ∷ (completed b ++ (refs ++ p.rest))) 0 place (sym p.place_is) in
+    let one_on : length (p.prefix ++ d.0 ∷ []) ≡ place + 1 = omega (arith, length-append p.prefix (d.0 ∷ []), p.place_is) in
+    let two_on : length (p.prefix ++ d.0 ∷ d.1 ∷ []) ≡ place + 2 = omega (arith, length-append p.prefix (d.0 ∷ d.1 ∷ []), p.place_is) in
     let second : slice_index raw (place + 1) ≡ d.1 =
-    ap (λ (l : List ℕ). slice_index l (place + 1)) (laid raw place order u p ∙ sym (append_assoc p.front (d.0 ∷ []) (d.1 ∷ (completed b ++ (refs ++ p.rest)))))
-    ∙ get_or_at (p.front ++ d.0 ∷ []) d.1 (completed b ++ (refs ++ p.rest)) 0 (place + 1) one_on in
+    ap (λ (l : List ℕ). slice_index l (place + 1)) (laid raw place order u p ∙ sym (append_assoc p.prefix (d.0 ∷ []) (d.1 ∷ (completed b ++ (refs ++ p.rest)))))
+    ∙ get_or_at (p.prefix ++ d.0 ∷ []) d.1 (completed b ++ (refs ++ p.rest)) 0 (place + 1) one_on in
     let count : byte_count raw place ≡ (length b + 7) / 8 = omega (arith, second) in
     let dropped : drop (place + 2) raw ≡ completed b ++ (refs ++ p.rest) =
-    ap (λ (l : List ℕ). drop (place + 2) l) (after_two raw place order u p) ∙ drop_at (p.front ++ d.0 ∷ d.1 ∷ []) (completed b ++ (refs ++ p.rest)) (place + 2) two_on in
+    ap (λ (l : List ℕ). drop (place + 2) l) (after_two raw place order u p) ∙ drop_at (p.prefix ++ d.0 ∷ d.1 ∷ []) (completed b ++ (refs ++ p.rest)) (place + 2) two_on in
     record {
       refs_are = ap (λ (y : ℕ). y % 8) first ∙ refs-bits r (mask u) x few;
       exotic_is = ap (λ (y : ℕ). y / 8 % 2 == 1) first ∙ exotic-bit r (mask u) x few;
@@ -110,7 +110,7 @@ reread raw place order u sound p =
           let inside : length b / 8 < length (completed b) = omega (arith, length-completed b) in
           ap (λ (i : ℕ). slice_index raw i) at
           ∙ ap (λ (l : List ℕ). slice_index l (place + 2 + length b / 8)) (after_two raw place order u p)
-          ∙ past_front (p.front ++ d.0 ∷ d.1 ∷ []) (completed b ++ (refs ++ p.rest)) (place + 2) (length b / 8) two_on
+          ∙ past_front (p.prefix ++ d.0 ∷ d.1 ∷ []) (completed b ++ (refs ++ p.rest)) (place + 2) (length b / 8) two_on
           ∙ get_or_append_left (completed b) (refs ++ p.rest) 0 (length b / 8) inside
           ∙ last-completed b part;
     }
@@ -230,17 +230,17 @@ ref-reread raw place order u k c p r h fits =
     let s = size raw in
     let d = descriptor_of u in
     let split = ref-split s order (out-Tree u).children k c h in
-    let front = p.front ++ d.0 ∷ d.1 ∷ [] in
+    let prefix = p.prefix ++ d.0 ∷ d.1 ∷ [] in
     let one = number_bytes s (place_in order c) in
     let e = after_two raw place order u p
-    ∙ ap (λ (l : List ℕ). front ++ (completed b ++ (l ++ p.rest))) split.2
-    ∙ ap (λ (l : List ℕ). front ++ (completed b ++ l)) (append_assoc split.0 (one ++ split.1) p.rest)
-    ∙ ap (λ (l : List ℕ). front ++ (completed b ++ (split.0 ++ l))) (append_assoc one split.1 p.rest)
-    ∙ ap (λ (l : List ℕ). front ++ l) (sym (append_assoc (completed b) split.0 (one ++ (split.1 ++ p.rest))))
-    ∙ sym (append_assoc front (completed b ++ split.0) (one ++ (split.1 ++ p.rest))) in
-    let n : place + 2 + byte_count raw place + k * s ≡ length (front ++ (completed b ++ split.0)) =
-    omega (arith, length-append front (completed b ++ split.0), length-append p.front (d.0 ∷ d.1 ∷ []), length-append (completed b) split.0, length-completed b, split.3, r.count_is, p.place_is) in
-    number_at-written raw (front ++ (completed b ++ split.0)) (split.1 ++ p.rest) (place + 2 + byte_count raw place + k * s) s (place_in order c) e n fits
+    ∙ ap (λ (l : List ℕ). prefix ++ (completed b ++ (l ++ p.rest))) split.2
+    ∙ ap (λ (l : List ℕ). prefix ++ (completed b ++ l)) (append_assoc split.0 (one ++ split.1) p.rest)
+    ∙ ap (λ (l : List ℕ). prefix ++ (completed b ++ (split.0 ++ l))) (append_assoc one split.1 p.rest)
+    ∙ ap (λ (l : List ℕ). prefix ++ l) (sym (append_assoc (completed b) split.0 (one ++ (split.1 ++ p.rest))))
+    ∙ sym (append_assoc prefix (completed b ++ split.0) (one ++ (split.1 ++ p.rest))) in
+    let n : place + 2 + byte_count raw place + k * s ≡ length (prefix ++ (completed b ++ split.0)) =
+    omega (arith, length-append prefix (completed b ++ split.0), length-append p.prefix (d.0 ∷ d.1 ∷ []), length-append (completed b) split.0, length-completed b, split.3, r.count_is, p.place_is) in
+    number_at-written raw (prefix ++ (completed b ++ split.0)) (split.1 ++ p.rest) (place + 2 + byte_count raw place + k * s) s (place_in order c) e n fits
 
 pub size-reread : (raw : List ℕ) (place : ℕ) (order : List Tree) (u : Tree) → IsReread raw place u → cell_size raw place ≡ length (cell_bytes (size raw) order u)
 unfolding cell_size

@@ -12,7 +12,9 @@ use Rattle.bag_cells.specs.Bag.{refusal, BagHolds, BagRefused, IfAnswered}
 use Rattle.bag_cells.specs.declared.error.BagError.{BagError}
 use Rattle.bag_cells.specs.declared.error.BagError.TheVariants.{Sprawl}
 use Rattle.bag_cells.proofs.Nones.{none_first, none_second}
-use Rattle.bag_cells.proofs.Unfolding.{root_unfolds, unfolds_once}
+use Rattle.bag_cells.specs.Unfolds.{Unfolds}
+use Rattle.bag_cells.specs.UnfoldsLaws.{unfolds_once}
+use Rattle.bag_cells.proofs.Unfolding.{root_unfolds}
 use Rattle.bag_cells.proofs.Held.{root_found}
 use Rattle.bag_cells.proofs.Answered.{answered_so}
 
@@ -43,11 +45,15 @@ root_small raw t e h =
     let k : sprawl_of (Some t) ≡ None = subst (λ (o : Option Tree). sprawl_of o ≡ None) e h in
     small_by (unfolded t) (nat_lt 262144 (unfolded t)) refl k
 
+-- raw bytes that nothing refuses have a root that is not too large
+pub raw_small : (raw : List ℕ) (t : Tree) → refusal raw ≡ None → Unfolds raw (root raw) t → unfolded t ≤ 262144
+raw_small raw t accepted h =
+    let found = root_found raw accepted in
+    let same = unfolds_once raw (root raw) found.0 t (root_unfolds raw found.0 accepted found.1) h in
+    subst (λ (u : Tree). unfolded u ≤ 262144) same (root_small raw found.0 found.1 (sprawl-none raw accepted))
+
 pub held_small : (file : List ℕ) (t : Tree) → BagHolds file t → unfolded t ≤ 262144
-held_small file t h =
-    let found = root_found h.raw h.accepted in
-    let same = unfolds_once h.raw (root h.raw) found.0 t (root_unfolds h.raw found.0 h.accepted found.1) h.unfolded in
-    subst (λ (u : Tree). unfolded u ≤ 262144) same (root_small h.raw found.0 found.1 (sprawl-none h.raw h.accepted))
+held_small file t h = raw_small h.raw t h.accepted h.unfolded
 
 pub answers_small : (file : List ℕ) (r : Result Tree BagError) → IfAnswered r (λ t. BagHolds file t) (λ e. BagRefused file e)
     → IfAnswered r (λ t. unfolded t ≤ 262144) (λ _. ⊤)

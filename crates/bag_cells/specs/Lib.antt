@@ -9,3 +9,7 @@ pub mod Bag
 pub mod Known
 pub mod Written
 pub mod Listed
+pub mod Once
+pub mod ByUnfolding
+pub mod UnfoldsLaws
+pub mod BagLaws

@@ -1,5 +1,5 @@
 -- Numbers in bytes.
-use Rattle.std.specs.Prelude.{ℕ, zero, suc, ◌+◌, ◌*◌, List, slice_index}
+use Rattle.std.specs.Prelude.{ℕ, zero, suc, ◌+◌, ◌*◌, ◌<◌, List, slice_index}
 
 -- the big-endian number of `width` bytes from the place `from` on
 unfoldable pub number_at : List ℕ → ℕ → ℕ → ℕ
@@ -11,3 +11,7 @@ unfoldable pub little_endian : List ℕ → ℕ → ℕ
 little_endian bytes from =
     slice_index bytes from + 256 * slice_index bytes (from + 1)
     + 65536 * slice_index bytes (from + 2) + 16777216 * slice_index bytes (from + 3)
+
+-- every number of the list is a byte's
+abbrev pub AreBytes : List ℕ → Type 0
+AreBytes numbers = (i : ℕ) → slice_index numbers i < 256

@@ -6,9 +6,11 @@ ghost use Rattle.cell_nodes.specs.Tree.{unfolded};
 ghost use Rattle.bag_cells.specs.Form.{raw_of_hex, IsBadHex};
 ghost use Rattle.bag_cells.specs.declared.error.BagError.TheVariants as refusals;
 ghost use Rattle.bag_cells.specs.Bag.{BagHolds, BagRefused, refusal};
+ghost use Rattle.bag_cells.specs.ByUnfolding.{IsFirstRefusal, IsAcceptedTree};
+ghost use Rattle.bag_cells.specs.Numbers.{AreBytes};
 ghost use Rattle.bag_cells.specs.Trees.{trees};
 ghost use Rattle.cell_pool.specs.Post.{post};
-ghost use Rattle.bag_cells.specs.Header.{cells};
+ghost use Rattle.bag_cells.specs.Header.{cells, root};
 ghost use Rattle.bag_cells.specs.Unfolds.{Unfolds};
 ghost use Rattle.bag_cells.specs.Written.{width_of, bag_of};
 ghost use Rattle.bag_cells.specs.declared.error.BagError.{BagError as Refusal};
@@ -56,8 +58,29 @@ pub fn held_is_small()
     ensures { (file : List ℕ) (t : Tree) → BagHolds file t → unfolded t ≤ 262144 }
 {}
 
-/// The trees of which the rows on kinds, masks, depths and size speak are the unfoldings of their cells, where the bytes
-/// are accepted: the tree at place `p` of the list is that of the cell before the last `p` ones.
+/// What a file of bytes holds is good.
+pub fn held_is_good()
+    ensures { (file : List ℕ) (t : Tree) → AreBytes file → BagHolds file t → IsGood t }
+{}
+
+/// A cell has at most one unfolding, and each cell of bytes that nothing refuses has one.
+pub fn one_unfolding()
+    ensures once { (raw : List ℕ) (i : ℕ) (a b : Tree) → Unfolds raw i a → Unfolds raw i b → a ≡ b }
+    ensures some { (raw : List ℕ) (i : ℕ) → refusal raw ≡ None → i < cells raw → (t : Tree) × Unfolds raw i t }
+{}
+
+/// The refusal of raw bytes is the first row that holds, where the rows on kinds, masks, depths and size speak of the
+/// unfolding of each cell by itself; and what nothing refuses is what no such row refuses.
+pub fn refusals_by_unfolding()
+    ensures first { (raw : List ℕ) (e : Refusal) → refusal raw ≡ Some e → IsFirstRefusal raw e }
+    ensures reported { (raw : List ℕ) (e : Refusal) → IsFirstRefusal raw e → refusal raw ≡ Some e }
+    ensures accepted { (raw : List ℕ) (t : Tree) → refusal raw ≡ None → Unfolds raw (root raw) t
+        → IsAcceptedTree raw t }
+    ensures held { (raw : List ℕ) (t : Tree) → IsAcceptedTree raw t → refusal raw ≡ None }
+{}
+
+/// The trees that the rows on kinds, masks, depths and size are computed from are the unfoldings of their cells, where
+/// the bytes are accepted: the tree at place `p` of the list is that of the cell before the last `p` ones.
 pub fn trees_are_unfoldings()
     ensures { (raw : List ℕ) (p : ℕ) (t : Tree) → refusal raw ≡ None → slice_get (trees raw (cells raw)) p ≡ Some t
         → Unfolds raw (cells raw - 1 - p) t }

@@ -7,6 +7,7 @@ ghost use Rattle.cell_pool.specs.Nodes.{node_tree};
 ghost use Rattle.cell_pool.specs.Visited.{tree_at, trees_at};
 ghost use Rattle.bag_cells.specs.Bag.{BagHolds};
 ghost use Rattle.bag_cells.specs.Listed.{EachOnce, ArePlaces, IsListed};
+ghost use Rattle.bag_cells.specs.Once.{ListsEachOnce};
 ghost use Rattle.bag_cells.specs.Written.{number_bytes, width_of, descriptor_of, cell_bytes, cell_data, header_bytes};
 ghost use Rattle.bag_cells.specs.Written.{bag_over, bag_of};
 
@@ -176,6 +177,8 @@ pub fn write_bag(alloc: Global, pool: &Pool, root: NodeId) -> Result<Vec<u8>, No
     ensures bytes { IfOk result (λ v. IfSome (slice_get pool.now root) (λ t. v.items ≡ bag_of t)) }
     // What is written is read again as the same tree.
     ensures holds { IfOk result (λ v. IfSome (slice_get pool.now root) (λ t. BagHolds v.items t)) }
+    // It lists each distinct cell exactly once.
+    ensures once { IfOk result (λ v. IfSome (slice_get pool.now root) (λ t. ListsEachOnce v.items t)) }
 {
     pool.good();
     pool.small();

@@ -26,7 +26,8 @@ within-below (suc m) n h = ⊎_elim
     (λ (e : n ≡ 0). rw (e, within-zero (suc m)) (lit< tt))
     (λ (e : n ≢ 0).
     let r : n / 2 < 2 ^ bit_length_within m (n / 2) = within-below m (n / 2) (omega arith) in
-    let p : 2 ^ suc (bit_length_within m (n / 2)) ≡ 2 ^ bit_length_within m (n / 2) * 2 = pow-suc 2 (bit_length_within m (n / 2)) in
+    let p : 2 ^ suc (bit_length_within m (n / 2)) ≡ 2 ^ bit_length_within m (n / 2) * 2 =
+    pow-suc 2 (bit_length_within m (n / 2)) in
     rw (within-some m n (omega arith), p) (omega arith))
     (cases_eq n 0)
 

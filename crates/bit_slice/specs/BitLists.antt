@@ -1,5 +1,6 @@
 -- Lemmas on the bits of bytes.
-use Rattle.std.proofs.Common.{◌≡◌, ℕ, zero, suc, ◌+◌, ◌-◌, ◌<◌, ◌≤◌, List, [], ◌∷◌, ◌++◌, length, take, drop, refl, ap, sym, ◌∙◌, arith, slice_index, ◌*◌, ◌^◌, lit<, subst}
+use Rattle.std.proofs.Common.{◌≡◌, ℕ, zero, suc, ◌+◌, ◌-◌, ◌<◌, ◌≤◌, List, [], ◌∷◌, ◌++◌, length, take, drop, refl, ap}
+use Rattle.std.proofs.Common.{sym, ◌∙◌, arith, slice_index, ◌*◌, ◌^◌, lit<, subst}
 use Rattle.bit_slice.specs.Bits.{bits_from, bit_of, number_onto, number_of, spelled, bit_number, AreBits}
 use Rattle.std.specs.Int.RustNames.{bit_and}
 use Rattle.std.specs.Prelude.{eqb}
@@ -8,7 +9,8 @@ use Rattle.std.proofs.Math.Seq.{take-add}
 use Rattle.std.proofs.lemmas.Nat.{shr-shr}
 use Rattle.std.proofs.Math.Nat.{pow-suc, div-eq_of_lt, div-lt_iff_lt-mul}
 use Rattle.std.proofs.Math.Pow.{pow_mono}
-use Rattle.std.proofs.lemmas.Nat.Bits.{shr_and_one, bit_at-lt, bit_at_set_same, bit_at_set_other, bit_at_clear_same, bit_at_clear_other}
+use Rattle.std.proofs.lemmas.Nat.Bits.{shr_and_one, bit_at-lt, bit_at_set_same, bit_at_set_other, bit_at_clear_same}
+use Rattle.std.proofs.lemmas.Nat.Bits.{bit_at_clear_other}
 use Rattle.std.proofs.lemmas.Bool.{cases_eq}
 use Rattle.std.proofs.lemmas.Grind.{common_steps}
 use Rattle.std.specs.Int.{bit_at}
@@ -25,7 +27,8 @@ take-bits_from bytes i n zero h = refl
 take-bits_from bytes i zero (suc k) h = absurd (omega arith)
 take-bits_from bytes i (suc n) (suc k) h = ap (λ l. bit_of bytes i ∷ l) (take-bits_from bytes (i + 1) n k (omega arith))
 
-pub drop-bits_from : (bytes : List ℕ) (i n k : ℕ) → k ≤ n → drop k (bits_from bytes i n) ≡ bits_from bytes (i + k) (n - k)
+pub drop-bits_from : (bytes : List ℕ) (i n k : ℕ) → k ≤ n
+    → drop k (bits_from bytes i n) ≡ bits_from bytes (i + k) (n - k)
 unfolding bits_from
 drop-bits_from bytes i n zero h = let e : i + 0 ≡ i = omega arith in let f : n - 0 ≡ n = omega arith in rw (e, f) refl
 drop-bits_from bytes i zero (suc k) h = absurd (omega arith)
@@ -43,7 +46,8 @@ index-bits_from bytes i (suc n) (suc k) h =
     rw (← e) (index-bits_from bytes (i + 1) n k (omega arith))
 
 -- one bit more
-pub bits_from-more : (bytes : List ℕ) (i n : ℕ) → bits_from bytes i (n + 1) ≡ bits_from bytes i n ++ bit_of bytes (i + n) ∷ []
+pub bits_from-more : (bytes : List ℕ) (i n : ℕ)
+    → bits_from bytes i (n + 1) ≡ bits_from bytes i n ++ bit_of bytes (i + n) ∷ []
 unfolding bits_from
 bits_from-more bytes i zero = let e : i + 0 ≡ i = omega arith in rw e refl
 bits_from-more bytes i (suc n) =
@@ -65,15 +69,19 @@ number_onto-more a b [] = refl
 number_onto-more a b (x ∷ bs) = number_onto-more (2 * a + x) b bs
 
 -- the number of one bit more
-pub number_of-more : (bytes : List ℕ) (i n : ℕ) → number_of (bits_from bytes i (n + 1)) ≡ 2 * number_of (bits_from bytes i n) + bit_of bytes (i + n)
-number_of-more bytes i n = rw (bits_from-more bytes i n) (number_onto-more 0 (bit_of bytes (i + n)) (bits_from bytes i n))
+pub number_of-more : (bytes : List ℕ) (i n : ℕ)
+    → number_of (bits_from bytes i (n + 1)) ≡ 2 * number_of (bits_from bytes i n) + bit_of bytes (i + n)
+number_of-more bytes i n =
+    rw (bits_from-more bytes i n) (number_onto-more 0 (bit_of bytes (i + n)) (bits_from bytes i n))
 
-number_of-lt-more : (bytes : List ℕ) (i n : ℕ) → number_of (bits_from bytes i n) < 2 ^ n → number_of (bits_from bytes i (n + 1)) < 2 ^ (n + 1)
+number_of-lt-more : (bytes : List ℕ) (i n : ℕ) → number_of (bits_from bytes i n) < 2 ^ n
+    → number_of (bits_from bytes i (n + 1)) < 2 ^ (n + 1)
 number_of-lt-more bytes i n r =
     let e : suc n ≡ n + 1 = omega arith in
     let p : 2 ^ (n + 1) ≡ 2 ^ n * 2 = rw (← e) (pow-suc 2 n) in
     let q : bit_of bytes (i + n) < 2 = bit_at-lt _ _ in
-    let m : number_of (bits_from bytes i (n + 1)) ≡ 2 * number_of (bits_from bytes i n) + bit_of bytes (i + n) = number_of-more bytes i n in
+    let m : number_of (bits_from bytes i (n + 1)) ≡ 2 * number_of (bits_from bytes i n) + bit_of bytes (i + n) =
+    number_of-more bytes i n in
     omega arith
 
 pub number_of-lt : (bytes : List ℕ) (i n : ℕ) → number_of (bits_from bytes i n) < 2 ^ n
@@ -98,11 +106,24 @@ unfolding bits_from
 AreBits-bits_from bytes i zero = tt
 AreBits-bits_from bytes i (suc n) = (bit_at-lt _ _, AreBits-bits_from bytes (i + 1) n)
 
-pub ruleset bit_lists = (AreBits-bits_from, bits_from-none, length-bits_from, take-bits_from, drop-bits_from, index-bits_from, number_of-none, number_of-more, number_of-lt-127, shr_and_one, bit_at-lt)
+pub ruleset bit_lists = (
+  AreBits-bits_from,
+  bits_from-none,
+  length-bits_from,
+  take-bits_from,
+  drop-bits_from,
+  index-bits_from,
+  number_of-none,
+  number_of-more,
+  number_of-lt-127,
+  shr_and_one,
+  bit_at-lt,
+)
 
 -- ---- writing one bit
 
-pub bits_from-same : (b c : List ℕ) (i n : ℕ) → ((k : ℕ) → k < i + n → bit_of b k ≡ bit_of c k) → bits_from b i n ≡ bits_from c i n
+pub bits_from-same : (b c : List ℕ) (i n : ℕ) → ((k : ℕ) → k < i + n → bit_of b k ≡ bit_of c k)
+    → bits_from b i n ≡ bits_from c i n
 unfolding bits_from
 bits_from-same b c i zero h = refl
 bits_from-same b c i (suc n) h =
@@ -147,7 +168,8 @@ spelled-step zero v h = absurd (omega arith)
 spelled-step (suc k) v h = let e : suc k - 1 ≡ k = omega arith in rw e refl
 
 -- one bit more of a number is written
-pub spelled-pushed : (xs : List ℕ) (b i v : ℕ) → 0 < i → b ≡ bit_at v (i - 1) → (xs ++ b ∷ []) ++ spelled (i - 1) v ≡ xs ++ spelled i v
+pub spelled-pushed : (xs : List ℕ) (b i v : ℕ) → 0 < i → b ≡ bit_at v (i - 1)
+    → (xs ++ b ∷ []) ++ spelled (i - 1) v ≡ xs ++ spelled i v
 spelled-pushed xs b i v h e = rw (spelled-step i v h, e, append_assoc) refl
 
 number_of_bit : (b : ℕ) → b < 2 → bit_number (eqb b 1) ≡ b
@@ -204,7 +226,8 @@ number_onto-high a [] h = grind arith
 number_onto-high a (x ∷ xs) h =
     let e : length (x ∷ xs) ≡ length xs + 1 = omega arith in
     let r : number_onto (2 * a + x) xs / 2 ^ length xs ≡ 2 * a + x = number_onto-high (2 * a + x) xs h.1 in
-    let s : number_onto (2 * a + x) xs / 2 ^ (length xs + 1) ≡ number_onto (2 * a + x) xs / 2 ^ length xs / 2 ^ 1 = sym (shr-shr (number_onto (2 * a + x) xs) (length xs) 1) in
+    let s : number_onto (2 * a + x) xs / 2 ^ (length xs + 1) ≡ number_onto (2 * a + x) xs / 2 ^ length xs / 2 ^ 1 =
+    sym (shr-shr (number_onto (2 * a + x) xs) (length xs) 1) in
     let b : x < 2 = h.0 in
     let P : ℕ → Type 0 = λ m. number_onto (2 * a + x) xs / 2 ^ m ≡ a in
     subst P (sym e) (s ∙ rw r (omega arith))
@@ -231,7 +254,8 @@ pub number_of-bound : (bs : List ℕ) → AreBits bs → number_of bs < 2 ^ leng
 number_of-bound bs h =
     let d : number_of bs / 2 ^ length bs ≡ 0 = number_onto-high 0 bs h in
     let p : 1 ≤ 2 ^ length bs = pow_mono {i = 0} {j = length bs} (omega arith) in
-    let m : number_of bs < 1 * 2 ^ length bs = (div-lt_iff_lt-mul {k = 2 ^ length bs} {x = number_of bs} {y = 1} p).0 (omega arith) in
+    let m : number_of bs < 1 * 2 ^ length bs =
+    (div-lt_iff_lt-mul {k = 2 ^ length bs} {x = number_of bs} {y = 1} p).0 (omega arith) in
     omega arith
 
 pub AreBits-append : (xs ys : List ℕ) → AreBits xs → AreBits ys → AreBits (xs ++ ys)
@@ -262,10 +286,12 @@ pub whole-byte-pushed : (new old init bits : List ℕ) (i v : ℕ) → AreBits b
 whole-byte-pushed new old init bits i v h l o e n =
     let c : 8 * i ≡ i * 8 = omega arith in
     let m : i * 8 + 8 ≡ (i + 1) * 8 = omega arith in
-    let k : length (take 8 (drop (8 * i) bits)) ≡ 8 = length-take-le 8 (drop (8 * i) bits) (let d = length-drop (8 * i) bits in omega arith) in
+    let k : length (take 8 (drop (8 * i) bits)) ≡ 8 =
+    length-take-le 8 (drop (8 * i) bits) (let d = length-drop (8 * i) bits in omega arith) in
     let b : spelled 8 v ≡ take 8 (drop (8 * i) bits) =
     ap (λ (x : ℕ). spelled 8 x) e ∙ ap (λ (x : ℕ). spelled x (number_of (take 8 (drop (8 * i) bits)))) (sym k)
-    ∙ spelled-number_of (take 8 (drop (8 * i) bits)) (AreBits-take 8 (drop (8 * i) bits) (AreBits-drop (8 * i) bits h)) in
+    ∙ spelled-number_of (take 8 (drop (8 * i) bits))
+    (AreBits-take 8 (drop (8 * i) bits) (AreBits-drop (8 * i) bits h)) in
     n ∙ ap (λ (x : List ℕ). x ++ spelled 8 v) o ∙ ap (λ (x : List ℕ). (init ++ take (i * 8) bits) ++ x) b
     ∙ append_assoc init (take (i * 8) bits) (take 8 (drop (8 * i) bits))
     ∙ ap (λ (x : ℕ). init ++ (take (i * 8) bits ++ take 8 (drop x bits))) c

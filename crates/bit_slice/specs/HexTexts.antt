@@ -1,18 +1,26 @@
 -- Which texts spell bits, and which bits.
-use Rattle.std.specs.Prelude.{◌≡◌, ◌≢◌, ℕ, ◌+◌, ◌-◌, ◌*◌, ◌/◌, ◌%◌, ◌^◌, ◌<◌, ◌≤◌, ◌⊎◌, true, false, List, [], ◌∷◌, ◌++◌, length, map, take, drop, slice_index}
+use Rattle.std.specs.Prelude.{◌≡◌, ◌≢◌, ℕ, ◌+◌, ◌-◌, ◌*◌, ◌/◌, ◌%◌, ◌^◌, ◌<◌, ◌≤◌, ◌⊎◌, true, false, List, [], ◌∷◌}
+use Rattle.std.specs.Prelude.{◌++◌, length, map, take, drop, slice_index}
 use Rattle.std.proofs.Common.{refl, sym, ap, ◌∙◌, arith, subst, ⊎_elim, inl, inr}
 use Rattle.std.specs.List.{range_with_len}
 use Rattle.std.specs.Int.{bit_at}
 use Rattle.std.proofs.lemmas.Bool.{cases_lt, cases_eq}
 use Rattle.std.proofs.lemmas.Bool.Decides.{nat_tests}
-use Rattle.std.proofs.lemmas.List.{append-nil, append_assoc, get_or-append_right, get_or_append_left, length-append, length-take-le, get_or-take, ext_get_or, take-take, take-append-drop, take_more, take_all}
+use Rattle.std.proofs.lemmas.List.{append-nil, append_assoc, get_or-append_right, get_or_append_left, length-append}
+use Rattle.std.proofs.lemmas.List.{length-take-le, get_or-take, ext_get_or, take-take, take-append-drop, take_more}
+use Rattle.std.proofs.lemmas.List.{take_all}
 use Rattle.std.proofs.Math.Nat.{eq-or-lt_of_le}
 use Rattle.std.proofs.Math.Seq.{take-append-add}
 use Rattle.std.proofs.lemmas.List.FromFn.{length-map-range_with_len, get_or-map-range_with_len}
 use Rattle.bit_slice.specs.Bits.{AreBits, spelled, completed_bit, hex_digit, hex_text, HexText, GoesOn, IsBadAt}
 use Rattle.bit_slice.specs.BitLists.{AreBits-take}
-use Rattle.bit_slice.specs.Completion.{completed_bit-inside, completed_bit-end, completed_bit-after, same-by_bits, same-by_completion}
-use Rattle.bit_slice.specs.HexLists.{is_hex_digit, digit_number, AreDigits, digit_bits, completed_digit, EndsByMark, IsSpelling, is_hex_digit-hex_digit, digit_number-hex_digit, hex_digit-digit_number, digit_number-lt, length-digit_bits, AreBits-digit_bits, index-digit_bits, digit_bits-push, take-spelled, number-by, bit_at-completed_digit, completed_digit-lt, mark, hex_text-by_index}
+use Rattle.bit_slice.specs.Completion.{completed_bit-inside, completed_bit-end, completed_bit-after, same-by_bits}
+use Rattle.bit_slice.specs.Completion.{same-by_completion}
+use Rattle.bit_slice.specs.HexLists.{is_hex_digit, digit_number, AreDigits, digit_bits, completed_digit, EndsByMark}
+use Rattle.bit_slice.specs.HexLists.{IsSpelling, is_hex_digit-hex_digit, digit_number-hex_digit, hex_digit-digit_number}
+use Rattle.bit_slice.specs.HexLists.{digit_number-lt, length-digit_bits, AreBits-digit_bits, index-digit_bits}
+use Rattle.bit_slice.specs.HexLists.{digit_bits-push, take-spelled, number-by, bit_at-completed_digit}
+use Rattle.bit_slice.specs.HexLists.{completed_digit-lt, mark, hex_text-by_index}
 
 -- ---- a good text and its bits
 
@@ -37,13 +45,15 @@ spelling-inside ds k i x j h e l =
     ∙ sym (get_or-take (4 * length ds - k) (digit_bits ds) (4 * i + x) 0 (omega arith))
     ∙ sym (completed_bit-inside (spelling_bits ds k) (4 * i + x) (omega arith))
 
-spelling-last : (ds : List ℕ) (k i x j : ℕ) → k ≤ 3 → 0 < k → i + 1 ≡ length ds → j + x ≡ 3 → 4 * length ds ≤ 4 * i + x + k
+spelling-last : (ds : List ℕ) (k i x j : ℕ) → k ≤ 3 → 0 < k → i + 1 ≡ length ds → j + x ≡ 3
+    → 4 * length ds ≤ 4 * i + x + k
     → EndsByMark (digit_number (slice_index ds (length ds - 1))) k
     → bit_at (digit_number (slice_index ds i)) j ≡ completed_bit (spelling_bits ds k) (4 * i + x)
 spelling-last ds k i x j f s h e l m =
     let n : length (spelling_bits ds k) ≡ 4 * length ds - k = length-spelling_bits ds k in
     let p : i ≡ length ds - 1 = omega arith in
-    let v : digit_number (slice_index ds i) ≡ digit_number (slice_index ds (length ds - 1)) = ap (λ (a : ℕ). digit_number (slice_index ds a)) p in
+    let v : digit_number (slice_index ds i) ≡ digit_number (slice_index ds (length ds - 1)) =
+    ap (λ (a : ℕ). digit_number (slice_index ds a)) p in
     ap (λ (a : ℕ). bit_at a j) v ∙ ⊎_elim
     (λ (t : j + 1 < k). m.zeros j t ∙ sym (completed_bit-after (spelling_bits ds k) (4 * i + x) (omega arith)))
     (λ (t : k ≤ j + 1).
@@ -72,12 +82,14 @@ spelling-digit text ds k i s h =
 spelling-digits : (text ds : List ℕ) (k : ℕ) → IsSpelling text ds k
     → map (λ i. hex_digit (completed_digit (spelling_bits ds k) i)) (range_with_len 0 (length ds)) ≡ ds
 spelling-digits text ds k s =
-    let l : length (map (λ i. hex_digit (completed_digit (spelling_bits ds k) i)) (range_with_len 0 (length ds))) ≡ length ds =
+    let l : length (map (λ i. hex_digit (completed_digit (spelling_bits ds k) i)) (range_with_len 0 (length ds)))
+    ≡ length ds =
     length-map-range_with_len (λ i. hex_digit (completed_digit (spelling_bits ds k) i)) 0 (length ds) in
     ext_get_or 0 (map (λ i. hex_digit (completed_digit (spelling_bits ds k) i)) (range_with_len 0 (length ds))) ds l
     (λ i h.
     let g : i < length ds = omega arith in
-    get_or-map-range_with_len (λ x. hex_digit (completed_digit (spelling_bits ds k) x)) 0 (length ds) i i 0 g (omega arith)
+    get_or-map-range_with_len (λ x. hex_digit (completed_digit (spelling_bits ds k) x)) 0 (length ds) i i 0 g
+    (omega arith)
     ∙ ap (λ (d : ℕ). hex_digit d) (spelling-digit text ds k i s g)
     ∙ hex_digit-digit_number (slice_index ds i) (s.are_digits i g))
 
@@ -94,14 +106,17 @@ HexText-spelling text ds k s =
     let c : (length (spelling_bits ds k) + 3) / 4 ≡ length ds = omega arith in
     let t : hex_text (spelling_bits ds k) ≡ ds ++ mark (spelling_bits ds k) =
     hex_text-by_index (spelling_bits ds k)
-    ∙ ap (λ (a : ℕ). map (λ i. hex_digit (completed_digit (spelling_bits ds k) i)) (range_with_len 0 a) ++ mark (spelling_bits ds k)) c
+    ∙ ap (λ (a : ℕ). map (λ i. hex_digit (completed_digit (spelling_bits ds k) i)) (range_with_len 0 a) ++ mark
+    (spelling_bits ds k)) c
     ∙ ap (λ (l : List ℕ). l ++ mark (spelling_bits ds k)) (spelling-digits text ds k s) in (
       AreBits-spelling_bits ds k,
       ⊎_elim
-          (λ (e : k ≡ 0). s.plain e ∙ sym (t ∙ ap (λ (l : List ℕ). ds ++ l) (mark-none (spelling_bits ds k) (omega arith)) ∙ append-nil ds))
+          (λ (e : k ≡ 0). s.plain e
+          ∙ sym (t ∙ ap (λ (l : List ℕ). ds ++ l) (mark-none (spelling_bits ds k) (omega arith)) ∙ append-nil ds))
           (λ (e : k ≢ 0).
           let g : 0 < length ds = s.some (omega arith) in
-          s.marked (omega arith) ∙ sym (t ∙ ap (λ (l : List ℕ). ds ++ l) (mark-some (spelling_bits ds k) (omega arith))))
+          s.marked (omega arith)
+          ∙ sym (t ∙ ap (λ (l : List ℕ). ds ++ l) (mark-some (spelling_bits ds k) (omega arith))))
           (cases_eq k 0),
     )
 
@@ -111,18 +126,22 @@ pub hex_text-whole : (bs : List ℕ) (n : ℕ) → length bs % 4 ≡ 0 → n ≡
     → map (λ k. hex_digit (completed_digit bs k)) (range_with_len 0 n) ≡ hex_text bs
 hex_text-whole bs n h e =
     ap (λ (m : ℕ). map (λ k. hex_digit (completed_digit bs k)) (range_with_len 0 m)) e
-    ∙ sym (hex_text-by_index bs ∙ ap (λ (l : List ℕ). map (λ k. hex_digit (completed_digit bs k)) (range_with_len 0 ((length bs + 3) / 4)) ++ l) (mark-none bs h)
+    ∙ sym (hex_text-by_index bs
+    ∙ ap (λ (l : List ℕ). map (λ k. hex_digit (completed_digit bs k)) (range_with_len 0 ((length bs + 3) / 4)) ++ l)
+    (mark-none bs h)
     ∙ append-nil (map (λ k. hex_digit (completed_digit bs k)) (range_with_len 0 ((length bs + 3) / 4))))
 
 pub hex_text-part : (bs : List ℕ) (n : ℕ) → (length bs % 4 ≡ 0 → ⊥) → n ≡ (length bs + 3) / 4
     → map (λ k. hex_digit (completed_digit bs k)) (range_with_len 0 n) ++ 95 ∷ [] ≡ hex_text bs
 hex_text-part bs n h e =
     ap (λ (m : ℕ). map (λ k. hex_digit (completed_digit bs k)) (range_with_len 0 m) ++ 95 ∷ []) e
-    ∙ sym (hex_text-by_index bs ∙ ap (λ (l : List ℕ). map (λ k. hex_digit (completed_digit bs k)) (range_with_len 0 ((length bs + 3) / 4)) ++ l) (mark-some bs h))
+    ∙ sym (hex_text-by_index bs
+    ∙ ap (λ (l : List ℕ). map (λ k. hex_digit (completed_digit bs k)) (range_with_len 0 ((length bs + 3) / 4)) ++ l)
+    (mark-some bs h))
 
 -- ---- the bytes of a good text
 
--- byte i is an underscore: the last, behind a digit of which it drops one 1 bit
+-- byte i is an underscore: the last, after a digit of which it drops one 1 bit
 pub record IsMark (text : List ℕ) (i : ℕ) : Type 0 where
   pub byte : slice_index text i ≡ 95
   pub last : i + 1 ≡ length text
@@ -131,10 +150,12 @@ pub record IsMark (text : List ℕ) (i : ℕ) : Type 0 where
   pub few : place < 3
   pub one : bit_at (digit_number (slice_index text (i - 1))) place ≡ 1
 
-digit-at : (bs : List ℕ) (i : ℕ) → i < (length bs + 3) / 4 → slice_index (hex_text bs) i ≡ hex_digit (completed_digit bs i)
+digit-at : (bs : List ℕ) (i : ℕ) → i < (length bs + 3) / 4
+    → slice_index (hex_text bs) i ≡ hex_digit (completed_digit bs i)
 digit-at bs i h =
     let f : ℕ → ℕ = λ k. hex_digit (completed_digit bs k) in
-    let l : length (map f (range_with_len 0 ((length bs + 3) / 4))) ≡ (length bs + 3) / 4 = length-map-range_with_len f 0 ((length bs + 3) / 4) in
+    let l : length (map f (range_with_len 0 ((length bs + 3) / 4))) ≡ (length bs + 3) / 4 =
+    length-map-range_with_len f 0 ((length bs + 3) / 4) in
     ap (λ (t : List ℕ). slice_index t i) (hex_text-by_index bs)
     ∙ get_or_append_left (map f (range_with_len 0 ((length bs + 3) / 4))) (mark bs) 0 i (omega arith)
     ∙ get_or-map-range_with_len f 0 ((length bs + 3) / 4) i i 0 h (omega arith)
@@ -142,38 +163,48 @@ digit-at bs i h =
 mark-at : (bs : List ℕ) → (length bs % 4 ≡ 0 → ⊥) → slice_index (hex_text bs) ((length bs + 3) / 4) ≡ 95
 mark-at bs h =
     let f : ℕ → ℕ = λ k. hex_digit (completed_digit bs k) in
-    let l : length (map f (range_with_len 0 ((length bs + 3) / 4))) ≡ (length bs + 3) / 4 = length-map-range_with_len f 0 ((length bs + 3) / 4) in
+    let l : length (map f (range_with_len 0 ((length bs + 3) / 4))) ≡ (length bs + 3) / 4 =
+    length-map-range_with_len f 0 ((length bs + 3) / 4) in
     let z : (length bs + 3) / 4 - (length bs + 3) / 4 ≡ 0 = omega arith in
     ap (λ (t : List ℕ). slice_index t ((length bs + 3) / 4)) (hex_text-by_index bs)
-    ∙ get_or-append_right (map f (range_with_len 0 ((length bs + 3) / 4))) (mark bs) ((length bs + 3) / 4) ((length bs + 3) / 4) 0 l (omega arith)
+    ∙ get_or-append_right (map f (range_with_len 0 ((length bs + 3) / 4))) (mark bs) ((length bs + 3) / 4)
+    ((length bs + 3) / 4) 0 l (omega arith)
     ∙ rw (z, mark-some bs h) refl
 
 length-hex_text-whole : (bs : List ℕ) → length bs % 4 ≡ 0 → length (hex_text bs) ≡ (length bs + 3) / 4
 length-hex_text-whole bs h =
     let f : ℕ → ℕ = λ k. hex_digit (completed_digit bs k) in
-    ap length (hex_text-by_index bs ∙ ap (λ (l : List ℕ). map f (range_with_len 0 ((length bs + 3) / 4)) ++ l) (mark-none bs h)
+    ap length (hex_text-by_index bs ∙ ap (λ (l : List ℕ). map f (range_with_len 0 ((length bs + 3) / 4)) ++ l)
+    (mark-none bs h)
     ∙ append-nil (map f (range_with_len 0 ((length bs + 3) / 4))))
     ∙ length-map-range_with_len f 0 ((length bs + 3) / 4)
 
 length-hex_text-part : (bs : List ℕ) → (length bs % 4 ≡ 0 → ⊥) → length (hex_text bs) ≡ (length bs + 3) / 4 + 1
 length-hex_text-part bs h =
     let f : ℕ → ℕ = λ k. hex_digit (completed_digit bs k) in
-    let l : length (map f (range_with_len 0 ((length bs + 3) / 4))) ≡ (length bs + 3) / 4 = length-map-range_with_len f 0 ((length bs + 3) / 4) in
-    ap length (hex_text-by_index bs ∙ ap (λ (l : List ℕ). map f (range_with_len 0 ((length bs + 3) / 4)) ++ l) (mark-some bs h))
+    let l : length (map f (range_with_len 0 ((length bs + 3) / 4))) ≡ (length bs + 3) / 4 =
+    length-map-range_with_len f 0 ((length bs + 3) / 4) in
+    ap length (hex_text-by_index bs ∙ ap (λ (l : List ℕ). map f (range_with_len 0 ((length bs + 3) / 4)) ++ l)
+    (mark-some bs h))
     ∙ length-append (map f (range_with_len 0 ((length bs + 3) / 4))) (95 ∷ []) ∙ omega arith
 
-digit-is : (bs : List ℕ) (i : ℕ) → AreBits bs → i < (length bs + 3) / 4 → is_hex_digit (slice_index (hex_text bs) i) ≡ true
+digit-is : (bs : List ℕ) (i : ℕ) → AreBits bs → i < (length bs + 3) / 4
+    → is_hex_digit (slice_index (hex_text bs) i) ≡ true
 digit-is bs i h l =
-    ap (λ (c : ℕ). is_hex_digit c) (digit-at bs i l) ∙ is_hex_digit-hex_digit (completed_digit bs i) (completed_digit-lt bs i h)
+    ap (λ (c : ℕ). is_hex_digit c) (digit-at bs i l)
+    ∙ is_hex_digit-hex_digit (completed_digit bs i) (completed_digit-lt bs i h)
 
-digit-number : (bs : List ℕ) (i : ℕ) → AreBits bs → i < (length bs + 3) / 4 → digit_number (slice_index (hex_text bs) i) ≡ completed_digit bs i
+digit-number : (bs : List ℕ) (i : ℕ) → AreBits bs → i < (length bs + 3) / 4
+    → digit_number (slice_index (hex_text bs) i) ≡ completed_digit bs i
 digit-number bs i h l =
-    ap (λ (c : ℕ). digit_number c) (digit-at bs i l) ∙ digit_number-hex_digit (completed_digit bs i) (completed_digit-lt bs i h)
+    ap (λ (c : ℕ). digit_number c) (digit-at bs i l)
+    ∙ digit_number-hex_digit (completed_digit bs i) (completed_digit-lt bs i h)
 
 mark-is : (bs : List ℕ) → AreBits bs → (length bs % 4 ≡ 0 → ⊥) → IsMark (hex_text bs) ((length bs + 3) / 4)
 mark-is bs h m =
     let n : length (hex_text bs) ≡ (length bs + 3) / 4 + 1 = length-hex_text-part bs m in
-    let d : digit_number (slice_index (hex_text bs) ((length bs + 3) / 4 - 1)) ≡ completed_digit bs ((length bs + 3) / 4 - 1) = digit-number bs ((length bs + 3) / 4 - 1) h (omega arith) in
+    let d : digit_number (slice_index (hex_text bs) ((length bs + 3) / 4 - 1))
+    ≡ completed_digit bs ((length bs + 3) / 4 - 1) = digit-number bs ((length bs + 3) / 4 - 1) h (omega arith) in
     let e : 4 * ((length bs + 3) / 4 - 1) + length bs % 4 ≡ length bs = omega arith in
     record {
       byte = mark-at bs m;
@@ -186,11 +217,13 @@ mark-is bs h m =
           ∙ ap (λ (j : ℕ). completed_bit bs j) e ∙ completed_bit-end bs;
     }
 
-bytes-of : (bs : List ℕ) (i : ℕ) → AreBits bs → i < length (hex_text bs) → (is_hex_digit (slice_index (hex_text bs) i) ≡ true) ⊎ IsMark (hex_text bs) i
+bytes-of : (bs : List ℕ) (i : ℕ) → AreBits bs → i < length (hex_text bs)
+    → (is_hex_digit (slice_index (hex_text bs) i) ≡ true) ⊎ IsMark (hex_text bs) i
 bytes-of bs i h l = ⊎_elim
     (λ (d : i < (length bs + 3) / 4). inl (digit-is bs i h d))
     (λ (d : (length bs + 3) / 4 ≤ i). ⊎_elim
-    (λ (e : length bs % 4 ≡ 0). let n : length (hex_text bs) ≡ (length bs + 3) / 4 = length-hex_text-whole bs e in absurd (omega arith))
+    (λ (e : length bs % 4 ≡ 0). let n : length (hex_text bs) ≡ (length bs + 3) / 4 = length-hex_text-whole bs e in
+    absurd (omega arith))
     (λ (e : length bs % 4 ≢ 0).
     let n : length (hex_text bs) ≡ (length bs + 3) / 4 + 1 = length-hex_text-part bs e in
     let p : (length bs + 3) / 4 ≡ i = omega arith in
@@ -199,7 +232,8 @@ bytes-of bs i h l = ⊎_elim
     (cases_eq (length bs % 4) 0))
     (cases_lt i ((length bs + 3) / 4))
 
-pub bytes-of_text : (text bs : List ℕ) (i : ℕ) → HexText text bs → i < length text → (is_hex_digit (slice_index text i) ≡ true) ⊎ IsMark text i
+pub bytes-of_text : (text bs : List ℕ) (i : ℕ) → HexText text bs → i < length text
+    → (is_hex_digit (slice_index text i) ≡ true) ⊎ IsMark text i
 bytes-of_text text bs i h l =
     let P : List ℕ → Type 0 = λ t. (is_hex_digit (slice_index t i) ≡ true) ⊎ IsMark t i in
     let n : i < length (hex_text bs) = let e = ap length h.1 in omega arith in
@@ -243,14 +277,17 @@ bad-unique text p q a b = ⊎_elim
 -- what a byte of a text that goes on is
 pub byte-of_front : (text : List ℕ) (p i : ℕ) → p < length text → i ≤ p → (g : GoesOn (take (p + 1) text))
     → (is_hex_digit (slice_index text i) ≡ true)
-    ⊎ ((slice_index text i ≡ 95) × (i ≡ p) × (0 < i) × ((y : ℕ) × (y < 3) × (bit_at (digit_number (slice_index text (i - 1))) y ≡ 1)))
+    ⊎ ((slice_index text i ≡ 95) × (i ≡ p) × (0 < i) ×
+    ((y : ℕ) × (y < 3) × (bit_at (digit_number (slice_index text (i - 1))) y ≡ 1)))
 byte-of_front text p i h l g =
     let n : length (take (p + 1) text) ≡ p + 1 = length-take-le (p + 1) text (omega arith) in
-    let m : length (take (p + 1) text ++ g.0) ≡ p + 1 + length g.0 = length-append (take (p + 1) text) g.0 ∙ omega arith in
+    let m : length (take (p + 1) text ++ g.0) ≡ p + 1 + length g.0 =
+    length-append (take (p + 1) text) g.0 ∙ omega arith in
     let at : (k : ℕ) → k ≤ p → slice_index (take (p + 1) text ++ g.0) k ≡ slice_index text k =
     λ k w. get_or_append_left (take (p + 1) text) g.0 0 k (omega arith) ∙ get_or-take (p + 1) text k 0 (omega arith) in
     ⊎_elim
-    (λ (d : is_hex_digit (slice_index (take (p + 1) text ++ g.0) i) ≡ true). inl (ap (λ (c : ℕ). is_hex_digit c) (sym (at i l)) ∙ d))
+    (λ (d : is_hex_digit (slice_index (take (p + 1) text ++ g.0) i) ≡ true). inl (ap (λ (c : ℕ). is_hex_digit c)
+    (sym (at i l)) ∙ d))
     (λ (k : IsMark (take (p + 1) text ++ g.0) i).
     let s : 0 < i = k.some in
     let t : i + 1 ≡ length (take (p + 1) text ++ g.0) = k.last in
@@ -268,30 +305,36 @@ byte-of_front text p i h l g =
 
 -- ---- one text spells one list of bits
 
-digits-same : (a b : List ℕ) (k : ℕ) → AreBits a → AreBits b → hex_text a ≡ hex_text b → k < (length a + 3) / 4 → k < (length b + 3) / 4
+digits-same : (a b : List ℕ) (k : ℕ) → AreBits a → AreBits b → hex_text a ≡ hex_text b → k < (length a + 3) / 4
+    → k < (length b + 3) / 4
     → completed_digit a k ≡ completed_digit b k
 digits-same a b k ha hb e l m =
     sym (digit-number a k ha l) ∙ ap (λ (t : List ℕ). digit_number (slice_index t k)) e ∙ digit-number b k hb m
 
-bits-same : (a b : List ℕ) (j : ℕ) → AreBits a → AreBits b → hex_text a ≡ hex_text b → j < 4 * ((length a + 3) / 4) → (length a + 3) / 4 ≡ (length b + 3) / 4
+bits-same : (a b : List ℕ) (j : ℕ) → AreBits a → AreBits b → hex_text a ≡ hex_text b → j < 4 * ((length a + 3) / 4)
+    → (length a + 3) / 4 ≡ (length b + 3) / 4
     → completed_bit a j ≡ completed_bit b j
 bits-same a b j ha hb e l m =
     let q : 4 * (j / 4) + j % 4 ≡ j = omega arith in
-    let d : completed_digit a (j / 4) ≡ completed_digit b (j / 4) = digits-same a b (j / 4) ha hb e (omega arith) (omega arith) in
+    let d : completed_digit a (j / 4) ≡ completed_digit b (j / 4) =
+    digits-same a b (j / 4) ha hb e (omega arith) (omega arith) in
     ap (λ (x : ℕ). completed_bit a x) (sym q)
     ∙ sym (bit_at-completed_digit a (j / 4) (j % 4) (3 - j % 4) ha (omega arith))
     ∙ ap (λ (v : ℕ). bit_at v (3 - j % 4)) d
     ∙ bit_at-completed_digit b (j / 4) (j % 4) (3 - j % 4) hb (omega arith)
     ∙ ap (λ (x : ℕ). completed_bit b x) q
 
-not-mixed : (a b : List ℕ) → AreBits a → AreBits b → hex_text a ≡ hex_text b → (length a % 4 ≡ 0 → ⊥) → length b % 4 ≡ 0 → ⊥
+not-mixed : (a b : List ℕ) → AreBits a → AreBits b → hex_text a ≡ hex_text b → (length a % 4 ≡ 0 → ⊥) → length b % 4 ≡ 0
+    → ⊥
 not-mixed a b ha hb e p w =
     let n : length (hex_text a) ≡ (length a + 3) / 4 + 1 = length-hex_text-part a p in
     let m : length (hex_text b) ≡ (length b + 3) / 4 = length-hex_text-whole b w in
     let l : length (hex_text a) ≡ length (hex_text b) = ap length e in
     let x : slice_index (hex_text a) ((length a + 3) / 4) ≡ 95 = mark-at a p in
-    let y : is_hex_digit (slice_index (hex_text b) ((length a + 3) / 4)) ≡ true = digit-is b ((length a + 3) / 4) hb (omega arith) in
-    let z : is_hex_digit 95 ≡ true = ap (λ (c : ℕ). is_hex_digit c) (sym x ∙ ap (λ (t : List ℕ). slice_index t ((length a + 3) / 4)) e) ∙ y in
+    let y : is_hex_digit (slice_index (hex_text b) ((length a + 3) / 4)) ≡ true =
+    digit-is b ((length a + 3) / 4) hb (omega arith) in
+    let z : is_hex_digit 95 ≡ true =
+    ap (λ (c : ℕ). is_hex_digit c) (sym x ∙ ap (λ (t : List ℕ). slice_index t ((length a + 3) / 4)) e) ∙ y in
     (cc)
 
 pub hex_text-injective : (a b : List ℕ) → AreBits a → AreBits b → hex_text a ≡ hex_text b → a ≡ b
@@ -331,37 +374,44 @@ plain-spelling ds h = record {
 }
 
 digits-go-on : (text : List ℕ) (n : ℕ) → AreDigits (take n text) → GoesOn (take n text)
-digits-go-on text n h = GoesOn-text (take n text) (spelling_bits (take n text) 0) (HexText-spelling (take n text) (take n text) 0 (plain-spelling (take n text) h))
+digits-go-on text n h =
+    GoesOn-text (take n text) (spelling_bits (take n text) 0)
+    (HexText-spelling (take n text) (take n text) 0 (plain-spelling (take n text) h))
 
-pub bad-byte : (text : List ℕ) (n : ℕ) → n < length text → AreDigits (take n text) → is_hex_digit (slice_index text n) ≡ false
+pub bad-byte : (text : List ℕ) (n : ℕ) → n < length text → AreDigits (take n text)
+    → is_hex_digit (slice_index text n) ≡ false
     → (slice_index text n ≡ 95 → n ≡ 0) → IsBadAt text n
 bad-byte text n h d e s = record {
   inside = h;
   before = digits-go-on text n d;
   stuck = λ g. ⊎_elim
       (λ (t : is_hex_digit (slice_index text n) ≡ true). absurd (cc))
-      (λ (m : (slice_index text n ≡ 95) × (n ≡ n) × (0 < n) × ((y : ℕ) × (y < 3) × (bit_at (digit_number (slice_index text (n - 1))) y ≡ 1))).
+      (λ (m : (slice_index text n ≡ 95) × (n ≡ n) × (0 < n) ×
+      ((y : ℕ) × (y < 3) × (bit_at (digit_number (slice_index text (n - 1))) y ≡ 1))).
       let z : n ≡ 0 = s m.0 in
       let p : 0 < n = m.2 in
       absurd (omega arith))
       (byte-of_front text n n h (omega arith) g);
 }
 
-pub bad-mark : (text : List ℕ) (n : ℕ) → n < length text → AreDigits (take n text) → is_hex_digit (slice_index text n) ≡ false
+pub bad-mark : (text : List ℕ) (n : ℕ) → n < length text → AreDigits (take n text)
+    → is_hex_digit (slice_index text n) ≡ false
     → ((y : ℕ) → y < 3 → bit_at (digit_number (slice_index text (n - 1))) y ≡ 0) → IsBadAt text n
 bad-mark text n h d e s = record {
   inside = h;
   before = digits-go-on text n d;
   stuck = λ g. ⊎_elim
       (λ (t : is_hex_digit (slice_index text n) ≡ true). absurd (cc))
-      (λ (m : (slice_index text n ≡ 95) × (n ≡ n) × (0 < n) × ((y : ℕ) × (y < 3) × (bit_at (digit_number (slice_index text (n - 1))) y ≡ 1))).
+      (λ (m : (slice_index text n ≡ 95) × (n ≡ n) × (0 < n) ×
+      ((y : ℕ) × (y < 3) × (bit_at (digit_number (slice_index text (n - 1))) y ≡ 1))).
       let z : bit_at (digit_number (slice_index text (n - 1))) m.3.0 ≡ 0 = s m.3.0 m.3.1 in
       let o : bit_at (digit_number (slice_index text (n - 1))) m.3.0 ≡ 1 = m.3.2 in
       absurd (omega arith))
       (byte-of_front text n n h (omega arith) g);
 }
 
-pub marked-spelling : (text : List ℕ) (n k : ℕ) → n < length text → 0 < n → AreDigits (take n text) → slice_index text n ≡ 95 → 0 < k → k ≤ 3
+pub marked-spelling : (text : List ℕ) (n k : ℕ) → n < length text → 0 < n → AreDigits (take n text)
+    → slice_index text n ≡ 95 → 0 < k → k ≤ 3
     → EndsByMark (digit_number (slice_index text (n - 1))) k → IsSpelling (take (n + 1) text) (take n text) k
 marked-spelling text n k h s d e p f m =
     let l : length (take n text) ≡ n = length-take-le n text (omega arith) in
@@ -377,15 +427,18 @@ marked-spelling text n k h s d e p f m =
       last = λ w. subst P (sym q) m;
     }
 
-pub bad-behind : (text : List ℕ) (n k : ℕ) → n + 1 < length text → slice_index text n ≡ 95 → IsSpelling (take (n + 1) text) (take n text) k → IsBadAt text (n + 1)
-bad-behind text n k h e s = record {
+pub bad-after : (text : List ℕ) (n k : ℕ) → n + 1 < length text → slice_index text n ≡ 95
+    → IsSpelling (take (n + 1) text) (take n text) k → IsBadAt text (n + 1)
+bad-after text n k h e s = record {
   inside = h;
-  before = GoesOn-text (take (n + 1) text) (spelling_bits (take n text) k) (HexText-spelling (take (n + 1) text) (take n text) k s);
+  before = GoesOn-text (take (n + 1) text) (spelling_bits (take n text) k)
+      (HexText-spelling (take (n + 1) text) (take n text) k s);
   stuck = λ g. ⊎_elim
       (λ (t : is_hex_digit (slice_index text n) ≡ true).
       let z : is_hex_digit 95 ≡ true = ap (λ (c : ℕ). is_hex_digit c) (sym e) ∙ t in
       absurd (cc))
-      (λ (m : (slice_index text n ≡ 95) × (n ≡ n + 1) × (0 < n) × ((y : ℕ) × (y < 3) × (bit_at (digit_number (slice_index text (n - 1))) y ≡ 1))).
+      (λ (m : (slice_index text n ≡ 95) × (n ≡ n + 1) × (0 < n) ×
+      ((y : ℕ) × (y < 3) × (bit_at (digit_number (slice_index text (n - 1))) y ≡ 1))).
       let z : n ≡ n + 1 = m.1 in
       absurd (omega arith))
       (byte-of_front text (n + 1) n h (omega arith) g);
@@ -397,7 +450,8 @@ pub digit_bits-none : (init : List ℕ) → init ≡ init ++ digit_bits []
 unfolding digit_bits
 digit_bits-none init = sym (append-nil init)
 
-pub length-pushed : (w init ds : List ℕ) (i : ℕ) → w ≡ init ++ digit_bits (take i ds) → i ≤ length ds → length w ≡ length init + 4 * i
+pub length-pushed : (w init ds : List ℕ) (i : ℕ) → w ≡ init ++ digit_bits (take i ds) → i ≤ length ds
+    → length w ≡ length init + 4 * i
 length-pushed w init ds i e h =
     let l : length (take i ds) ≡ i = length-take-le i ds h in
     let d : length (digit_bits (take i ds)) ≡ 4 * length (take i ds) = length-digit_bits (take i ds) in
@@ -417,19 +471,27 @@ spelling_bits-none [] k h = take_all (4 * 0 - k) [] (omega arith)
 spelling_bits-none (d ∷ ds) k h = absurd (omega arith)
 
 pub spelling_bits-last : (ds : List ℕ) (k : ℕ) → 0 < length ds → k ≤ 3
-    → digit_bits (take (length ds - 1) ds) ++ spelled (4 - k) (digit_number (slice_index ds (length ds - 1)) / 2 ^ k) ≡ spelling_bits ds k
+    → digit_bits (take (length ds - 1) ds) ++ spelled (4 - k) (digit_number (slice_index ds (length ds - 1)) / 2 ^ k)
+    ≡ spelling_bits ds k
 spelling_bits-last ds k h f =
     let n : length ds - 1 + 1 ≡ length ds = omega arith in
     let l : length (take (length ds - 1) ds) ≡ length ds - 1 = length-take-le (length ds - 1) ds (omega arith) in
-    let d : length (digit_bits (take (length ds - 1) ds)) ≡ 4 * length (take (length ds - 1) ds) = length-digit_bits (take (length ds - 1) ds) in
+    let d : length (digit_bits (take (length ds - 1) ds)) ≡ 4 * length (take (length ds - 1) ds) =
+    length-digit_bits (take (length ds - 1) ds) in
     let whole : ds ≡ take (length ds - 1) ds ++ slice_index ds (length ds - 1) ∷ [] =
     sym (take_all (length ds - 1 + 1) ds (omega arith)) ∙ take_more ds (length ds - 1) 0 (omega arith) in
-    let bits : digit_bits ds ≡ digit_bits (take (length ds - 1) ds) ++ spelled 4 (digit_number (slice_index ds (length ds - 1))) =
-    ap (λ (x : List ℕ). digit_bits x) whole ∙ digit_bits-push (take (length ds - 1) ds) (slice_index ds (length ds - 1)) in
+    let bits : digit_bits ds ≡ digit_bits (take (length ds - 1) ds) ++ spelled 4
+    (digit_number (slice_index ds (length ds - 1))) =
+    ap (λ (x : List ℕ). digit_bits x) whole
+    ∙ digit_bits-push (take (length ds - 1) ds) (slice_index ds (length ds - 1)) in
     let m : 4 * length ds - k ≡ length (digit_bits (take (length ds - 1) ds)) + (4 - k) = omega arith in
     let q : 4 - (4 - k) ≡ k = omega arith in
     sym (ap (λ (x : List ℕ). take (4 * length ds - k) x) bits
-    ∙ ap (λ (x : ℕ). take x (digit_bits (take (length ds - 1) ds) ++ spelled 4 (digit_number (slice_index ds (length ds - 1))))) m
-    ∙ take-append-add (digit_bits (take (length ds - 1) ds)) (spelled 4 (digit_number (slice_index ds (length ds - 1)))) (4 - k)
-    ∙ ap (λ (x : List ℕ). digit_bits (take (length ds - 1) ds) ++ x) (take-spelled (4 - k) 4 (digit_number (slice_index ds (length ds - 1))) (omega arith))
-    ∙ ap (λ (x : ℕ). digit_bits (take (length ds - 1) ds) ++ spelled (4 - k) (digit_number (slice_index ds (length ds - 1)) / 2 ^ x)) q)
+    ∙ ap (λ (x : ℕ). take x
+    (digit_bits (take (length ds - 1) ds) ++ spelled 4 (digit_number (slice_index ds (length ds - 1))))) m
+    ∙ take-append-add (digit_bits (take (length ds - 1) ds)) (spelled 4 (digit_number (slice_index ds (length ds - 1))))
+    (4 - k)
+    ∙ ap (λ (x : List ℕ). digit_bits (take (length ds - 1) ds) ++ x)
+    (take-spelled (4 - k) 4 (digit_number (slice_index ds (length ds - 1))) (omega arith))
+    ∙ ap (λ (x : ℕ). digit_bits (take (length ds - 1) ds) ++ spelled (4 - k)
+    (digit_number (slice_index ds (length ds - 1)) / 2 ^ x)) q)

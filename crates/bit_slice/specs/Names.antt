@@ -1,7 +1,8 @@
 -- Names of fields, types and constructors.
 --
 -- A name is a letter and then letters, digits and underscores, as the TON documentation on TL-B has it. A value
--- also has fields and constructors without a name: they are shown by their number, which is at least 1, as `_1` and `_2`, or by `_` alone.
+-- also has fields and constructors without a name: they are shown by their number, which is at least 1, as `_1` and
+-- `_2`, or by `_` alone.
 use Rattle.std.specs.Prelude.{ℕ, List, [], ◌∷◌, Bool, true, false, ◌&&◌, ◌||◌, ◌==◌, not, IsTrue}
 use Rattle.std.specs.List.{list_all}
 use Rattle.std.specs.Char.{is_ascii_alphabetic, is_ascii_alphanumeric, is_ascii_digit}

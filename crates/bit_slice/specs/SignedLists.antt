@@ -1,11 +1,13 @@
 -- Lemmas on two's complement numbers and their bits.
-use Rattle.std.specs.Prelude.{◌≡◌, ℕ, zero, suc, ◌+◌, ◌-◌, ◌*◌, ◌^◌, ◌<◌, ◌≤◌, ℤ, pos, negsuc, ◌-ℤ◌, List, [], ◌∷◌, length}
+use Rattle.std.specs.Prelude.{◌≡◌, ℕ, zero, suc, ◌+◌, ◌-◌, ◌*◌, ◌^◌, ◌<◌, ◌≤◌, ℤ, pos, negsuc, ◌-ℤ◌, List, [], ◌∷◌}
+use Rattle.std.specs.Prelude.{length}
 use Rattle.std.proofs.Common.{refl, sym, ap, ◌∙◌, arith, subst, lit<}
 use Rattle.std.specs.Int.{bit_at}
 use Rattle.std.proofs.lemmas.Int.{ints}
 use Rattle.std.proofs.lemmas.Nat.Bits.{bit_at_cat_low, bit_at_cat_high, bit_at_lowest}
 use Rattle.std.proofs.Math.Nat.{pow-suc}
-use Rattle.bit_slice.specs.Bits.{AreBits, number_of, spelled, signed_number_of, signed_spelled, twos_complement, InSignedRange}
+use Rattle.bit_slice.specs.Bits.{AreBits, number_of, spelled, signed_number_of, signed_spelled, twos_complement}
+use Rattle.bit_slice.specs.Bits.{InSignedRange}
 use Rattle.bit_slice.specs.BitLists.{length-spelled, number_of-spelled, spelled-number_of, number_of-bound}
 
 spelled-low : (n m b r : ℕ) → n ≤ m → spelled n (b * 2 ^ m + r) ≡ spelled n r
@@ -27,7 +29,8 @@ signed-first : (m b r : ℕ) → r < 2 ^ m → signed_number_of (b ∷ spelled m
 signed-first m b r l =
     rw (number_of-spelled m r l, length-spelled m r) refl
 
-signed-split : (m b r : ℕ) (v : ℤ) → b < 2 → r < 2 ^ m → twos_complement (suc m) v ≡ b * 2 ^ m + r → pos r -ℤ pos (b * 2 ^ m) ≡ v
+signed-split : (m b r : ℕ) (v : ℤ) → b < 2 → r < 2 ^ m → twos_complement (suc m) v ≡ b * 2 ^ m + r
+    → pos r -ℤ pos (b * 2 ^ m) ≡ v
     → signed_number_of (signed_spelled (suc m) v) ≡ v
 signed-split m b r v h l e f =
     ap (λ (x : ℕ). signed_number_of (spelled (suc m) x)) e
@@ -47,7 +50,8 @@ signed_number_of-spelled (suc m) (negsuc a) r =
     let p : 2 ^ suc m ≡ 2 ^ m * 2 = pow-suc 2 m in
     let h : 2 * (a + 1) ≤ 2 ^ suc m = omega (arith, ints) in
     let o : 1 * 2 ^ m ≡ 2 ^ m = omega arith in
-    signed-split m 1 (2 ^ m - (a + 1)) (negsuc a) (lit< tt) (omega arith) (rw (o, p) (omega arith)) (rw o (omega (arith, ints)))
+    signed-split m 1 (2 ^ m - (a + 1)) (negsuc a) (lit< tt) (omega arith) (rw (o, p) (omega arith))
+    (rw o (omega (arith, ints)))
 
 clear-first : (p r : ℕ) → pos r -ℤ pos (0 * p) ≡ pos r
 clear-first p r = let z : 0 * p ≡ 0 = omega arith in rw z (omega (arith, ints))

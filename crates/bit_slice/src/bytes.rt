@@ -1,7 +1,8 @@
 //! Bits in bytes, read and written. The highest bit of a byte comes first.
 ghost use Rattle.std.specs.Prelude.{◌≡◌, ◌<◌, ◌≤◌, ◌≢◌, ◌+◌, ◌*◌, ◌/◌, ◌^◌, ◌++◌, ◌∷◌, [], ℕ, length, OnOk};
 ghost use Rattle.std.specs.Int.{bit_at};
-ghost use Rattle.bit_slice.specs.Bits.{bits_from, bit_number, bit_of, number_of, spelled, signed_number_of, InSignedRange, twos_complement, completed_byte};
+ghost use Rattle.bit_slice.specs.Bits.{bits_from, bit_number, bit_of, number_of, spelled, signed_number_of};
+ghost use Rattle.bit_slice.specs.Bits.{InSignedRange, twos_complement, completed_byte};
 
 use std::alloc::AllocError;
 use tlb_memory::NoMemory;

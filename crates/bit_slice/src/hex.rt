@@ -1,7 +1,9 @@
 //! Bits as hexadecimal text.
-ghost use Rattle.std.specs.Prelude.{◌≡◌, ℕ, ◌+◌, ◌-◌, ◌*◌, ◌/◌, ◌<◌, ◌≤◌, ◌⊎◌, ◌↔◌, ◌++◌, List, length, take, slice_index, true, false, IfOk, IfErr};
+ghost use Rattle.std.specs.Prelude.{◌≡◌, ℕ, ◌+◌, ◌-◌, ◌*◌, ◌/◌, ◌<◌, ◌≤◌, ◌⊎◌, ◌↔◌, ◌++◌, List, length, take};
+ghost use Rattle.std.specs.Prelude.{slice_index, true, false, IfOk, IfErr};
 ghost use Rattle.bit_slice.specs.Bits.{AreBits, hex_digit, hex_text, HexText, IsBadAt, IsTooLong};
-ghost use Rattle.bit_slice.specs.HexLists.{is_hex_digit, digit_number, digit_bits, completed_digit, AreDigits, IsSpelling};
+ghost use Rattle.bit_slice.specs.HexLists.{is_hex_digit, digit_number, digit_bits, completed_digit, AreDigits};
+ghost use Rattle.bit_slice.specs.HexLists.{IsSpelling};
 ghost use Rattle.bit_slice.specs.HexTexts.{spelling_bits};
 
 use crate::bytes::push_byte;
@@ -144,13 +146,14 @@ fn read_digits(alloc: Global, digits: &[u8], dropped: u32) -> Result<BitString, 
 
 impl BitString {
     /// Reads a text of upper-case hexadecimal digits. A `_` at the end drops the last 1 bit of the
-    /// last digit and the zeros behind it.
+    /// last digit and the zeros after it.
     #[tactic(none)]
     pub fn from_hex_text(alloc: Global, text: &[u8]) -> Result<BitString, HexTextError>
         ensures ok { IfOk result (λ b. HexText text.now b) }
         ensures bad { (place : ℕ) → (result ≡ Err (HexTextError.Bad place)) ↔ IsBadAt text.now place }
         ensures too_long { (result ≡ Err HexTextError.TooLong) ↔ IsTooLong text.now }
-        ensures back { (b : List ℕ) → HexText text.now b → length b ≤ 1023 → (result ≡ Ok b) ⊎ (result ≡ Err HexTextError.NoMemory) }
+        ensures back { (b : List ℕ) → HexText text.now b → length b ≤ 1023
+            → (result ≡ Ok b) ⊎ (result ≡ Err HexTextError.NoMemory) }
     {
         let Spelling { digits, dropped } = match spelling_of(text) {
             Ok(spelling) => spelling,

@@ -1,7 +1,10 @@
 //! What ties the definitions on bits. Each function states one law; its body is empty.
-ghost use Rattle.std.specs.Prelude.{◌≡◌, ◌≢◌, ◌↔◌, ℕ, suc, ◌+◌, ◌-◌, ◌*◌, ◌/◌, ◌%◌, ◌^◌, ◌<◌, ◌≤◌, ℤ, List, ◌++◌, length, map, take, drop};
+ghost use Rattle.std.specs.Prelude.{◌≡◌, ◌≢◌, ◌↔◌, ℕ, suc, ◌+◌, ◌-◌, ◌*◌, ◌/◌, ◌%◌, ◌^◌, ◌<◌, ◌≤◌, ℤ, List, ◌++◌};
+ghost use Rattle.std.specs.Prelude.{length, map, take, drop};
 ghost use Rattle.std.specs.List.{range_with_len};
-ghost use Rattle.bit_slice.specs.Bits.{AreBits, BeginsWith, bits_from, number_of, spelled, signed_number_of, signed_spelled, twos_complement, InSignedRange, bit_length, completed, completed_byte, HexText, IsBadAt, IsTooLong};
+ghost use Rattle.bit_slice.specs.Bits.{AreBits, BeginsWith, bits_from, number_of, spelled, signed_number_of};
+ghost use Rattle.bit_slice.specs.Bits.{signed_spelled, twos_complement, InSignedRange, bit_length, completed};
+ghost use Rattle.bit_slice.specs.Bits.{completed_byte, HexText, IsBadAt, IsTooLong};
 
 /// The number of the bits of a number is that number.
 pub fn number_of_spelled()
@@ -55,7 +58,8 @@ pub fn completed_begins()
 /// Bits are known from their completed bytes, together with how many of these are whole: the
 /// second descriptor byte of a cell tells both.
 pub fn completed_injective()
-    ensures { (a b : List ℕ) → AreBits a → AreBits b → length a / 8 + (length a + 7) / 8 ≡ length b / 8 + (length b + 7) / 8 → completed a ≡ completed b → a ≡ b }
+    ensures { (a b : List ℕ) → AreBits a → AreBits b
+        → length a / 8 + (length a + 7) / 8 ≡ length b / 8 + (length b + 7) / 8 → completed a ≡ completed b → a ≡ b }
 {}
 
 /// A text spells at most one list of bits.

@@ -26,7 +26,7 @@ impl Model for Name {
     ghost invariant = { λ n. IsName n.text.items };
 }
 
-/// Whether each byte may stand in a name behind a letter.
+/// Whether each byte may stand in a name after a letter.
 fn are_name_bytes(bytes: &[u8]) -> bool
     ensures { result ≡ list_all is_name_byte bytes.now }
 {

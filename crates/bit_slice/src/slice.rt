@@ -1,7 +1,8 @@
 //! A borrowed part of bits.
 ghost use Rattle.std.specs.Prelude.{◌≡◌, ◌<◌, ◌≤◌, ◌*◌, ◌+◌, ◌/◌, length, slice_index, take, drop, IsTrue, ◌↔◌};
 ghost use Rattle.std.specs.Option.{option_copied};
-ghost use Rattle.bit_slice.specs.Bits.{bits_from, AreBits, BeginsWith, taken, front_number, front_signed, number_of, signed_number_of, completed_byte, bit_value, bit_number};
+ghost use Rattle.bit_slice.specs.Bits.{bits_from, AreBits, BeginsWith, taken, front_number, front_signed, number_of};
+ghost use Rattle.bit_slice.specs.Bits.{signed_number_of, completed_byte, bit_value, bit_number};
 
 use crate::bytes::{byte_at, completed_byte_at, number_at, read_bit, signed_at};
 use std::marker::Model;

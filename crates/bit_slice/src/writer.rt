@@ -1,5 +1,6 @@
 //! Bits that are written one after another.
-ghost use Rattle.std.specs.Prelude.{◌≡◌, ◌<◌, ◌≤◌, ◌≢◌, ◌+◌, ◌*◌, ◌/◌, ◌^◌, ◌++◌, ◌∷◌, [], ℕ, length, take, IfOk, IfErr, OnOk, OnErr, ◌↔◌};
+ghost use Rattle.std.specs.Prelude.{◌≡◌, ◌<◌, ◌≤◌, ◌≢◌, ◌+◌, ◌*◌, ◌/◌, ◌^◌, ◌++◌, ◌∷◌, [], ℕ, length, take, IfOk};
+ghost use Rattle.std.specs.Prelude.{IfErr, OnOk, OnErr, ◌↔◌};
 ghost use Rattle.std.specs.Result.{IsErr};
 ghost use Rattle.bit_slice.specs.Bits.{bit_number, spelled, InSignedRange, signed_spelled};
 

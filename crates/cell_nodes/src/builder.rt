@@ -98,7 +98,8 @@ impl CellBuilder {
     pub fn push_number(&mut self, value: u128, n: u32) -> Result<(), PushError>
         requires wide { n ≤ 128 }
         requires fits { value < 2 ^ n }
-        ensures ok { OnOk result ((self.new.bits ≡ self.old.bits ++ spelled n value) × (self.new.refs ≡ self.old.refs)) }
+        ensures ok { OnOk result
+            ((self.new.bits ≡ self.old.bits ++ spelled n value) × (self.new.refs ≡ self.old.refs)) }
         ensures err { OnErr result (self.new ≡ self.old) }
         ensures full { IsErrOf result PushError.Full ↔ (1023 < length self.old.bits + n) }
         ensures not_deep { ¬ IsErrOf result PushError.TooDeep }
@@ -113,7 +114,8 @@ impl CellBuilder {
     pub fn push_signed(&mut self, value: i128, n: u32) -> Result<(), PushError>
         requires wide { n ≤ 128 }
         requires range { InSignedRange n value }
-        ensures ok { OnOk result ((self.new.bits ≡ self.old.bits ++ signed_spelled n value) × (self.new.refs ≡ self.old.refs)) }
+        ensures ok { OnOk result
+            ((self.new.bits ≡ self.old.bits ++ signed_spelled n value) × (self.new.refs ≡ self.old.refs)) }
         ensures err { OnErr result (self.new ≡ self.old) }
         ensures full { IsErrOf result PushError.Full ↔ (1023 < length self.old.bits + n) }
         ensures not_deep { ¬ IsErrOf result PushError.TooDeep }

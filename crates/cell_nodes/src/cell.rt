@@ -89,7 +89,8 @@ impl Model for Cell {
 
     ghost size = { unfolded };
 
-    ghost size_decreases = { λ a h. omega (arith, most_le-unfolded a.node.value.kind a.node.value.bits a.node.value.children.items) };
+    ghost size_decreases = { λ a h.
+        omega (arith, most_le-unfolded a.node.value.kind a.node.value.bits a.node.value.children.items) };
 }
 
 impl Cell {

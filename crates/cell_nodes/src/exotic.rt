@@ -29,7 +29,8 @@ fn marks_within(alloc: Global, cell: &Cell, level: u32) -> Result<Vec<ChildMark>
 fn add_level(found: &mut Vec<ChildMark>, cell: &Cell, i: u32) -> Result<(), NoMemory>
     requires level { i ≤ 2 }
     requires before { found.old.items ≡ map (λ j. mark_at j (marks cell.now)) (levels_in i (mask cell.now)) }
-    ensures { OnOk result (found.new.items ≡ map (λ j. mark_at j (marks cell.now)) (levels_in (i + 1) (mask cell.now))) }
+    ensures { OnOk result
+        (found.new.items ≡ map (λ j. mark_at j (marks cell.now)) (levels_in (i + 1) (mask cell.now))) }
 {
     let mask = cell.mask();
     if !has_next(mask, i) {

@@ -11,7 +11,8 @@ pub fn pruning_keeps()
         → (l : ℕ) → l ≤ i → hash p l ≡ hash t l }
     ensures depth { (t p : Tree) (i : ℕ) → IsGood t → IsGood p → mask t < 2 ^ i → Prunes t p i
         → (l : ℕ) → l ≤ i → depth p l ≡ depth t l }
-    ensures mask { (t p : Tree) (i : ℕ) → IsGood t → IsGood p → mask t < 2 ^ i → Prunes t p i → mask p % 2 ^ i ≡ mask t }
+    ensures mask { (t p : Tree) (i : ℕ) → IsGood t → IsGood p → mask t < 2 ^ i → Prunes t p i
+        → mask p % 2 ^ i ≡ mask t }
 {}
 
 /// Pruning below i proofs keeps a tree good.

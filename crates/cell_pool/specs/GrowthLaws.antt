@@ -29,7 +29,12 @@ length-joined : (seen : List Tree) (more : List (List Tree))
     → length (joined seen more) ≤ length seen + total (map length more)
 length-joined seen [] = omega arith
 length-joined seen (ts ∷ more) =
-    omega (arith, length-joined (seen ++ without seen ts) more, length-append seen (without seen ts), length-without seen ts)
+    omega (
+      arith,
+      length-joined (seen ++ without seen ts) more,
+      length-append seen (without seen ts),
+      length-without seen ts,
+    )
 
 lengths-posts : (ts : List Tree) → EachOf (λ t. length (post t) ≤ unfolded t) ts
     → total (map length (map post ts)) ≤ total (map unfolded ts)
@@ -40,7 +45,14 @@ length-post_step : (t : Tree) → EachOf (λ u. length (post u) ≤ unfolded u) 
     → length (post t) ≤ unfolded t
 length-post_step t each =
     let cs = (out-Tree t).children in
-    rw (post-out t) (omega (arith, length-append (joined [] (map post cs)) (t ∷ []), length-joined [] (map post cs), lengths-posts cs each, unfolded-out t))
+    rw (post-out t)
+    (omega (
+      arith,
+      length-append (joined [] (map post cs)) (t ∷ []),
+      length-joined [] (map post cs),
+      lengths-posts cs each,
+      unfolded-out t,
+    ))
 
 -- a tree has no more distinct subtrees than cells
 pub length-post : (t : Tree) → length (post t) ≤ unfolded t
@@ -51,7 +63,8 @@ each-length [] = tt
 each-length (t ∷ ts) = (length-post t, each-length ts)
 
 pub length-added : (seen : List Tree) (t : Tree) → length (added seen t) ≤ length seen + unfolded t
-length-added seen t = omega (arith, length-append seen (without seen (post t)), length-without seen (post t), length-post t)
+length-added seen t =
+    omega (arith, length-append seen (without seen (post t)), length-without seen (post t), length-post t)
 
 pub length-added_all : (seen ts : List Tree) → length (added_all seen ts) ≤ length seen + total (map unfolded ts)
 length-added_all seen ts = omega (arith, length-joined seen (map post ts), lengths-posts ts (each-length ts))
@@ -67,7 +80,8 @@ between-more a b c more l = record {
   part = l.part;
   rest = l.rest ++ without c (joined [] more);
   starts = l.starts;
-  ends = joined-after c more ∙ ap (λ (x : List Tree). x ++ without c (joined [] more)) l.ends ∙ append_assoc b l.rest (without c (joined [] more));
+  ends = joined-after c more ∙ ap (λ (x : List Tree). x ++ without c (joined [] more)) l.ends
+      ∙ append_assoc b l.rest (without c (joined [] more));
 }
 
 -- what lies between the middle and the end lies between the beginning and the end
@@ -84,7 +98,8 @@ between-partly a b t p = record {
   part = p.part;
   rest = p.rest;
   starts = p.starts;
-  ends = ap (λ (x : List Tree). a ++ x) p.whole ∙ sym (append_assoc a p.part p.rest) ∙ ap (λ (x : List Tree). x ++ p.rest) (sym p.starts);
+  ends = ap (λ (x : List Tree). a ++ x) p.whole ∙ sym (append_assoc a p.part p.rest)
+      ∙ ap (λ (x : List Tree). x ++ p.rest) (sym p.starts);
 }
 
 pub between-all : (seen ts : List Tree) → LiesBetween seen (added_all seen ts) (added_all seen ts)
@@ -120,7 +135,13 @@ part-not_whole seen new t b l = ⊎_elim
     let m = ap length (added-out seen t) in
     let k = length-append (added_all seen (out-Tree t).children) (without seen (t ∷ [])) in
     let e : l.part ≡ [] =
-    none-long l.part (omega (arith, ap length l.ends, ap length l.starts, length-append new l.rest, length-append seen l.part)) in
+    none-long l.part (omega (
+      arith,
+      ap length l.ends,
+      ap length l.starts,
+      length-append new l.rest,
+      length-append seen l.part,
+    )) in
     ap (λ (x : List Tree). stands x t) e)
     (λ (h : stands seen t ≡ false).
     let e : added_all seen (out-Tree t).children ≡ (seen ++ l.part) ++ l.rest =

@@ -1,4 +1,4 @@
--- The list of distinct subtrees has each of them once, each behind its children.
+-- The list of distinct subtrees has each of them once, each after its children.
 use Rattle.std.proofs.Common.{◌≡◌, ◌∙◌, ℕ, zero, suc, true, false, List, [], ◌∷◌, ◌++◌, map, refl, ap, sym, subst}
 use Rattle.std.proofs.Common.{⊎_elim, inl, inr}
 use Rattle.std.specs.Prelude.{Some, slice_get, ◌⊎◌}
@@ -21,10 +21,12 @@ child-stands (t ∷ ts) us (suc i) c h k = child-stands ts us i c h.1 k
 
 subtree-stands : (us : List Tree) (u t : Tree) → IsClosed us → IsSubtree u t → stands us t ≡ true → stands us u ≡ true
 subtree-stands us u t c (itself t') h = h
-subtree-stands us u t c (below u' v t' i at s) h = subtree-stands us u v c s (child-stands (out-Tree t).children us i v (c t h) at)
+subtree-stands us u t c (below u' v t' i at s) h =
+    subtree-stands us u v c s (child-stands (out-Tree t).children us i v (c t h) at)
 
 pub each-subtree : (t u : Tree) → IsSubtree u t → (i : ℕ) × (slice_get (post t) i ≡ Some u)
-each-subtree t u s = at-stands (post t) u (subtree-stands (post t) u t (closed (post t) (ordered-post t).before) s (stands-post t))
+each-subtree t u s =
+    at-stands (post t) u (subtree-stands (post t) u t (closed (post t) (ordered-post t).before) s (stands-post t))
 
 abbrev OnlySubtrees : Tree → Type 0
 OnlySubtrees t = (u : Tree) → stands (post t) u ≡ true → IsSubtree u t
@@ -42,15 +44,16 @@ only-all seen (t ∷ ts) u each h = ⊎_elim
 
 only_step : (t : Tree) → EachOf OnlySubtrees (out-Tree t).children → OnlySubtrees t
 only_step t each u h =
-    let front = joined [] (map post (out-Tree t).children) in
-    let k : stands (front ++ t ∷ []) u ≡ true = sym (ap (λ (l : List Tree). stands l u) (post-out t)) ∙ h in
+    let prefix = joined [] (map post (out-Tree t).children) in
+    let k : stands (prefix ++ t ∷ []) u ≡ true = sym (ap (λ (l : List Tree). stands l u) (post-out t)) ∙ h in
     ⊎_elim
-    (λ (l : stands front u ≡ true). ⊎_elim
+    (λ (l : stands prefix u ≡ true). ⊎_elim
     (λ (m : false ≡ true). absurd (cc))
-    (λ (m : (i : ℕ) × (c : Tree) × (slice_get (out-Tree t).children i ≡ Some c) × IsSubtree u c). below u m.1 t m.0 m.2 m.3)
+    (λ (m : (i : ℕ) × (c : Tree) × (slice_get (out-Tree t).children i ≡ Some c)
+    × IsSubtree u c). below u m.1 t m.0 m.2 m.3)
     (only-all [] (out-Tree t).children u each l))
     (λ (l : stands (t ∷ []) u ≡ true). subst (λ (v : Tree). IsSubtree v t) (stands-only t u l) (itself t))
-    (or_cases (stands front u) (stands (t ∷ []) u) (sym (stands-append front (t ∷ []) u) ∙ k))
+    (or_cases (stands prefix u) (stands (t ∷ []) u) (sym (stands-append prefix (t ∷ []) u) ∙ k))
 
 only-subtrees : (t : Tree) → OnlySubtrees t
 only-subtrees = tree_induction OnlySubtrees only_step
@@ -70,7 +73,8 @@ child-good (t ∷ ts) (suc i) c g h = child-good ts i c (all_good-tail t ts g) h
 
 subtree-good : (u t : Tree) → IsSubtree u t → IsGood t → IsGood u
 subtree-good u t (itself t') g = g
-subtree-good u t (below u' c t' i at s) g = subtree-good u c s (child-good (out-Tree t).children i c (good-children t g) at)
+subtree-good u t (below u' c t' i at s) g =
+    subtree-good u c s (child-good (out-Tree t).children i c (good-children t g) at)
 
 -- each subtree of a good tree is good
 pub post-good : (t u : Tree) (i : ℕ) → IsGood t → slice_get (post t) i ≡ Some u → IsGood u

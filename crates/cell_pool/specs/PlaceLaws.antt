@@ -30,7 +30,8 @@ or_none false y h k = k
 
 pub stands-append : (xs ys : List Tree) (t : Tree) → stands (xs ++ ys) t ≡ (stands xs t || stands ys t)
 stands-append [] ys t = refl
-stands-append (x ∷ xs) ys t = ap (λ (b : Bool). same x t || b) (stands-append xs ys t) ∙ or_assoc (same x t) (stands xs t) (stands ys t)
+stands-append (x ∷ xs) ys t =
+    ap (λ (b : Bool). same x t || b) (stands-append xs ys t) ∙ or_assoc (same x t) (stands xs t) (stands ys t)
 
 kept : (b s x y : Bool) → (s ≡ true → y ≡ b) → ((not b && s) || (x && not y)) ≡ ((s || x) && not y)
 kept true true true true h = refl
@@ -52,13 +53,15 @@ stands-without seen [] t = refl
 stands-without seen (u ∷ us) t =
     stands-cond (not (stands seen u)) u (without seen us) t
     ∙ ap (λ (b : Bool). (not (stands seen u) && same u t) || b) (stands-without seen us t)
-    ∙ kept (stands seen u) (same u t) (stands us t) (stands seen t) (λ (e : same u t ≡ true). ap (λ (v : Tree). stands seen v) (sym (same-equal u t e)))
+    ∙ kept (stands seen u) (same u t) (stands us t) (stands seen t)
+    (λ (e : same u t ≡ true). ap (λ (v : Tree). stands seen v) (sym (same-equal u t e)))
 
 pub stands-last : (xs : List Tree) (t : Tree) → stands (xs ++ t ∷ []) t ≡ true
 stands-last xs t = stands-append xs (t ∷ []) t ∙ or_right _ _ (or_left _ _ (same-itself t))
 
 pub stands-only : (t u : Tree) → stands (t ∷ []) u ≡ true → t ≡ u
-stands-only t u h = ⊎_elim (λ (e : same t u ≡ true). same-equal t u e) (λ (e : false ≡ true). cc) (or_cases (same t u) false h)
+stands-only t u h =
+    ⊎_elim (λ (e : same t u ≡ true). same-equal t u e) (λ (e : false ≡ true). cc) (or_cases (same t u) false h)
 
 -- ---- places
 
@@ -100,7 +103,8 @@ pub place-append_right : (xs ys : List Tree) (t : Tree) → stands xs t ≡ fals
 place-append_right [] ys t h = omega arith
 place-append_right (x ∷ xs) ys t h = ⊎_elim
     (λ (e : same x t ≡ true). let k : true ≡ false = rw e at h in cc)
-    (λ (e : same x t ≡ false). let k : stands xs t ≡ false = rw e at h in rw e (omega (arith, place-append_right xs ys t k)))
+    (λ (e : same x t ≡ false). let k : stands xs t ≡ false = rw e at h in
+    rw e (omega (arith, place-append_right xs ys t k)))
     (cases_Bool (same x t))
 
 pub place-last : (xs : List Tree) (t : Tree) → stands xs t ≡ false → place (xs ++ t ∷ []) t ≡ length xs
@@ -113,7 +117,8 @@ without-append seen xs ys = filter-append (λ t. not (stands seen t)) xs ys
 
 stands-joint : (seen xs : List Tree) (t : Tree)
     → stands (seen ++ without seen xs) t ≡ (stands seen t || (stands xs t && not (stands seen t)))
-stands-joint seen xs t = stands-append seen (without seen xs) t ∙ ap (λ (b : Bool). stands seen t || b) (stands-without seen xs t)
+stands-joint seen xs t =
+    stands-append seen (without seen xs) t ∙ ap (λ (b : Bool). stands seen t || b) (stands-without seen xs t)
 
 twice_without : (b x : Bool) (y : Tree) (f : List Tree → List Tree) (rest : List Tree)
     → ((ys : List Tree) → f (y ∷ ys) ≡ cond (not b) (y ∷ f ys) (f ys))
@@ -126,8 +131,10 @@ twice_without false false y f rest h = sym (h rest)
 without-joint : (seen xs ys : List Tree) → without (seen ++ without seen xs) ys ≡ without seen (without xs ys)
 without-joint seen xs [] = refl
 without-joint seen xs (y ∷ ys) =
-    ap (λ (b : Bool). cond (not b) (y ∷ without (seen ++ without seen xs) ys) (without (seen ++ without seen xs) ys)) (stands-joint seen xs y)
-    ∙ ap (λ (l : List Tree). cond (not (stands seen y || (stands xs y && not (stands seen y)))) (y ∷ l) l) (without-joint seen xs ys)
+    ap (λ (b : Bool). cond (not b) (y ∷ without (seen ++ without seen xs) ys) (without (seen ++ without seen xs) ys))
+    (stands-joint seen xs y)
+    ∙ ap (λ (l : List Tree). cond (not (stands seen y || (stands xs y && not (stands seen y)))) (y ∷ l) l)
+    (without-joint seen xs ys)
     ∙ twice_without (stands seen y) (stands xs y) y (without seen) (without xs ys) (λ zs. refl)
 
 joint : List Tree → List Tree → List Tree
@@ -135,7 +142,9 @@ joint seen xs = seen ++ without seen xs
 
 joint_more : (seen xs ys : List Tree)
     → (seen ++ without seen xs) ++ without (seen ++ without seen xs) ys ≡ seen ++ without seen (xs ++ without xs ys)
-joint_more seen xs ys = rw (without-joint seen xs ys, without-append seen xs (without xs ys)) (append_assoc seen (without seen xs) (without seen (without xs ys)))
+joint_more seen xs ys =
+    rw (without-joint seen xs ys, without-append seen xs (without xs ys))
+    (append_assoc seen (without seen xs) (without seen (without xs ys)))
 
 pub joined-joint : (seen xs : List Tree) (more : List (List Tree))
     → joined (seen ++ without seen xs) more ≡ seen ++ without seen (joined xs more)
@@ -151,12 +160,14 @@ joined-after seen more = ap (λ (l : List Tree). joined l more) (sym (append-nil
 pub stands-joined : (seen : List Tree) (more : List (List Tree)) (t : Tree) → stands seen t ≡ true
     → stands (joined seen more) t ≡ true
 stands-joined seen more t h =
-    ap (λ (l : List Tree). stands l t) (joined-after seen more) ∙ stands-append seen (without seen (joined [] more)) t ∙ or_left _ _ h
+    ap (λ (l : List Tree). stands l t) (joined-after seen more) ∙ stands-append seen (without seen (joined [] more)) t
+    ∙ or_left _ _ h
 
 pub place-joined : (seen : List Tree) (more : List (List Tree)) (t : Tree) → stands seen t ≡ true
     → place (joined seen more) t ≡ place seen t
 place-joined seen more t h =
-    ap (λ (l : List Tree). place l t) (joined-after seen more) ∙ place-append_left seen (without seen (joined [] more)) t h
+    ap (λ (l : List Tree). place l t) (joined-after seen more)
+    ∙ place-append_left seen (without seen (joined [] more)) t h
 
 -- a tree of the list that is added stands there
 pub stands-joint_new : (seen xs : List Tree) (t : Tree) → stands xs t ≡ true → stands (seen ++ without seen xs) t ≡ true
@@ -211,7 +222,8 @@ pub at-place : (ts : List Tree) (t : Tree) → stands ts t ≡ true → slice_ge
 at-place [] t h = absurd (cc)
 at-place (u ∷ us) t h = ⊎_elim
     (λ (e : same u t ≡ true). rw e (ap (λ (v : Tree). Some v) (same-equal u t e)))
-    (λ (e : same u t ≡ false). let k : stands us t ≡ true = rw e at h in let s : 1 + place us t ≡ suc (place us t) = omega arith in rw (e, s) (at-place us t k))
+    (λ (e : same u t ≡ false). let k : stands us t ≡ true = rw e at h in
+    let s : 1 + place us t ≡ suc (place us t) = omega arith in rw (e, s) (at-place us t k))
     (cases_Bool (same u t))
 
 -- the tree at a place of a list that has one more at its end
@@ -221,7 +233,10 @@ at-push [] t u zero h = let e : t ≡ u = cc in inr (e, refl)
 at-push [] t u (suc i) h = absurd (cc)
 at-push (x ∷ xs) t u zero h = inl (h, refl)
 at-push (x ∷ xs) t u (suc i) h = ⊎_elim
-    (λ (k : (slice_get xs i ≡ Some u) × (take i (xs ++ t ∷ []) ≡ take i xs)). inl (k.0, ap (λ (l : List Tree). x ∷ l) k.1))
+    (λ (k : (slice_get xs i ≡ Some u) × (take i (xs ++ t ∷ []) ≡ take i xs)). inl (
+      k.0,
+      ap (λ (l : List Tree). x ∷ l) k.1,
+    ))
     (λ (k : (t ≡ u) × (take i (xs ++ t ∷ []) ≡ xs)). inr (k.0, ap (λ (l : List Tree). x ∷ l) k.1))
     (at-push xs t u i h)
 

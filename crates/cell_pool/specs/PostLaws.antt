@@ -48,12 +48,15 @@ pub post-out : (t : Tree) → post t ≡ joined [] (map post (out-Tree t).childr
 post-out t =
     let cs = (out-Tree t).children in
     ap (λ (l : Listed). l.post) (listed-out t)
-    ∙ ap (λ (ps : List (List Tree)). joined [] ps ++ tree_of (out-Tree t).kind (out-Tree t).bits (map (λ (c : Listed). c.tree) (map listed cs)) ∷ []) (posts-listed cs)
-    ∙ ap (λ (ts : List Tree). joined [] (map post cs) ++ tree_of (out-Tree t).kind (out-Tree t).bits ts ∷ []) (trees_listed cs (each-listed cs))
+    ∙ ap (λ (ps : List (List Tree)). joined [] ps ++ tree_of
+    (out-Tree t).kind (out-Tree t).bits (map (λ (c : Listed). c.tree) (map listed cs)) ∷ []) (posts-listed cs)
+    ∙ ap (λ (ts : List Tree). joined [] (map post cs) ++ tree_of (out-Tree t).kind (out-Tree t).bits ts ∷ [])
+    (trees_listed cs (each-listed cs))
     ∙ ap (λ (u : Tree). joined [] (map post cs) ++ u ∷ []) (tree_of-out t)
 
 pub stands-post : (t : Tree) → stands (post t) t ≡ true
-stands-post t = ap (λ (l : List Tree). stands l t) (post-out t) ∙ stands-last (joined [] (map post (out-Tree t).children)) t
+stands-post t =
+    ap (λ (l : List Tree). stands l t) (post-out t) ∙ stands-last (joined [] (map post (out-Tree t).children)) t
 
 -- ---- adding a tree
 
@@ -70,10 +73,11 @@ added-out seen t =
     ∙ sym (append_assoc seen (without seen below) (without seen (t ∷ [])))
     ∙ ap (λ (l : List Tree). l ++ without seen (t ∷ [])) (sym (joined-after seen (map post (out-Tree t).children)))
 
--- a tree that is not there comes behind its children
+-- a tree that is not there comes after its children
 pub added-new : (seen : List Tree) (t : Tree) → stands seen t ≡ false
     → added seen t ≡ added_all seen (out-Tree t).children ++ t ∷ []
-added-new seen t h = added-out seen t ∙ ap (λ (l : List Tree). added_all seen (out-Tree t).children ++ l) (without-only seen t false h)
+added-new seen t h =
+    added-out seen t ∙ ap (λ (l : List Tree). added_all seen (out-Tree t).children ++ l) (without-only seen t false h)
 
 all_known : (seen ts : List Tree) → EachOf (λ t. IsClosed seen → stands seen t ≡ true → added seen t ≡ seen) ts
     → IsClosed seen → AllStand seen ts → added_all seen ts ≡ seen
@@ -169,7 +173,8 @@ before-push seen t b h i u k = ⊎_elim
     (λ (l : (slice_get seen i ≡ Some u) × (take i (seen ++ t ∷ []) ≡ take i seen)).
     subst (λ (x : List Tree). AllStand x (out-Tree u).children) (sym l.1) (b i u l.0))
     (λ (l : (t ≡ u) × (take i (seen ++ t ∷ []) ≡ seen)).
-    subst (λ (x : List Tree). AllStand x (out-Tree u).children) (sym l.1) (subst (λ (v : Tree). AllStand seen (out-Tree v).children) l.0 h))
+    subst (λ (x : List Tree). AllStand x (out-Tree u).children) (sym l.1)
+    (subst (λ (v : Tree). AllStand seen (out-Tree v).children) l.0 h))
     (at-push seen t u i k)
 
 other : (x t : Tree) → same x t ≡ false → same t x ≡ false
@@ -193,8 +198,11 @@ pub distinct-push : (seen : List Tree) (t : Tree) → IsDistinct seen → stands
 distinct-push [] t d h = (refl, tt)
 distinct-push (x ∷ xs) t d h =
     let k : same x t ≡ false = or_first (same x t) (stands xs t) h in
-    let l : stands xs t ≡ false = or_second (same x t) (stands xs t) h in
-    (stands-append xs (t ∷ []) x ∙ or_none (stands xs x) (same t x || false) d.0 (or_none (same t x) false (other x t k) refl), distinct-push xs t d.1 l)
+    let l : stands xs t ≡ false = or_second (same x t) (stands xs t) h in (
+      stands-append xs (t ∷ []) x
+          ∙ or_none (stands xs x) (same t x || false) d.0 (or_none (same t x) false (other x t k) refl),
+      distinct-push xs t d.1 l,
+    )
 
 pub ordered-push : (seen : List Tree) (t : Tree) → IsOrdered seen → stands seen t ≡ false
     → AllStand seen (out-Tree t).children → IsOrdered (seen ++ t ∷ [])
@@ -212,10 +220,12 @@ ordered_step : (t : Tree)
     → EachOf (λ u. (seen : List Tree) → IsOrdered seen → IsOrdered (added seen u)) (out-Tree t).children
     → (seen : List Tree) → IsOrdered seen → IsOrdered (added seen t)
 ordered_step t each seen o = ⊎_elim
-    (λ (h : stands seen t ≡ true). subst (λ (l : List Tree). IsOrdered l) (sym (added-known seen t (closed seen o.before) h)) o)
+    (λ (h : stands seen t ≡ true). subst (λ (l : List Tree). IsOrdered l)
+    (sym (added-known seen t (closed seen o.before) h)) o)
     (λ (h : stands seen t ≡ false).
     subst (λ (l : List Tree). IsOrdered l) (sym (added-new seen t h))
-    (ordered-push (added_all seen (out-Tree t).children) t (all_ordered seen (out-Tree t).children each o) (still_new seen t h) (all_stand-added seen (out-Tree t).children)))
+    (ordered-push (added_all seen (out-Tree t).children) t (all_ordered seen (out-Tree t).children each o)
+    (still_new seen t h) (all_stand-added seen (out-Tree t).children)))
     (cases_Bool (stands seen t))
 
 pub ordered-added : (t : Tree) (seen : List Tree) → IsOrdered seen → IsOrdered (added seen t)
@@ -245,7 +255,8 @@ pub new-before : (seen : List Tree) (t : Tree) → stands (added_all seen (out-T
     → stands seen t ≡ false
 new-before seen t h = ⊎_elim
     (λ (k : stands seen t ≡ true).
-    let e : stands (added_all seen (out-Tree t).children) t ≡ true = stands-joined seen (map post (out-Tree t).children) t k in
+    let e : stands (added_all seen (out-Tree t).children) t ≡ true =
+    stands-joined seen (map post (out-Tree t).children) t k in
     absurd (cc))
     (λ (k : stands seen t ≡ false). k)
     (cases_Bool (stands seen t))
@@ -262,4 +273,5 @@ added-empty t = without-nothing (post t)
 
 pub ordered-post : (t : Tree) → IsOrdered (post t)
 ordered-post t =
-    subst (λ (l : List Tree). IsOrdered l) (added-empty t) (ordered-added t [] (record { before = before-empty; distinct = tt }))
+    subst (λ (l : List Tree). IsOrdered l) (added-empty t)
+    (ordered-added t [] (record { before = before-empty; distinct = tt }))

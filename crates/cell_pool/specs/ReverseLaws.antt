@@ -32,8 +32,10 @@ pub place-reverse : (ts : List Tree) (t : Tree) → IsDistinct ts → stands ts 
 place-reverse [] t d h = cc
 place-reverse (u ∷ us) t d h = ⊎_elim
     (λ (e : same u t ≡ true).
-    let f : stands (reverse us) t ≡ false = stands-reverse us t ∙ ap (λ (v : Tree). stands us v) (sym (same-equal u t e)) ∙ d.0 in
-    let g : place (reverse us ++ u ∷ []) t ≡ length (reverse us) + place (u ∷ []) t = place-append_right (reverse us) (u ∷ []) t f in
+    let f : stands (reverse us) t ≡ false =
+    stands-reverse us t ∙ ap (λ (v : Tree). stands us v) (sym (same-equal u t e)) ∙ d.0 in
+    let g : place (reverse us ++ u ∷ []) t ≡ length (reverse us) + place (u ∷ []) t =
+    place-append_right (reverse us) (u ∷ []) t f in
     let k : place (u ∷ []) t ≡ 0 = rw e refl in
     let l : place (u ∷ us) t ≡ 0 = rw e refl in
     ap (λ (x : List Tree). place x t) (reverse-append (u ∷ []) us) ∙ omega (arith, length-reverse us))
@@ -53,4 +55,6 @@ places-reverse seen (t ∷ ts) d h = rw (place-reverse seen t d h.0, places-reve
 
 pub places-within : (seen ts : List Tree) → AllStand seen ts → All (λ n. n < length seen) (map (place seen) ts)
 places-within seen [] h = All-nil (λ n. n < length seen)
-places-within seen (t ∷ ts) h = All-cons (λ n. n < length seen) (place seen t) (map (place seen) ts) (place-within seen t h.0) (places-within seen ts h.1)
+places-within seen (t ∷ ts) h =
+    All-cons (λ n. n < length seen) (place seen t) (map (place seen) ts) (place-within seen t h.0)
+    (places-within seen ts h.1)

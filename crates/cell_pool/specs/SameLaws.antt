@@ -22,7 +22,8 @@ each_to P n h (t ∷ ts) k = (h t (omega arith), each_to P n h ts (omega arith))
 induction_to : (P : Tree → Type 0) → ((t : Tree) → EachOf P (out-Tree t).children → P t) → (n : ℕ) (t : Tree)
     → unfolded t ≤ n → P t
 induction_to P step zero t h = absurd (omega (arith, one_le-unfolded t))
-induction_to P step (suc n) t h = step t (each_to P n (induction_to P step n) (out-Tree t).children (omega (arith, unfolded-out t)))
+induction_to P step (suc n) t h =
+    step t (each_to P n (induction_to P step n) (out-Tree t).children (omega (arith, unfolded-out t)))
 
 -- what holds of a tree where it holds of its children holds of each tree
 pub tree_induction : (P : Tree → Type 0) → ((t : Tree) → EachOf P (out-Tree t).children → P t) → (t : Tree) → P t
@@ -32,7 +33,8 @@ tree_induction P step t = induction_to P step (unfolded t) t (omega arith)
 
 pub same-out : (t u : Tree)
     → same t u ≡
-    (same_kind (out-Tree t).kind (out-Tree u).kind && same_bits (out-Tree t).bits (out-Tree u).bits && passes (map same (out-Tree t).children) (out-Tree u).children)
+    (same_kind (out-Tree t).kind (out-Tree u).kind && same_bits (out-Tree t).bits (out-Tree u).bits
+    && passes (map same (out-Tree t).children) (out-Tree u).children)
 unfolding same
 same-out t u = ap (λ (f : Tree → Bool). f u) (fold_out-Tree (Tree → Bool) same_step t)
 

@@ -10,7 +10,7 @@ pub fn each_subtree_once()
     ensures once { (t u : Tree) (i j : ℕ) → slice_get (post t) i ≡ Some u → slice_get (post t) j ≡ Some u → i ≡ j }
 {}
 
-/// The test for equal trees tells equality.
+/// The test for equal trees is equality.
 pub fn same_is_equality()
     ensures equal { (t u : Tree) → same t u ≡ true → t ≡ u }
     ensures itself { (t : Tree) → same t t ≡ true }

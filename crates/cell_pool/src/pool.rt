@@ -126,8 +126,8 @@ impl Pool {
         add(self, cell)
     }
 
-    /// The numbers of the distinct subtrees of the node's tree, in the reverse of the order in which a walk from left to
-    /// right completes them: the order of the cells of a bag.
+    /// The numbers of the distinct subtrees of the node's tree, in the reverse of the order in which a walk from left
+    /// to right completes them: the order of the cells of a bag.
     pub fn order(&self, alloc: Global, root: NodeId) -> Result<Vec<NodeId>, NoMemory>
         requires { root < length self.now }
         ensures numbers { IfOk result

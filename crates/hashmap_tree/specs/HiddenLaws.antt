@@ -90,14 +90,14 @@ mask-pruned c k =
     ap (λ (m : Marks). m.mask) (marks-out c)
     ∙ ap (λ (x : Kind). mask_of x (out-Tree c).bits (map marks (out-Tree c).children)) k
 
-hides-of : (mode : Mode) (c : Tree) (h : Hidden) → unseen mode c ≡ Some h → Hides c h
+pub hides-of : (mode : Mode) (c : Tree) (h : Hidden) → unseen mode c ≡ Some h → Hides c h
 hides-of Whole c h u = cc
 hides-of Lax c h u = cc
 hides-of Partial c h u =
     let p = hidden_by-parts (out-Tree c).kind (out-Tree c).bits (mask c) h u in
     record { kind = p.0; one_pair = sym (mask-pruned c p.0) ∙ p.1; hash = p.2; depth = p.3 }
 
-one-pair : pair_count 1 ≡ 1
+pub one-pair : pair_count 1 ≡ 1
 unfolding set_bits
 one-pair = refl
 

@@ -1,13 +1,18 @@
 -- What the laws say: facts about the definitions alone.
 use Rattle.std.specs.Prelude.{◌≡◌, ◌⊎◌, ℕ, Bool, List, [], ◌∷◌}
 use Rattle.cell_nodes.specs.Good.{AllGood}
+use Rattle.cell_nodes.specs.declared.tree.Hidden.{Hidden}
 use Rattle.cell_nodes.specs.declared.tree.Mode.{Mode}
+use Rattle.cell_nodes.specs.declared.tree.Mode.TheVariants.{Partial}
 use Rattle.hashmap_labels.specs.declared.forms.Forms.TheVariants.{Required}
 use Rattle.hashmap_tree.specs.Dict.{DictTree, forms_of}
-use Rattle.hashmap_tree.specs.Entries.{Slice, Entries, Then, leaf}
+use Rattle.hashmap_tree.specs.Entries.{Slice, Entries, Then, leaf, pairs_in, hidden_in}
+use Rattle.hashmap_tree.specs.Exceeds.{Excess, Exceeds, IsWithin}
 use Rattle.hashmap_tree.specs.First.{Edge, Fork, LeafEdge}
 use Rattle.hashmap_tree.specs.Halts.{Halts}
-use Rattle.hashmap_tree.specs.Order.{InOrder, leaves}
+use Rattle.hashmap_tree.specs.Merged.{merged}
+use Rattle.hashmap_tree.specs.Order.{InOrder, AreInOrder, leaves}
+use Rattle.hashmap_tree.specs.Placed.{AllPlaced}
 use Rattle.hashmap_tree.specs.Top.{IsTop, HaltsTop}
 use Rattle.hashmap_tree.specs.Walk.{Fault}
 
@@ -69,3 +74,27 @@ abbrev pub LeafIsTree : Type 0
 LeafIsTree =
     (mode : Mode) (n : ℕ) (k : List ℕ) (s middle c after : Slice) → LeafEdge mode n k s middle → Then middle c after
     → (u : Slice) × DictTree mode n ((k, leaf c) ∷ []) u × Then s u after
+
+-- ---- planting
+
+-- in a tree each hidden part is a child of a fork
+abbrev pub TreeIsPlaced : Type 0
+TreeIsPlaced = (mode : Mode) (n : ℕ) (es : Entries) (s : Slice) → DictTree mode n es s → AllPlaced es
+
+-- entries with a tree within the limits exceed none
+abbrev pub TreeFits : Type 0
+TreeFits =
+    (n : ℕ) (es : Entries) (s : Slice) (f : Excess) → DictTree Partial n es s → IsWithin s → Exceeds n es f → ⊥
+
+-- entries that exceed the limits have one first fault
+abbrev pub OneExcess : Type 0
+OneExcess = (n : ℕ) (es : Entries) (f g : Excess) → Exceeds n es f → Exceeds n es g → f ≡ g
+
+-- contents and hidden parts as one list have their parts, and entries in order are what their parts make
+abbrev pub MergedHasParts : Type 0
+MergedHasParts =
+    (xs : List (List ℕ × Slice)) (us : List (List ℕ × Hidden))
+    → (pairs_in (merged xs us) ≡ xs) × (hidden_in (merged xs us) ≡ us)
+
+abbrev pub OrderedIsMerged : Type 0
+OrderedIsMerged = (n : ℕ) (es : Entries) → AreInOrder n es → es ≡ merged (pairs_in es) (hidden_in es)

@@ -1,5 +1,5 @@
 -- A content has one list of entries, and entries have one content.
-use Rattle.std.proofs.Common.{◌≡◌, ℕ, ◌+◌, true, false, cond, List, [], ◌∷◌, ◌++◌, length, Option, Some, None, Ok, refl, sym, ap, ◌∙◌, subst, arith, nat_eq, length-append}
+use Rattle.std.proofs.Common.{◌≡◌, ℕ, suc, ◌+◌, true, false, cond, List, [], ◌∷◌, ◌++◌, length, Option, Some, None, Ok, refl, sym, ap, ◌∙◌, subst, arith, nat_eq, length-append}
 use Rattle.std.proofs.lemmas.List.{append-nil}
 use Rattle.std.proofs.lemmas.Bool.{eq-eqb}
 use Rattle.cell_nodes.specs.Good.{IsGood, good, AllGood, more}
@@ -59,7 +59,7 @@ kept None c es = es
 kept (Some k) c es = (k, c) ∷ es
 
 -- those whose key has this prefix, without it
-side : List ℕ → Entries → Entries
+pub side : List ℕ → Entries → Entries
 side p [] = []
 side p (e ∷ es) = kept (without p e.0) e.1 (side p es)
 
@@ -85,7 +85,7 @@ unfolding side kept
 side-other p a b [] rest h = refl
 side-other p a b (e ∷ es) rest h = (λ i. kept (without-other p a b e.0 h i) e.1 (side-other p a b es rest h i))
 
-side-zero : (p : List ℕ) (zs os : Entries) → side (p ++ 0 ∷ []) (fork p zs os) ≡ zs
+pub side-zero : (p : List ℕ) (zs os : Entries) → side (p ++ 0 ∷ []) (fork p zs os) ≡ zs
 unfolding side
 side-zero p zs os =
     side-same (p ++ 0 ∷ []) zs (under (p ++ 1 ∷ []) os)
@@ -94,7 +94,7 @@ side-zero p zs os =
     nil : (p : List ℕ) → side p [] ≡ []
     nil p = refl
 
-side-one : (p : List ℕ) (zs os : Entries) → side (p ++ 1 ∷ []) (fork p zs os) ≡ os
+pub side-one : (p : List ℕ) (zs os : Entries) → side (p ++ 1 ∷ []) (fork p zs os) ≡ os
 unfolding side
 side-one p zs os =
     side-other p 1 0 zs (under (p ++ 1 ∷ []) os) refl
@@ -115,10 +115,10 @@ last-append k [] q e (f ∷ es) = last-append (q ++ e.0) [] q f es
 last-append k (d ∷ ds) q e es = last-append d.0 ds q e es
 
 -- the label of a fork, from its entries
-label_of : Entries → List ℕ
+pub label_of : Entries → List ℕ
 label_of es = common (first_key es) (last_key [] es)
 
-fork-label : (p : List ℕ) (zs os : Entries) → Some_entry zs → Some_entry os → label_of (fork p zs os) ≡ p
+pub fork-label : (p : List ℕ) (zs os : Entries) → Some_entry zs → Some_entry os → label_of (fork p zs os) ≡ p
 unfolding label_of first_key
 fork-label p zs os z o =
     let shape : fork p zs os ≡ fork p (z.0 ∷ z.1) (o.0 ∷ o.1) = λ i. fork p (z.2 i) (o.2 i) in
@@ -126,7 +126,7 @@ fork-label p zs os z o =
     ap (λ es. common (first_key es) (last_key [] es)) shape ∙ ap (common (p ++ 0 ∷ [] ++ z.0.0)) l.1 ∙ common-fork p z.0.0 l.0
 
 mutual
-  some_entry : (mode : Mode) (n : ℕ) (es : Entries) (s : Slice) → DictTree mode n es s → Some_entry es
+  pub some_entry : (mode : Mode) (n : ℕ) (es : Entries) (s : Slice) → DictTree mode n es s → Some_entry es
   some_entry mode n es s (one _ _ _ _ k c same len l r) = ((k, leaf c), [], same)
   some_entry mode n es s (two _ _ _ _ p m zs os z o same len l r dz do_) =
       let k = some_below mode m zs z dz in
@@ -136,8 +136,27 @@ mutual
   some_below mode m es t (open_edge _ _ _ _ s same d) = some_entry mode m es s d
   some_below mode m es t (hidden_edge _ _ _ _ h u same) = (_, [], same)
 
+-- the parts of a fork, from its entries
+pub record SameFork (p : List ℕ) (m : ℕ) (zs os : Entries) (p2 : List ℕ) (m2 : ℕ) (zs2 os2 : Entries) : Type 0 where
+  pub label : p ≡ p2
+  pub less : m ≡ m2
+  pub zeros : zs ≡ zs2
+  pub ones : os ≡ os2
+
+pub same-fork : (n : ℕ) (p : List ℕ) (m : ℕ) (zs os : Entries) (p2 : List ℕ) (m2 : ℕ) (zs2 os2 : Entries)
+    → Some_entry zs → Some_entry os → Some_entry zs2 → Some_entry os2 → n ≡ length p + suc m → n ≡ length p2 + suc m2
+    → fork p zs os ≡ fork p2 zs2 os2 → SameFork p m zs os p2 m2 zs2 os2
+same-fork n p m zs os p2 m2 zs2 os2 sz so sz2 so2 len len2 e =
+    let label : p ≡ p2 = sym (fork-label p zs os sz so) ∙ ap label_of e ∙ fork-label p2 zs2 os2 sz2 so2 in
+    let longs : length p ≡ length p2 = ap length label in record {
+      label = label;
+      less = omega (arith, len, len2, longs);
+      zeros = sym (side-zero p zs os) ∙ (λ i. side (label i ++ 0 ∷ []) (e i)) ∙ side-zero p2 zs2 os2;
+      ones = sym (side-one p zs os) ∙ (λ i. side (label i ++ 1 ∷ []) (e i)) ∙ side-one p2 zs2 os2;
+    }
+
 -- a fork has two entries
-two_entries : (p : List ℕ) (zs os : Entries) (e : List ℕ × Part) → Some_entry zs → Some_entry os
+pub two_entries : (p : List ℕ) (zs os : Entries) (e : List ℕ × Part) → Some_entry zs → Some_entry os
     → fork p zs os ≡ e ∷ [] → ⊥
 two_entries p zs os e z o h =
     let shape : fork p zs os ≡ fork p (z.0 ∷ z.1) (o.0 ∷ o.1) = λ i. fork p (z.2 i) (o.2 i) in
@@ -153,7 +172,7 @@ first_held : Slice → Entries → Slice
 first_held d [] = d
 first_held d (e ∷ es) = held d e.1
 
-parts : (k k2 : List ℕ) (c c2 : Slice) → (◌≡◌ {A = Entries} ((k, leaf c) ∷ []) ((k2, leaf c2) ∷ []))
+pub parts : (k k2 : List ℕ) (c c2 : Slice) → (◌≡◌ {A = Entries} ((k, leaf c) ∷ []) ((k2, leaf c2) ∷ []))
     → (k ≡ k2) × (c ≡ c2)
 unfolding first_key first_held held
 parts k k2 c c2 e = (ap first_key e, ap (first_held c) e)
@@ -167,14 +186,14 @@ first_concealed [] = None
 first_concealed (e ∷ es) = concealed e.1
 
 -- a hidden part alone has no content
-hidden-no_tree : (mode : Mode) (m : ℕ) (es : Entries) (s : Slice) (h : Hidden) → es ≡ ([], hidden h) ∷ []
+pub hidden-no_tree : (mode : Mode) (m : ℕ) (es : Entries) (s : Slice) (h : Hidden) → es ≡ ([], hidden h) ∷ []
     → DictTree mode m es s → ⊥
 unfolding first_concealed concealed
 hidden-no_tree mode m es s h e (one _ _ _ _ k c same len l r) = let f = ap first_concealed (sym same ∙ e) in cc
 hidden-no_tree mode m es s h e (two _ _ _ _ p k zs os z o same len l r dz do_) =
     two_entries p zs os ([], hidden h) (some_below mode k zs z dz) (some_below mode k os o do_) (sym same ∙ e)
 
-same-hidden : (h k : Hidden) → (◌≡◌ {A = Entries} (([], hidden h) ∷ []) (([], hidden k) ∷ []))
+pub same-hidden : (h k : Hidden) → (◌≡◌ {A = Entries} (([], hidden h) ∷ []) (([], hidden k) ∷ []))
     → (◌≡◌ {A = Option Hidden} (Some h) (Some k))
 unfolding first_concealed concealed
 same-hidden h k e = ap first_concealed e
@@ -184,7 +203,7 @@ good-content c s same (good _ w all) =
     let P : Slice → Type 0 = λ t. AllGood t.refs in
     subst P (ap content same ∙ content-cell_of s) all
 
-good-both : (refs : List Tree) (z o : Tree) → refs ≡ z ∷ (o ∷ []) → AllGood refs → IsGood z × IsGood o
+pub good-both : (refs : List Tree) (z o : Tree) → refs ≡ z ∷ (o ∷ []) → AllGood refs → IsGood z × IsGood o
 good-both refs z o e g = let P : List Tree → Type 0 = λ ts. AllGood ts in go (subst P e g)
   where
     last : AllGood (o ∷ []) → IsGood o
@@ -216,12 +235,11 @@ mutual
       absurd (two_entries p zs os (k, leaf c) (some_below mode m zs z dz) (some_below mode m os o do_) (sym same2 ∙ same))
   tree_once mode w n es s t gs gt (two _ _ _ _ p m zs os z o same len l r dz do_) (two _ _ _ _ p2 m2 zs2 os2 z2 o2 same2 len2 l2 r2 dz2 do2) =
       let e : fork p zs os ≡ fork p2 zs2 os2 = sym same ∙ same2 in
-      let label : p ≡ p2 =
-      sym (fork-label p zs os (some_below mode m zs z dz) (some_below mode m os o do_)) ∙ ap label_of e ∙ fork-label p2 zs2 os2 (some_below mode m2 zs2 z2 dz2) (some_below mode m2 os2 o2 do2) in
-      let zeros : zs ≡ zs2 = sym (side-zero p zs os) ∙ (λ i. side (label i ++ 0 ∷ []) (e i)) ∙ side-zero p2 zs2 os2 in
-      let ones : os ≡ os2 = sym (side-one p zs os) ∙ (λ i. side (label i ++ 1 ∷ []) (e i)) ∙ side-one p2 zs2 os2 in
-      let longs : length p ≡ length p2 = ap length label in
-      let deep : m ≡ m2 = omega (arith, len, len2, longs) in
+      let f = same-fork n p m zs os p2 m2 zs2 os2 (some_below mode m zs z dz) (some_below mode m os o do_) (some_below mode m2 zs2 z2 dz2) (some_below mode m2 os2 o2 do2) len len2 e in
+      let label : p ≡ p2 = f.label in
+      let zeros : zs ≡ zs2 = f.zeros in
+      let ones : os ≡ os2 = f.ones in
+      let deep : m ≡ m2 = f.less in
       let P : ℕ → Type 0 = λ m. Branch mode m zs2 z2 in
       let Q : Entries → Type 0 = λ es. Branch mode m es z2 in
       let R : ℕ → Type 0 = λ m. Branch mode m os2 o2 in

@@ -19,26 +19,26 @@ Planned zero es = (c : Slice) × (es ≡ ([], leaf c) ∷ [])
 Planned (suc n) es =
     (zs : Entries) × (os : Entries) × (es ≡ under (0 ∷ []) zs ++ under (1 ∷ []) os) × (((zs ≡ []) × Planned n os) ⊎ (((os ≡ []) × Planned n zs) ⊎ (Planned n zs × Planned n os)))
 
-under-under : (p q : List ℕ) (es : Entries) → under p (under q es) ≡ under (p ++ q) es
+pub under-under : (p q : List ℕ) (es : Entries) → under p (under q es) ≡ under (p ++ q) es
 under-under p q [] = refl
 under-under p q (e ∷ es) = λ i. ((sym (append_assoc p q e.0)) i, e.1) ∷ under-under p q es i
 
-under-append : (p : List ℕ) (ds bs : Entries) → under p (ds ++ bs) ≡ under p ds ++ under p bs
+pub under-append : (p : List ℕ) (ds bs : Entries) → under p (ds ++ bs) ≡ under p ds ++ under p bs
 under-append p [] bs = refl
 under-append p (a ∷ ds) bs = ap (λ l. (p ++ a.0, a.1) ∷ l) (under-append p ds bs)
 
-under-nil : (es : Entries) → under [] es ≡ es
+pub under-nil : (es : Entries) → under [] es ≡ es
 under-nil [] = refl
 under-nil (e ∷ es) = ap (λ l. e ∷ l) (under-nil es)
 
 -- a label in its required form is one in each mode
-label_in : (mode : Mode) (n : ℕ) (bits s rest : List ℕ) → IsLabel Required n bits s rest
+pub label_in : (mode : Mode) (n : ℕ) (bits s rest : List ℕ) → IsLabel Required n bits s rest
     → IsLabel (forms_of mode) n bits s rest
 label_in Whole n bits s rest h = h
 label_in Partial n bits s rest h = h
 label_in Lax n bits s rest h = (h.0, h.1, tt, h.3)
 
-label_of : (mode : Mode) (n : ℕ) (bits rest : List ℕ) → AreBits bits → length bits ≤ n
+pub label_of : (mode : Mode) (n : ℕ) (bits rest : List ℕ) → AreBits bits → length bits ≤ n
     → (s : List ℕ) × IsLabel (forms_of mode) n bits s rest
 label_of mode n bits rest h l = let r = has_spelling n bits rest h l in (r.0, label_in mode n bits r.0 rest r.1)
 

@@ -1,5 +1,5 @@
 //! What follows from the definitions alone. Each function states one law; its body is empty.
-ghost use Rattle.hashmap_tree.specs.Laws.{ForkIsTree, HasTree, LeafIsTree, NoFaultInTree, NoHaltAtEdge, OneEdge, OneFault, OneHalt, OneList, OneTree, TreeOrFault};
+ghost use Rattle.hashmap_tree.specs.Laws.{ForkIsTree, HasTree, LeafIsTree, MergedHasParts, NoFaultInTree, NoHaltAtEdge, OneEdge, OneExcess, OneFault, OneHalt, OneList, OneTree, OrderedIsMerged, TreeFits, TreeIsPlaced, TreeOrFault};
 
 /// In modes Whole and Partial entries have one content.
 pub fn one_tree()
@@ -54,4 +54,29 @@ pub fn fork_is_tree()
 /// A leaf in place is the tree of each content that follows its label.
 pub fn leaf_is_tree()
     ensures { LeafIsTree }
+{}
+
+/// In a tree each hidden part is a child of a fork.
+pub fn tree_is_placed()
+    ensures { TreeIsPlaced }
+{}
+
+/// Entries with a tree within the limits exceed none.
+pub fn tree_fits()
+    ensures { TreeFits }
+{}
+
+/// Entries that exceed the limits have one first fault.
+pub fn one_excess()
+    ensures { OneExcess }
+{}
+
+/// Contents and hidden parts as one list are the parts of it.
+pub fn merged_has_parts()
+    ensures { MergedHasParts }
+{}
+
+/// Entries in order are what their contents and hidden parts make.
+pub fn ordered_is_merged()
+    ensures { OrderedIsMerged }
 {}

@@ -199,10 +199,8 @@ pub fn is_built_in(name: &[u8]) -> bool
         | WordClass::Cell
         | WordClass::Sized(_)
         | WordClass::Numbered(_) => true,
-        WordClass::Hashmap
-        | WordClass::HashmapE
-        | WordClass::HashmapNode
-        | WordClass::Free => false,
+        WordClass::Hashmap | WordClass::HashmapE | WordClass::HashmapNode | WordClass::Free =>
+            false,
     }
 }
 

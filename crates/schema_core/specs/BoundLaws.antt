@@ -1,6 +1,6 @@
 -- Each slot of a core form is one of its constructor, but that of what has no meaning.
-use Rattle.std.proofs.Common.{◌≡◌, ℕ, ◌+◌, ◌<◌, ◌≤◌, List, [], ◌∷◌, ◌++◌, Option, Some, None, Bool, true, false, refl, sym, ap}
-use Rattle.std.proofs.Common.{◌∙◌, cond, inl, inr, arith, subst}
+use Rattle.std.proofs.Common.{◌≡◌, ℕ, ◌+◌, ◌<◌, ◌≤◌, List, [], ◌∷◌, ◌++◌, Option, Some, None, Bool, true, false, refl}
+use Rattle.std.proofs.Common.{cond, inl, inr, arith, subst}
 use Rattle.std.specs.Prelude.{All, bytes_eq}
 use Rattle.std.proofs.lemmas.List.Elements.{All-append, All-cons, All-head, All-nil}
 use Rattle.nat_solver.specs.Number.{Expr, OneUnknown, unknowns}
@@ -8,7 +8,7 @@ use Rattle.nat_solver.specs.Number as num
 use Rattle.nat_solver.specs.declared.compare.Op.{Op}
 use Rattle.tlb_syntax.specs.declared.tree.ParamKind.{ParamKind}
 use Rattle.tlb_syntax.specs.declared.tree.ParamKind.TheVariants as params
-use Rattle.tlb_syntax.specs.Tree.{ExprView, ExprList, ItemView, ItemList, TypeView, ConstructorView, SchemaView, lit, named}
+use Rattle.tlb_syntax.specs.Tree.{ExprView, ExprList, ItemView, ItemList, TypeView, SchemaView, lit, named}
 use Rattle.tlb_syntax.specs.Tree.{nat32, bits, below, up_to, plus, star, out, ref, group, no_exprs, an_expr, plain, when}
 use Rattle.tlb_syntax.specs.Tree.{when_bit, implicit, check, explicit, no_items, an_item}
 use Rattle.kind_terms.specs.declared.kind.TermKind.{TermKind}
@@ -18,22 +18,22 @@ use Rattle.kind_terms.specs.declared.words.Family.TheVariants.{Uint, Int, Bits}
 use Rattle.kind_terms.specs.Words.{Word}
 use Rattle.kind_terms.specs.Closed.{closed}
 use Rattle.kind_terms.specs.Params.{bare_name}
-use Rattle.kind_terms.specs.Positions.{shown, is_unnamed}
+use Rattle.kind_terms.specs.Positions.{shown}
 use Rattle.kind_terms.specs.Forms.{is_field_of_numbers, out_name}
 use Rattle.core_form.specs.Core.{Ty, Args, Item, Items, Input, no_slot}
 use Rattle.core_form.specs.Core as core
-use Rattle.core_form.specs.Bounds.{IsSlot, IsSlotWithin, IsNumberWithin, IsTypeWithin, AreArgsWithin, IsItemWithin}
-use Rattle.core_form.specs.Bounds.{AreItemsWithin, IsInputWithin, IsWithin}
+use Rattle.core_form.specs.Bounds.{IsSlotWithin, IsNumberWithin, IsTypeWithin, AreArgsWithin, IsItemWithin}
+use Rattle.core_form.specs.Bounds.{AreItemsWithin, IsInputWithin}
 use Rattle.schema_core.specs.Names.{Names, Variable, a_number, a_type, other, TypeName, no_type, type_word, anything, family}
 use Rattle.schema_core.specs.Names.{family_of, hashmap_type, hashmap_e_type, declared, declares, meaning, type_called}
 use Rattle.schema_core.specs.Names.{declared_kinds, number_called, number_slot, implicit_variable, field_variable}
-use Rattle.schema_core.specs.Slots.{field_slots, own_slots, inner_slots, slots_in, slots_at, slots_under, type_slots, next_slot}
+use Rattle.schema_core.specs.Slots.{field_slots, own_slots, slots_in, slots_at, slots_under, type_slots, next_slot}
 use Rattle.schema_core.specs.Numbers.{number_of, side_of, first_number, product, variable_or_none, sought_or_none}
 use Rattle.schema_core.specs.Numbers.{unknown_by, no_number, named_number}
 use Rattle.schema_core.specs.CoreOf.{of_family, applied, alone, no_meaning, onto_out, type_of, first_type, args_of, own_slot}
 use Rattle.schema_core.specs.CoreOf.{constraint_by, constraint_of, items_of, field_of, body_of, under_ref, output_of}
 use Rattle.schema_core.specs.CoreOf.{outputs_of, names_after, names_at_result, variable_input, sum_input, literal_of}
-use Rattle.schema_core.specs.CoreOf.{input_of, inputs_of, core_of}
+use Rattle.schema_core.specs.CoreOf.{input_of, inputs_of}
 use Rattle.schema_core.specs.PlainLaws.{unknown_by_is}
 use Rattle.schema_core.specs.Laws.{CoreIsWithin}
 

@@ -3,7 +3,9 @@ pub mod Slots
 pub mod Numbers
 pub mod CoreOf
 pub mod Cores
+pub mod Same
 pub mod Laws
+pub mod SameLaws
 pub mod PlainLaws
 pub mod BoundLaws
 pub mod Declarations

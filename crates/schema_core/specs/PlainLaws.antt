@@ -1,5 +1,5 @@
 -- Numbers of a core form have no unknown, and each equation has one.
-use Rattle.std.proofs.Common.{◌≡◌, ℕ, List, [], ◌∷◌, ◌++◌, Option, Some, None, Bool, true, false, refl, sym, ap, ◌∙◌, cond}
+use Rattle.std.proofs.Common.{◌≡◌, ℕ, List, [], ◌∷◌, ◌++◌, Option, Some, None, Bool, true, false, refl, ap, cond}
 use Rattle.std.specs.Prelude.{All}
 use Rattle.std.proofs.lemmas.List.Elements.{All-append, All-cons, All-nil}
 use Rattle.nat_solver.specs.Number.{Expr, OneUnknown, unknowns, cancelled, is_empty}
@@ -7,7 +7,7 @@ use Rattle.nat_solver.specs.Number as num
 use Rattle.nat_solver.specs.declared.compare.Op.{Op}
 use Rattle.nat_solver.specs.declared.compare.Op.TheVariants.{Eq, Lt, Le, Gt, Ge}
 use Rattle.nat_solver.specs.SolutionLaws.{empty_is}
-use Rattle.tlb_syntax.specs.Tree.{ExprView, ExprList, ItemView, ItemList, TypeView, ConstructorView, SchemaView, lit, named}
+use Rattle.tlb_syntax.specs.Tree.{ExprView, ExprList, ItemList, TypeView, SchemaView, lit, named}
 use Rattle.tlb_syntax.specs.Tree.{nat32, bits, below, up_to, plus, star, out, ref, group, no_exprs, an_expr, plain, when}
 use Rattle.tlb_syntax.specs.Tree.{when_bit, implicit, check, explicit, no_items, an_item}
 use Rattle.kind_terms.specs.declared.kind.TermKind.{TermKind}
@@ -16,20 +16,20 @@ use Rattle.kind_terms.specs.declared.words.Family.{Family}
 use Rattle.kind_terms.specs.declared.words.Family.TheVariants.{Uint, Int, Bits}
 use Rattle.kind_terms.specs.Words.{Word}
 use Rattle.kind_terms.specs.Closed.{closed}
-use Rattle.kind_terms.specs.Positions.{shown, is_unnamed}
+use Rattle.kind_terms.specs.Positions.{shown}
 use Rattle.kind_terms.specs.Forms.{is_field_of_numbers, out_name}
 use Rattle.core_form.specs.Core.{Ty, Args, Item, Items}
 use Rattle.core_form.specs.Core as core
-use Rattle.core_form.specs.Plain.{IsPlain, IsPlainNumber, IsPlainType, ArePlainArgs, IsPlainItem, ArePlainItems}
+use Rattle.core_form.specs.Plain.{IsPlainNumber, IsPlainType, ArePlainArgs, IsPlainItem, ArePlainItems}
 use Rattle.schema_core.specs.Names.{Names, Variable, a_number, a_type, other, TypeName, no_type, type_word, anything, family}
 use Rattle.schema_core.specs.Names.{family_of, hashmap_type, hashmap_e_type, declared, declares, meaning, type_called}
 use Rattle.schema_core.specs.Names.{declared_kinds, number_called}
-use Rattle.schema_core.specs.Slots.{field_slots, next_slot}
+use Rattle.schema_core.specs.Slots.{next_slot}
 use Rattle.schema_core.specs.Numbers.{number_of, side_of, first_number, product, variable_or_none, only_one, unknown_of}
 use Rattle.schema_core.specs.Numbers.{unknown_by, no_number, named_number}
 use Rattle.schema_core.specs.CoreOf.{of_family, applied, alone, no_meaning, onto_out, type_of, first_type, args_of, own_slot}
-use Rattle.schema_core.specs.CoreOf.{constraint_by, constraint_of, onto, unnamed_by, items_of, item_of, field_of, body_of}
-use Rattle.schema_core.specs.CoreOf.{under_ref, output_of, outputs_of, names_at_result, core_of}
+use Rattle.schema_core.specs.CoreOf.{constraint_by, constraint_of, items_of, field_of, body_of}
+use Rattle.schema_core.specs.CoreOf.{under_ref, output_of, outputs_of, names_at_result}
 use Rattle.schema_core.specs.Laws.{CoreIsPlain}
 
 -- ---- numbers

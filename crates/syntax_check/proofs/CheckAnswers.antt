@@ -18,17 +18,21 @@ schema-answer ls None e = schema_written ls (sym e)
 schema-answer ls (Some r) e = schema_refused ls r.cause r.place (sym e)
 
 word-answer : (ls : List Lexeme) (found : Option Refusal) → reported_verdict found ≡ word_verdict ls
-    → MatchOption found ((e : ExprView) × TypeWord standard ls e) (λ r. IsFirst (WordRefusal ls) (cause_of r.cause) r.place)
+    → MatchOption found ((e : ExprView)
+    × TypeWord standard ls e) (λ r. IsFirst (WordRefusal ls) (cause_of r.cause) r.place)
 word-answer ls None e = word_written ls (sym e)
 word-answer ls (Some r) e = word_refused ls r.cause r.place (sym e)
 
-pub schema-answered : {E : Type 0} (ls : List Lexeme) (r : Result (Option Refusal) E) → IfOk r (λ found. reported_verdict found ≡ schema_verdict ls)
+pub schema-answered : {E : Type 0} (ls : List Lexeme) (r : Result (Option Refusal) E)
+    → IfOk r (λ found. reported_verdict found ≡ schema_verdict ls)
     → IfOk r (λ found. MatchOption found ((s : SchemaView) × Declarations standard ls s × WithinCounts s)
     (λ r. IsFirst (SchemaRefusal ls) (cause_of r.cause) r.place))
 schema-answered ls (Ok found) e = schema-answer ls found e
 schema-answered ls (Err why) e = tt
 
-pub word-answered : {E : Type 0} (ls : List Lexeme) (r : Result (Option Refusal) E) → IfOk r (λ found. reported_verdict found ≡ word_verdict ls)
-    → IfOk r (λ found. MatchOption found ((e : ExprView) × TypeWord standard ls e) (λ r. IsFirst (WordRefusal ls) (cause_of r.cause) r.place))
+pub word-answered : {E : Type 0} (ls : List Lexeme) (r : Result (Option Refusal) E)
+    → IfOk r (λ found. reported_verdict found ≡ word_verdict ls)
+    → IfOk r (λ found. MatchOption found ((e : ExprView)
+    × TypeWord standard ls e) (λ r. IsFirst (WordRefusal ls) (cause_of r.cause) r.place))
 word-answered ls (Ok found) e = word-answer ls found e
 word-answered ls (Err why) e = tt

@@ -21,7 +21,8 @@ use Rattle.syntax_check.specs.Machine.{State, at, Outcome, and_then, spend, Begi
 use Rattle.syntax_check.proofs.RunResults.{if_taken, results, trail}
 
 -- both ways go on alike
-abbrev Same : Bounds → ParserState → Count → List Frame → List Lexeme → ParserState → Count → List Frame → List Lexeme → Type 0
+abbrev Same : Bounds → ParserState → Count → List Frame → List Lexeme → ParserState → Count → List Frame → List Lexeme
+    → Type 0
 Same m a lv below s b outer above r = trail m (at a lv below) s ≡ trail m (at b outer above) r
 
 -- ---- states that do the same on what can follow
@@ -31,9 +32,9 @@ data Named : Side → Bool → ParserState → Type 0 where
   applied : {p : Side} {s : Bool} → Named p s (modes.Applied p s)
   braced : {k : Count} → Named (sides.Left k) false (modes.BraceName k)
 
-data Behind : Side → Bool → ParserState → Type 0 where
-  whole : {p : Side} {s : Bool} → Behind p s (modes.Operated p s)
-  a_named : {p : Side} {s : Bool} {mode : ParserState} → Named p s mode → Behind p s mode
+data AfterOperand : Side → Bool → ParserState → Type 0 where
+  whole : {p : Side} {s : Bool} → AfterOperand p s (modes.Operated p s)
+  a_named : {p : Side} {s : Bool} {mode : ParserState} → Named p s mode → AfterOperand p s mode
 
 -- where an operand is expected
 data Wanted : Side → Bool → ParserState → Type 0 where
@@ -124,14 +125,15 @@ width_same m d s below in_brace measures_up_to = refl
 
 -- a further factor, a further addend
 factor_same : (m : Bounds) {p : Side} {mode : ParserState} (d : Count) (s : List Lexeme) → (below : List Frame)
-    → Behind p false mode
+    → AfterOperand p false mode
     → Same m mode d below (sign Asterisk ∷ s) (modes.Apply p true) d below s
 factor_same m d s below whole = refl
 factor_same m d s below (a_named applied) = refl
 factor_same m d s below (a_named braced) = refl
 
-addend_same : (m : Bounds) {p : Side} {b : Bool} {mode : ParserState} (d : Count) (s : List Lexeme) → (below : List Frame)
-    → Behind p b mode
+addend_same : (m : Bounds) {p : Side} {b : Bool} {mode : ParserState} (d : Count) (s : List Lexeme)
+    → (below : List Frame)
+    → AfterOperand p b mode
     → Same m mode d below (sign Plus ∷ s) (modes.Apply p false) d below s
 addend_same m d s below whole = refl
 addend_same m d s below (a_named applied) = refl
@@ -139,13 +141,13 @@ addend_same m d s below (a_named braced) = refl
 
 -- what ends a sum
 paren_same : (m : Bounds) {b : Bool} {mode : ParserState} (d outer : Count) (s : List Lexeme)
-    → (spot : Spot) (below : List Frame) → Behind sides.Paren b mode
+    → (spot : Spot) (below : List Frame) → AfterOperand sides.Paren b mode
     → Same m mode d (frames.Paren spot outer ∷ below) (sign CloseParen ∷ s) (given_to spot) outer below s
 paren_same m d outer s spot below whole = refl
 paren_same m d outer s spot below (a_named applied) = refl
 
 left_same : (m : Bounds) {k : Count} {b : Bool} {mode : ParserState} {c : Sign} {op : Op} (d : Count) (s : List Lexeme)
-    → (below : List Frame) → Compares c op → Behind (sides.Left k) b mode
+    → (below : List Frame) → Compares c op → AfterOperand (sides.Left k) b mode
     → Same m mode d below (sign c ∷ s) (modes.Apply (sides.Right k) false) d below s
 left_same m d s below equal whole = refl
 left_same m d s below less whole = refl
@@ -163,8 +165,9 @@ left_same m d s below less_equal (a_named braced) = refl
 left_same m d s below greater (a_named braced) = refl
 left_same m d s below greater_equal (a_named braced) = refl
 
-right_same : (m : Bounds) {k : Count} {b : Bool} {mode : ParserState} (d : Count) (s : List Lexeme) → (below : List Frame)
-    → Behind (sides.Right k) b mode
+right_same : (m : Bounds) {k : Count} {b : Bool} {mode : ParserState} (d : Count) (s : List Lexeme)
+    → (below : List Frame)
+    → AfterOperand (sides.Right k) b mode
     → Same m mode d below (sign CloseBrace ∷ s) (modes.Items k) d below s
 right_same m d s below whole = refl
 right_same m d s below (a_named applied) = refl
@@ -185,7 +188,8 @@ data Between : Lexeme → Type 0 where
   at_equal : Between (sign Equal)
   at_close : Between (sign CloseBracket)
 
-pause_same : (m : Bounds) {k : Count} {mode : ParserState} {t : Lexeme} (d : Count) (s : List Lexeme) → (below : List Frame)
+pause_same : (m : Bounds) {k : Count} {mode : ParserState} {t : Lexeme} (d : Count) (s : List Lexeme)
+    → (below : List Frame)
     → Paused m k mode → Between t
     → Same m mode d below (t ∷ s) (modes.Items k) d below (t ∷ s)
 pause_same m d s below settled t = refl
@@ -229,7 +233,8 @@ brace_same : (m : Bounds) {k left : Count} {mode : ParserState} (d : Count) (s :
 brace_same m d s below w sp =
     pause_same m d s below w at_brace ∙ spent m TooManyFields (λ left. Ok (at (modes.Brace left) d below)) s sp
 
-head_same : (m : Bounds) {k left : Count} {mode : ParserState} {h : Lexeme} {x : Option (List ℕ)} (d : Count) (s : List Lexeme)
+head_same : (m : Bounds) {k left : Count} {mode : ParserState} {h : Lexeme} {x : Option (List ℕ)} (d : Count)
+    (s : List Lexeme)
     → (below : List Frame) → Paused m k mode → Spends k left → Heads h x
     → Same m mode d below (h ∷ sign Colon ∷ s) (modes.Term (spots.Field left) d) d below s
 head_same m d s below w sp by_name =
@@ -255,7 +260,8 @@ record_same : (m : Bounds) {k : Count} {mode : ParserState} (d outer : Count) (s
 record_same m d outer s spot below w = pause_same m d s (frames.Record spot outer ∷ below) w at_close
 
 -- a field without a name begins with a term, which a name may be
-first_same : (m : Bounds) {k left d : Count} {mode : ParserState} {s r : List Lexeme} {e : ExprView} → (below : List Frame)
+first_same : (m : Bounds) {k left d : Count} {mode : ParserState} {s r : List Lexeme} {e : ExprView}
+    → (below : List Frame)
     → Paused m k mode → Spends k left → Term m d s e r
     → (Same m mode d below s (modes.Term (spots.Field left) d) d below s)
     ⊎ ((last : ParserState) × Begun left last × (Same m mode d below s last d below r))
@@ -286,7 +292,8 @@ begun_pause : {m : Bounds} {k : Count} {mode : ParserState} → Begun k mode →
 begun_pause a_type = half
 begun_pause a_bare = bare
 
-guard_same : (m : Bounds) {k : Count} {mode : ParserState} (d : Count) (s : List Lexeme) → (below : List Frame) → Begun k mode
+guard_same : (m : Bounds) {k : Count} {mode : ParserState} (d : Count) (s : List Lexeme) → (below : List Frame)
+    → Begun k mode
     → Same m mode d below (sign Question ∷ s) (modes.Term (spots.Guarded k) d) d below s
 guard_same m d s below a_type = refl
 guard_same m d s below a_bare = refl
@@ -296,7 +303,8 @@ tested : (m : Bounds) (b : Bool) (st : State) (ts : List Lexeme) → b ≡ true
     → onward m (if b then Ok st else Err Syntax) ts ≡ trail m st ts
 tested m b st ts e = ap (λ z. onward m (if z then Ok st else Err Syntax) ts) e
 
-bit_same : (m : Bounds) {k : Count} {mode : ParserState} (n : ℕ) (d : Count) (s : List Lexeme) → (below : List Frame) → n ≤ 31
+bit_same : (m : Bounds) {k : Count} {mode : ParserState} (n : ℕ) (d : Count) (s : List Lexeme) → (below : List Frame)
+    → n ≤ 31
     → Begun k mode
     → Same m mode d below (sign Dot ∷ number (Some n) ∷ sign Question ∷ s) (modes.Term (spots.Guarded k) d) d below s
 bit_same m {k} n d s below le a_type =
@@ -306,16 +314,17 @@ bit_same m {k} n d s below le a_bare =
 
 -- ---- the productions
 
--- the states that a run from here may be in after what is written
+-- the states that a run from such a state may be in after what is written
 abbrev Arrives : Bounds → (ParserState → Type 0) → ParserState → Count → List Frame → List Lexeme → List Lexeme → Type 0
 Arrives m Fits a d below s r = (last : ParserState) × Fits last × (Same m a d below s last d below r)
 
 -- an operand that is a term
-operand_done : (m : Bounds) {p : Side} {b : Bool} (mode : ParserState) (d : Count) (s r : List Lexeme) → (below : List Frame)
+operand_done : (m : Bounds) {p : Side} {b : Bool} (mode : ParserState) (d : Count) (s r : List Lexeme)
+    → (below : List Frame)
     → (Same m mode d below s (modes.Term (spots.Operand p b) d) d below s)
     ⊎ ((last : ParserState) × Named p b last × (Same m mode d below s last d below r))
     → Same m (modes.Term (spots.Operand p b) d) d below s (modes.Operated p b) d below r
-    → Arrives m (Behind p b) mode d below s r
+    → Arrives m (AfterOperand p b) mode d below s r
 operand_done m mode d s r below (inl e) further = (_, whole, e ∙ further)
 operand_done m mode d s r below (inr k) further = (k.0, a_named k.1, k.2)
 
@@ -330,14 +339,14 @@ first_done m mode d s r below (inr k) further = (k.0, k.1, k.2)
 
 -- where the type of a field may begin: after its name, or as an item
 data Opening (m : Bounds) : Count → Count → ParserState → Type 0 where
-  behind_name : {left d : Count} → Opening m left d (modes.Term (spots.Field left) d)
+  field_named : {left d : Count} → Opening m left d (modes.Term (spots.Field left) d)
   as_item : {k left d : Count} {mode : ParserState} → Spends k left → Paused m k mode → Opening m left d mode
 
 opening_runs : (m : Bounds) {left : Count} {e : ExprView} (mode : ParserState) (d : Count) (s r : List Lexeme)
     → (below : List Frame) → Opening m left d mode → Term m d s e r
     → Same m (modes.Term (spots.Field left) d) d below s (modes.Typed left) d below r
     → Arrives m (Begun left) mode d below s r
-opening_runs m mode d s r below behind_name x further = (_, a_type, further)
+opening_runs m mode d s r below field_named x further = (_, a_type, further)
 opening_runs m mode d s r below (as_item sp w) x further =
     first_done m mode d s r below (first_same m below w sp x) further
 
@@ -371,7 +380,7 @@ mutual
 
   apply_runs : (m : Bounds) {d : Count} {s r : List Lexeme} {e : ExprView} → Apply m d s e r
       → (p : Side) (b : Bool) (below : List Frame) (mode : ParserState) → Wanted p b mode
-      → Arrives m (Behind p b) mode d below s r
+      → Arrives m (AfterOperand p b) mode d below s r
   apply_runs m {d} (of_name {x = x} {s = s} xs) p b below mode w =
       let k = name_same m d x s below w in
       let l = terms_runs m xs p b below k.0 k.1 in
@@ -387,7 +396,7 @@ mutual
 
   product_runs : (m : Bounds) {d : Count} {s r : List Lexeme} {e : ExprView} → Product m d s e r
       → (p : Side) (below : List Frame) (mode : ParserState) → Wanted p false mode
-      → Arrives m (λ last. (b : Bool) × Behind p b last) mode d below s r
+      → Arrives m (λ last. (b : Bool) × AfterOperand p b last) mode d below s r
   product_runs m (one_factor x) p below mode w =
       let k = apply_runs m x p false below mode w in
       (k.0, (false, k.1), k.2)
@@ -398,15 +407,15 @@ mutual
 
   sum_runs : (m : Bounds) {d : Count} {s r : List Lexeme} {e : ExprView} → Sum m d s e r
       → (p : Side) (below : List Frame) (mode : ParserState) → Wanted p false mode
-      → Arrives m (λ last. (b : Bool) × Behind p b last) mode d below s r
+      → Arrives m (λ last. (b : Bool) × AfterOperand p b last) mode d below s r
   sum_runs m (a_sum x xs) p below mode w =
       let k = product_runs m x p below mode w in
       let l = addends_runs m xs p below k.0 k.1.0 k.1.1 in
       (l.0, l.1, k.2 ∙ l.2)
 
   addends_runs : (m : Bounds) {d : Count} {a e : ExprView} {s r : List Lexeme} → Addends m d a s e r
-      → (p : Side) (below : List Frame) (mode : ParserState) (b : Bool) → Behind p b mode
-      → Arrives m (λ last. (b : Bool) × Behind p b last) mode d below s r
+      → (p : Side) (below : List Frame) (mode : ParserState) (b : Bool) → AfterOperand p b mode
+      → Arrives m (λ last. (b : Bool) × AfterOperand p b last) mode d below s r
   addends_runs m no_addend p below mode b w = (mode, (b, w), refl)
   addends_runs m {d} (an_addend {s = s} x xs) p below mode b w =
       let k = product_runs m x p below (modes.Apply p false) wanted in
@@ -443,7 +452,7 @@ mutual
             ∙ right_same m d r below b.1.1,
       )
   item_runs m {d} (a_field {s = s} h x) k left below mode sp w =
-      let a = typed_runs m x left below (modes.Term (spots.Field left) d) behind_name in
+      let a = typed_runs m x left below (modes.Term (spots.Field left) d) field_named in
       (a.0, a.1, head_same m d s below w sp h ∙ a.2)
   item_runs m (a_bare_field x) k left below mode sp w = typed_runs m x left below mode (as_item sp w)
 
@@ -544,13 +553,13 @@ pub schema_results : (m : Bounds) (ls : List Lexeme) (s : SchemaView) → Declar
     → results m (schema_start m) ls ≡ map (λ c. c.result) s
 schema_results m ls s x = ap (λ z. z.1) (declarations_runs m x)
 
-word_behind : {b : Bool} {mode : ParserState} (d : Count) (below : List Frame) → Behind sides.Word b mode
+word_operand : {b : Bool} {mode : ParserState} (d : Count) (below : List Frame) → AfterOperand sides.Word b mode
     → is_word_end (at mode d below) ≡ true
-word_behind d below whole = refl
-word_behind d below (a_named applied) = refl
+word_operand d below whole = refl
+word_operand d below (a_named applied) = refl
 
 pub word_runs : (m : Bounds) (ls : List Lexeme) (e : ExprView) → TypeWord m ls e
     → (st : State) × (run m (word_start m) ls ≡ Ok st) × (is_word_end st ≡ true)
 word_runs m ls e x =
     let k = sum_runs m x sides.Word [] (modes.Apply sides.Word false) wanted in
-    (at k.0 m.levels [], ap (λ z. z.0) k.2, word_behind m.levels [] k.1.1)
+    (at k.0 m.levels [], ap (λ z. z.0) k.2, word_operand m.levels [] k.1.1)

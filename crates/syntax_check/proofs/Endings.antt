@@ -18,24 +18,24 @@ use Rattle.syntax_check.proofs.StateInvariant.{Text, a_schema, a_word, SumFits, 
 
 -- ---- whether the result of the declaration is after
 
-abbrev pub is_spot_behind : Spot → Bool
-is_spot_behind (spots.Param k) = true
-is_spot_behind _ = false
+abbrev pub is_spot_after_result : Spot → Bool
+is_spot_after_result (spots.Param k) = true
+is_spot_after_result _ = false
 
-abbrev pub is_frame_behind : List Frame → Bool
-is_frame_behind [] = false
-is_frame_behind (frames.Paren spot outer ∷ below) = is_spot_behind spot || is_frame_behind below
-is_frame_behind (frames.Record spot outer ∷ below) = is_spot_behind spot || is_frame_behind below
+abbrev pub is_frame_after_result : List Frame → Bool
+is_frame_after_result [] = false
+is_frame_after_result (frames.Paren spot outer ∷ below) = is_spot_after_result spot || is_frame_after_result below
+is_frame_after_result (frames.Record spot outer ∷ below) = is_spot_after_result spot || is_frame_after_result below
 
-abbrev pub is_mode_behind : ParserState → Bool
-is_mode_behind modes.Start = true
-is_mode_behind (modes.Params k) = true
-is_mode_behind (modes.Term spot inner) = is_spot_behind spot
-is_mode_behind _ = false
+abbrev pub is_mode_after_result : ParserState → Bool
+is_mode_after_result modes.Start = true
+is_mode_after_result (modes.Params k) = true
+is_mode_after_result (modes.Term spot inner) = is_spot_after_result spot
+is_mode_after_result _ = false
 
 -- between declarations, after a result, or in a parameter
-abbrev pub is_result_behind : State → Bool
-is_result_behind (at mode lv below) = is_mode_behind mode || is_frame_behind below
+abbrev pub is_after_result : State → Bool
+is_after_result (at mode lv below) = is_mode_after_result mode || is_frame_after_result below
 
 -- the names that are still to be declared, where x is taken for the result
 abbrev pub named_later : Bool → List ℕ → List (List ℕ)
@@ -45,22 +45,22 @@ named_later false x = x ∷ []
 -- ---- closing what is open
 
 abbrev names_left : Text → Bool → List ℕ → List (List ℕ)
-names_left a_schema is_behind x = named_later is_behind x
-names_left a_word is_behind x = []
+names_left a_schema is_after x = named_later is_after x
+names_left a_word is_after x = []
 
 abbrev may_end : Text → State → Bool
 may_end a_schema st = is_schema_end st
 may_end a_word st = is_word_end st
 
 abbrev Closing : Text → Bounds → List ℕ → State → Bool → Type 0
-Closing t m x st is_behind =
+Closing t m x st is_after =
     (more : List Lexeme) × (last : State) × (run m st more ≡ Ok last) × (may_end t last ≡ true)
-    × (results m st more ≡ names_left t is_behind x)
+    × (results m st more ≡ names_left t is_after x)
 
 -- after an operand: a name, or anything else
-abbrev behind : Bool → Side → Bool → ParserState
-behind true p b = modes.Applied p b
-behind false p b = modes.Operated p b
+abbrev operand_state : Bool → Side → Bool → ParserState
+operand_state true p b = modes.Applied p b
+operand_state false p b = modes.Operated p b
 
 data Pause : Type 0 where
   settled half bare : Pause
@@ -73,7 +73,7 @@ paused bare k = modes.ItemName k
 mutual
   close_sum : {t : Text} {p : Side} {below : List Frame} → SumFits t p below
       → (m : Bounds) (x : List ℕ) (is_name b : Bool) (lv : Count)
-      → Closing t m x (at (behind is_name p b) lv below) (is_frame_behind below)
+      → Closing t m x (at (operand_state is_name p b) lv below) (is_frame_after_result below)
   close_sum (in_paren {outer = outer} f) m x true b lv =
       let k = close_spot f m x outer in (sign CloseParen ∷ k.0, k.1, k.2, k.3, k.4)
   close_sum (in_paren {outer = outer} f) m x false b lv =
@@ -91,7 +91,7 @@ mutual
 
   close_items : {t : Text} {below : List Frame} → ItemsFit t below
       → (m : Bounds) (x : List ℕ) (w : Pause) (n lv : Count)
-      → Closing t m x (at (paused w n) lv below) (is_frame_behind below)
+      → Closing t m x (at (paused w n) lv below) (is_frame_after_result below)
   close_items in_declaration m x settled n lv =
       (sign Equal ∷ word x ∷ sign Semicolon ∷ [], at modes.Start lv [], refl, refl, refl)
   close_items in_declaration m x half n lv =
@@ -107,7 +107,7 @@ mutual
 
   close_spot : {t : Text} {spot : Spot} {below : List Frame} → SpotFits t spot below
       → (m : Bounds) (x : List ℕ) (lv : Count)
-      → Closing t m x (at (given_to spot) lv below) (is_spot_behind spot || is_frame_behind below)
+      → Closing t m x (at (given_to spot) lv below) (is_spot_after_result spot || is_frame_after_result below)
   close_spot (operand {b = b} f) m x lv = close_sum f m x false b lv
   close_spot (argument {b = b} f) m x lv = close_sum f m x true b lv
   close_spot (width {b = b} f) m x lv = close_sum f m x false b lv
@@ -115,8 +115,9 @@ mutual
   close_spot (guarded {k = n} f) m x lv = close_items f m x settled n lv
   close_spot param m x lv = (sign Semicolon ∷ [], at modes.Start lv [], refl, refl, refl)
 
-closing : {t : Text} {mode : ParserState} {below : List Frame} → Fits t mode below → (m : Bounds) (x : List ℕ) (lv : Count)
-    → Closing t m x (at mode lv below) (is_result_behind (at mode lv below))
+closing : {t : Text} {mode : ParserState} {below : List Frame} → Fits t mode below
+    → (m : Bounds) (x : List ℕ) (lv : Count)
+    → Closing t m x (at mode lv below) (is_after_result (at mode lv below))
 closing fits_start m x lv = ([], at modes.Start lv [], refl, refl, refl)
 closing fits_marked m x lv = (word x ∷ sign Equal ∷ word x ∷ sign Semicolon ∷ [], at modes.Start lv [], refl, refl, refl)
 closing fits_headed m x lv = (sign Equal ∷ word x ∷ sign Semicolon ∷ [], at modes.Start lv [], refl, refl, refl)
@@ -146,39 +147,39 @@ closing fits_result m x lv = (word x ∷ sign Semicolon ∷ [], at modes.Start l
 closing fits_params m x lv = (sign Semicolon ∷ [], at modes.Start lv [], refl, refl, refl)
 
 state_closing : (t : Text) (m : Bounds) (x : List ℕ) (st : State) → FitsState t st
-    → Closing t m x st (is_result_behind st)
+    → Closing t m x st (is_after_result st)
 state_closing t m x (at mode lv below) f = closing f m x lv
 
 -- ---- ends
 
 -- at an end the result is after
-end_behind : (st : State) → is_schema_end st ≡ true → is_result_behind st ≡ true
-end_behind (at modes.Start lv below) e = refl
-end_behind (at mode lv below) e = absurd (false≢true e)
+end_after_result : (st : State) → is_schema_end st ≡ true → is_after_result st ≡ true
+end_after_result (at modes.Start lv below) e = refl
+end_after_result (at mode lv below) e = absurd (false≢true e)
 
 -- how a schema goes on to an end: by nothing where it may end, and by x for a result that is not after
 abbrev pub SchemaEnding : Bounds → List ℕ → State → Type 0
 SchemaEnding m x st =
     (more : List Lexeme) × (last : State) × (run m st more ≡ Ok last) × (is_schema_end last ≡ true)
     × ((results m st more ≡ []) ⊎ (results m st more ≡ x ∷ []))
-    × (is_schema_end st ≡ true → more ≡ []) × (results m st more ≡ named_later (is_result_behind st) x)
+    × (is_schema_end st ≡ true → more ≡ []) × (results m st more ≡ named_later (is_after_result st) x)
 
-none_or_one : {names : List (List ℕ)} (is_behind : Bool) (x : List ℕ) → names ≡ named_later is_behind x
+none_or_one : {names : List (List ℕ)} (is_after : Bool) (x : List ℕ) → names ≡ named_later is_after x
     → (names ≡ []) ⊎ (names ≡ x ∷ [])
 none_or_one true x e = inl e
 none_or_one false x e = inr e
 
-pub schema_ending : (m : Bounds) (front : List Lexeme) (st : State) → run m (schema_start m) front ≡ Ok st
+pub schema_ending : (m : Bounds) (prefix : List Lexeme) (st : State) → run m (schema_start m) prefix ≡ Ok st
     → (x : List ℕ) → SchemaEnding m x st
-schema_ending m front st e x =
+schema_ending m prefix st e x =
     go (is_schema_end st) refl
-    (state_closing a_schema m x st (run_keeps a_schema m front modes.Start m.levels [] st fits_start e))
+    (state_closing a_schema m x st (run_keeps a_schema m prefix modes.Start m.levels [] st fits_start e))
   where
-    go : (is_end : Bool) → is_schema_end st ≡ is_end → Closing a_schema m x st (is_result_behind st)
+    go : (is_end : Bool) → is_schema_end st ≡ is_end → Closing a_schema m x st (is_after_result st)
         → SchemaEnding m x st
-    go true f k = ([], st, refl, f, inl refl, (λ g. refl), ap (λ z. named_later z x) (sym (end_behind st f)))
+    go true f k = ([], st, refl, f, inl refl, (λ g. refl), ap (λ z. named_later z x) (sym (end_after_result st f)))
     go false f k =
-        (k.0, k.1, k.2, k.3, none_or_one (is_result_behind st) x k.4, (λ g. absurd (false≢true (sym f ∙ g))), k.4)
+        (k.0, k.1, k.2, k.3, none_or_one (is_after_result st) x k.4, (λ g. absurd (false≢true (sym f ∙ g))), k.4)
 
 -- how a type word goes on to an end: by nothing where it may end
 abbrev pub WordEnding : Bounds → State → Type 0
@@ -187,13 +188,13 @@ WordEnding m st =
     × (is_word_end st ≡ true → more ≡ [])
 
 -- by names x alone
-pub word_ending : (m : Bounds) (front : List Lexeme) (st : State) → run m (word_start m) front ≡ Ok st → (x : List ℕ)
+pub word_ending : (m : Bounds) (prefix : List Lexeme) (st : State) → run m (word_start m) prefix ≡ Ok st → (x : List ℕ)
     → WordEnding m st
-word_ending m front st e x =
+word_ending m prefix st e x =
     go (is_word_end st) refl
     (state_closing a_word m x st
-    (run_keeps a_word m front (modes.Apply sides.Word false) m.levels [] st (fits_apply in_word) e))
+    (run_keeps a_word m prefix (modes.Apply sides.Word false) m.levels [] st (fits_apply in_word) e))
   where
-    go : (is_end : Bool) → is_word_end st ≡ is_end → Closing a_word m x st (is_result_behind st) → WordEnding m st
+    go : (is_end : Bool) → is_word_end st ≡ is_end → Closing a_word m x st (is_after_result st) → WordEnding m st
     go true f k = ([], st, refl, f, (λ g. refl))
     go false f k = (k.0, k.1, k.2, k.3, (λ g. absurd (false≢true (sym f ∙ g))))

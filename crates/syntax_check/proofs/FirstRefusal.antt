@@ -10,7 +10,7 @@ use Rattle.syntax_check.proofs.WithoutCounts.{Switches, every, without, IsOpen}
 use Rattle.syntax_check.proofs.Phase.{Phase, broken, phase_of}
 use Rattle.syntax_check.proofs.Steps.{IsOk, Lifts, IsLimit, step_by, ManyAt}
 use Rattle.syntax_check.proofs.Stepwise.{ok_one, clash, step_limit, no_constructors, sound, Sound}
-use Rattle.syntax_check.proofs.Prefixes.{Language, but_levels, but_items, but_params, runs_without, syntax_later, excess_later, no_excess_here, no_excess_past, excess_is, stop_is}
+use Rattle.syntax_check.proofs.Prefixes.{Language, but_levels, but_items, but_params, runs_without, syntax_later, excess_later, no_excess_at_place, no_excess_past, excess_is, stop_is}
 
 -- the refusals but those of too many constructors
 abbrev pub Plain : {X : Type 0} → Grammar X → List Lexeme → Reason → ℕ → Type 0
@@ -28,29 +28,30 @@ below_or_same a b h = grind arith
 
 module _ {X : Type 0} {G : Grammar X} (l : Language G) where
   -- none stands before the machine's place
-  pub plain_later : (ls front rest : List Lexeme) (st : State) (c : Reason) (place : ℕ)
-      → run standard (l.start standard) front ≡ Ok st → ls ≡ front ++ rest → Plain G ls c place → length front ≤ place
-  plain_later ls front rest st syntax place e whole h = syntax_later l standard ls front rest st place e whole h
-  plain_later ls front rest st deep_type place e whole h = excess_later l but_levels standard ls front rest st place e
+  pub plain_later : (ls prefix rest : List Lexeme) (st : State) (c : Reason) (place : ℕ)
+      → run standard (l.start standard) prefix ≡ Ok st → ls ≡ prefix ++ rest → Plain G ls c place
+      → length prefix ≤ place
+  plain_later ls prefix rest st syntax place e whole h = syntax_later l standard ls prefix rest st place e whole h
+  plain_later ls prefix rest st deep_type place e whole h = excess_later l but_levels standard ls prefix rest st place e
       whole h
-  plain_later ls front rest st too_many_constructors place e whole h = absurd h
-  plain_later ls front rest st too_many_fields place e whole h = excess_later l but_items standard ls front rest st
+  plain_later ls prefix rest st too_many_constructors place e whole h = absurd h
+  plain_later ls prefix rest st too_many_fields place e whole h = excess_later l but_items standard ls prefix rest st
       place e whole h
-  plain_later ls front rest st too_many_params place e whole h = excess_later l but_params standard ls front rest st
+  plain_later ls prefix rest st too_many_params place e whole h = excess_later l but_params standard ls prefix rest st
       place e whole h
 
   -- a step that fails is refused
-  pub plain_here : (ls front later : List Lexeme) (t : Lexeme) (st : State) (why : Cause) (place : ℕ)
-      → run standard (l.start standard) front ≡ Ok st → ls ≡ front ++ t ∷ later → length front ≡ place
+  pub plain_at_place : (ls prefix later : List Lexeme) (t : Lexeme) (st : State) (why : Cause) (place : ℕ)
+      → run standard (l.start standard) prefix ≡ Ok st → ls ≡ prefix ++ t ∷ later → length prefix ≡ place
       → step standard st t ≡ Err why → Plain G ls (cause_of why) place
-  plain_here ls front later t st Syntax place e whole size h = inl (stop_is l standard ls front later t st place e
+  plain_at_place ls prefix later t st Syntax place e whole size h = inl (stop_is l standard ls prefix later t st place e
       whole size h)
-  plain_here ls front later t st DeepType place e whole size h = excess_is l but_levels standard ls front later t st
+  plain_at_place ls prefix later t st DeepType place e whole size h = excess_is l but_levels standard ls prefix later t st
       DeepType place e whole size tt refl h
-  plain_here ls front later t st TooManyConstructors place e whole size h = absurd (no_constructors standard st t h)
-  plain_here ls front later t st TooManyFields place e whole size h = excess_is l but_items standard ls front later t
+  plain_at_place ls prefix later t st TooManyConstructors place e whole size h = absurd (no_constructors standard st t h)
+  plain_at_place ls prefix later t st TooManyFields place e whole size h = excess_is l but_items standard ls prefix later t
       st TooManyFields place e whole size tt refl h
-  plain_here ls front later t st TooManyParams place e whole size h = excess_is l but_params standard ls front later t
+  plain_at_place ls prefix later t st TooManyParams place e whole size h = excess_is l but_params standard ls prefix later t
       st TooManyParams place e whole size tt refl h
 
   -- at a parameter too many the levels are not exceeded
@@ -63,44 +64,44 @@ module _ {X : Type 0} {G : Grammar X} (l : Language G) where
   levels_past t st w (inr e) = e.1 (subst IsOpen (sym w.levels) tt) but_levels refl
 
   -- there no other refusal comes before it
-  before_it : (ls front later : List Lexeme) (t : Lexeme) (st : State) (why : Cause) (place : ℕ) (c : Reason)
-      → run standard (l.start standard) front ≡ Ok st → Sound standard st → ls ≡ front ++ t ∷ later
-      → length front ≡ place → step standard st t ≡ Err why →
+  before_it : (ls prefix later : List Lexeme) (t : Lexeme) (st : State) (why : Cause) (place : ℕ) (c : Reason)
+      → run standard (l.start standard) prefix ≡ Ok st → Sound standard st → ls ≡ prefix ++ t ∷ later
+      → length prefix ≡ place → step standard st t ≡ Err why →
       (rank (cause_of why) ≤ rank c) ⊎ (Plain G ls c place → ⊥)
-  before_it ls front later t st Syntax place syntax e w whole size h = inl (omega arith)
-  before_it ls front later t st Syntax place deep_type e w whole size h = inr (no_excess_here l but_levels standard ls
-      front later t st place e whole size h)
-  before_it ls front later t st Syntax place too_many_constructors e w whole size h = inr (λ z. z)
-  before_it ls front later t st Syntax place too_many_fields e w whole size h =
-      inr (no_excess_here l but_items standard ls front later t st place e whole size h)
-  before_it ls front later t st Syntax place too_many_params e w whole size h =
-      inr (no_excess_here l but_params standard ls front later t st place e whole size h)
-  before_it ls front later t st DeepType place c e w whole size h = inl (omega arith)
-  before_it ls front later t st TooManyConstructors place c e w whole size h = absurd (no_constructors standard st t h)
-  before_it ls front later t st TooManyFields place deep_type e w whole size h =
-      inr (no_excess_past l but_levels standard ls front later t st place e whole size
+  before_it ls prefix later t st Syntax place syntax e w whole size h = inl (omega arith)
+  before_it ls prefix later t st Syntax place deep_type e w whole size h = inr (no_excess_at_place l but_levels standard ls
+      prefix later t st place e whole size h)
+  before_it ls prefix later t st Syntax place too_many_constructors e w whole size h = inr (λ z. z)
+  before_it ls prefix later t st Syntax place too_many_fields e w whole size h =
+      inr (no_excess_at_place l but_items standard ls prefix later t st place e whole size h)
+  before_it ls prefix later t st Syntax place too_many_params e w whole size h =
+      inr (no_excess_at_place l but_params standard ls prefix later t st place e whole size h)
+  before_it ls prefix later t st DeepType place c e w whole size h = inl (omega arith)
+  before_it ls prefix later t st TooManyConstructors place c e w whole size h = absurd (no_constructors standard st t h)
+  before_it ls prefix later t st TooManyFields place deep_type e w whole size h =
+      inr (no_excess_past l but_levels standard ls prefix later t st place e whole size
       ((step_limit standard st t TooManyFields tt h).1 but_levels refl))
-  before_it ls front later t st TooManyFields place too_many_constructors e w whole size h = inr (λ z. z)
-  before_it ls front later t st TooManyFields place too_many_fields e w whole size h = inl (omega arith)
-  before_it ls front later t st TooManyFields place too_many_params e w whole size h = inl (omega arith)
-  before_it ls front later t st TooManyFields place syntax e w whole size h = inl (omega arith)
-  before_it ls front later t st TooManyParams place deep_type e w whole size h =
-      inr (no_excess_past l but_levels standard ls front later t st place e whole size
+  before_it ls prefix later t st TooManyFields place too_many_constructors e w whole size h = inr (λ z. z)
+  before_it ls prefix later t st TooManyFields place too_many_fields e w whole size h = inl (omega arith)
+  before_it ls prefix later t st TooManyFields place too_many_params e w whole size h = inl (omega arith)
+  before_it ls prefix later t st TooManyFields place syntax e w whole size h = inl (omega arith)
+  before_it ls prefix later t st TooManyParams place deep_type e w whole size h =
+      inr (no_excess_past l but_levels standard ls prefix later t st place e whole size
       (levels_past t st w ((step_limit standard st t TooManyParams tt h).2 refl)))
-  before_it ls front later t st TooManyParams place too_many_constructors e w whole size h = inr (λ z. z)
-  before_it ls front later t st TooManyParams place too_many_fields e w whole size h =
-      inr (no_excess_past l but_items standard ls front later t st place e whole size
+  before_it ls prefix later t st TooManyParams place too_many_constructors e w whole size h = inr (λ z. z)
+  before_it ls prefix later t st TooManyParams place too_many_fields e w whole size h =
+      inr (no_excess_past l but_items standard ls prefix later t st place e whole size
       ((step_limit standard st t TooManyParams tt h).1 but_items (refl, refl)))
-  before_it ls front later t st TooManyParams place too_many_params e w whole size h = inl (omega arith)
-  before_it ls front later t st TooManyParams place syntax e w whole size h = inl (omega arith)
+  before_it ls prefix later t st TooManyParams place too_many_params e w whole size h = inl (omega arith)
+  before_it ls prefix later t st TooManyParams place syntax e w whole size h = inl (omega arith)
 
-  pub plain_first : (ls front later : List Lexeme) (t : Lexeme) (st : State) (why : Cause) (place : ℕ)
-      → run standard (l.start standard) front ≡ Ok st → Sound standard st → ls ≡ front ++ t ∷ later
-      → length front ≡ place → step standard st t ≡ Err why →
+  pub plain_first : (ls prefix later : List Lexeme) (t : Lexeme) (st : State) (why : Cause) (place : ℕ)
+      → run standard (l.start standard) prefix ≡ Ok st → Sound standard st → ls ≡ prefix ++ t ∷ later
+      → length prefix ≡ place → step standard st t ≡ Err why →
       (c : Reason) (q : ℕ) → Plain G ls c q → ComesFirst place (cause_of why) q c
-  plain_first ls front later t st why place e w whole size h c q p =
-      go (below_or_same place q (let k = plain_later ls front (t ∷ later) st c q e whole p in omega arith))
-      (before_it ls front later t st why place c e w whole size h)
+  plain_first ls prefix later t st why place e w whole size h c q p =
+      go (below_or_same place q (let k = plain_later ls prefix (t ∷ later) st c q e whole p in omega arith))
+      (before_it ls prefix later t st why place c e w whole size h)
     where
       go : (place < q) ⊎ (place ≡ q) → (rank (cause_of why) ≤ rank c) ⊎ (Plain G ls c place → ⊥) → ComesFirst place
           (cause_of why) q c
@@ -131,11 +132,11 @@ module _ {X : Type 0} {G : Grammar X} (l : Language G) where
       go too_many_params p (inr a) = absurd (no_split ls q (size ∙ a) p.split)
 
   -- no limit is met without bounds
-  pub no_limit : (front : List Lexeme) (st : State) (t : Lexeme) (why : Cause) → run unbounded (l.start unbounded)
-      front ≡ Ok st → IsLimit why → step unbounded st t ≡ Err why → ⊥
-  no_limit front st t why e limit h = go why limit h
+  pub no_limit : (prefix : List Lexeme) (st : State) (t : Lexeme) (why : Cause) → run unbounded (l.start unbounded)
+      prefix ≡ Ok st → IsLimit why → step unbounded st t ≡ Err why → ⊥
+  no_limit prefix st t why e limit h = go why limit h
     where
-      same : (f : Switches) → run unbounded (l.start unbounded) front ≡ Ok (without f st)
+      same : (f : Switches) → run unbounded (l.start unbounded) prefix ≡ Ok (without f st)
           → step unbounded (without f st) (form_of t) ≡ step unbounded st (form_of t)
       same f k = let s : without f st ≡ st = ok_one (without f st) st (sym k ∙ e) in
           ap (λ z. step unbounded z (form_of t)) s
@@ -143,7 +144,7 @@ module _ {X : Type 0} {G : Grammar X} (l : Language G) where
       some : (why : Cause) → IsLimit why → Lifts every why → step unbounded st t ≡ Err why
           → IsOk (step unbounded st (form_of t))
       some why limit lifts h = let k = (step_limit unbounded st t why limit h).1 every lifts in
-          (k.0, sym (same every (runs_without l every unbounded front st e)) ∙ k.1)
+          (k.0, sym (same every (runs_without l every unbounded prefix st e)) ∙ k.1)
 
       go : (why : Cause) → IsLimit why → step unbounded st t ≡ Err why → ⊥
       go Syntax limit h = absurd limit
@@ -151,15 +152,15 @@ module _ {X : Type 0} {G : Grammar X} (l : Language G) where
       go DeepType limit h =
           let k = some DeepType tt (refl, refl) h in
           clash (step unbounded st (form_of t)) k.0 DeepType k.1
-          (sym (same but_levels (runs_without l but_levels unbounded front st e))
+          (sym (same but_levels (runs_without l but_levels unbounded prefix st e))
           ∙ (step_limit unbounded st t DeepType tt h).0 but_levels refl)
       go TooManyFields limit h =
           let k = some TooManyFields tt refl h in
           clash (step unbounded st (form_of t)) k.0 TooManyFields k.1
-          (sym (same but_items (runs_without l but_items unbounded front st e))
+          (sym (same but_items (runs_without l but_items unbounded prefix st e))
           ∙ (step_limit unbounded st t TooManyFields tt h).0 but_items refl)
       go TooManyParams limit h =
           let k = some TooManyParams tt (refl, refl) h in
           clash (step unbounded st (form_of t)) k.0 TooManyParams k.1
-          (sym (same but_params (runs_without l but_params unbounded front st e))
+          (sym (same but_params (runs_without l but_params unbounded prefix st e))
           ∙ (step_limit unbounded st t TooManyParams tt h).0 but_params refl)

@@ -97,7 +97,8 @@ pub counted_not : (a : Position) → awaits_name a.state ≡ false → counted a
 counted_not a e = ap (λ b. if b then (if length a.names == 4096 then or_met a.met (TooManyConstructors, a.place) else
     a.met) else None) e
 
-pub unjudged : (a : Position) (t : Lexeme) → awaits_name a.state ≡ false → is_result a.state ≡ false → judged_name a t ≡ None
+pub unjudged : (a : Position) (t : Lexeme) → awaits_name a.state ≡ false → is_result a.state ≡ false
+    → judged_name a t ≡ None
 unjudged a (word x) e f = ap (λ b. if b then judged_result a x else counted a) f ∙ counted_not a e
 unjudged a blank e f = counted_not a e
 unjudged a (number n) e f = refl
@@ -123,7 +124,8 @@ finish_met may_end st place begun names met = either (may_end st)
 -- a step that fails answers the limit that was met
 pub failed_met : (st : State) (place begun : ℕ) (names : List (List ℕ)) (met : Cause × ℕ) (t : Lexeme) (o : Outcome)
     → ((why : Cause) → IsLimit why → o ≡ Err why → ⊥) → (o ≡ Err TooManyConstructors → ⊥) →
-    (further : Position → Verdict) → ((next : State) → o ≡ Ok next → further (onward (past_limit st place begun names met)
+    (further : Position → Verdict)
+    → ((next : State) → o ≡ Ok next → further (onward (past_limit st place begun names met)
     t unbounded (Some met) next) ≡ Some met) →
     go_on (after_step (past_limit st place begun names met) t o) further ≡ Some met
 failed_met st place begun names met t (Ok next) none many further h = h next refl

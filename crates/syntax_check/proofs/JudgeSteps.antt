@@ -18,7 +18,8 @@ use Rattle.syntax_check.specs.Judge.{Position, Verdict, free, onward, freed, aft
 -- ---- after a limit
 
 -- a state without its counts stands where it stood
-onward_free : (st : State) (m n bounds : Bounds) (place begun : ℕ) (names : List (List ℕ)) (met met_then now : Verdict) (t : Lexeme) (next : State) →
+onward_free : (st : State) (m n bounds : Bounds) (place begun : ℕ) (names : List (List ℕ))
+    (met met_then now : Verdict) (t : Lexeme) (next : State) →
     onward (record { bounds = m; state = st; place = place; begun = begun; names = names; met = met }) t bounds now next ≡
     onward (record { bounds = n; state = free st; place = place; begun = begun; names = names; met = met_then }) t bounds now next
 onward_free (at Start lv below) m n bounds place begun names met met_then now t next = refl
@@ -26,7 +27,8 @@ onward_free (at Marked lv below) m n bounds place begun names met met_then now t
 onward_free (at ResultName lv below) m n bounds place begun names met met_then now t next = refl
 onward_free (at _ lv below) m n bounds place begun names met met_then now t next = refl
 
-pub beyond : (st st_then next : State) (m n : Bounds) (place begun : ℕ) (names : List (List ℕ)) (met : Verdict) (t : Lexeme) (why : Cause) (reported : Cause × ℕ) (new : Position) →
+pub beyond : (st st_then next : State) (m n : Bounds) (place begun : ℕ) (names : List (List ℕ)) (met : Verdict)
+    (t : Lexeme) (why : Cause) (reported : Cause × ℕ) (new : Position) →
     n ≡ unbounded → st_then ≡ free st → reported ≡ (why, place) → step n st_then t ≡ Ok next →
     new ≡ onward (record { bounds = n; state = st_then; place = place; begun = begun; names = names; met = Some reported }) t n (Some reported) next →
     freed (record { bounds = m; state = st; place = place; begun = begun; names = names; met = met }) t why (step unbounded (free st) t) ≡ Ok new
@@ -58,25 +60,30 @@ past_place a b t (Some met) e = cc
 pub advance_place : (a b : Position) (t : Lexeme) → advance a t ≡ Ok b → b.place ≡ a.place + 1
 advance_place a b t e = past_place a b t (judged_name a t) e
 
-pub not_refused : (a b : Position) (t : Lexeme) (found : Option Refusal) → advance a t ≡ goes_to found b → false ≡ is_some found → advance a t ≡ Ok b
+pub not_refused : (a b : Position) (t : Lexeme) (found : Option Refusal) → advance a t ≡ goes_to found b
+    → false ≡ is_some found → advance a t ≡ Ok b
 not_refused a b t None e f = e
 not_refused a b t (Some r) e f = cc
 
 -- ---- the tokens
 
-pub placed_at : (text : List ℕ) (start : ℕ) (ts : List Token) (i : ℕ) (d : Token) → PlacedFrom text start ts → i < length ts → (from : ℕ) × IsPlaced text from (get_or ts i d)
+pub placed_at : (text : List ℕ) (start : ℕ) (ts : List Token) (i : ℕ) (d : Token) → PlacedFrom text start ts
+    → i < length ts → (from : ℕ) × IsPlaced text from (get_or ts i d)
 placed_at text start [] i d h lt = absurd (omega arith)
 placed_at text start (t ∷ ts) zero d h lt = (start, h.0)
 placed_at text start (t ∷ ts) (suc i) d h lt = placed_at text t.to ts i d h.1 (omega arith)
 
-pub tokens_before : (text : List ℕ) (start : ℕ) (ts : List Token) (i : ℕ) → PlacedFrom text start ts → i < length ts → start + i < length text
+pub tokens_before : (text : List ℕ) (start : ℕ) (ts : List Token) (i : ℕ) → PlacedFrom text start ts → i < length ts
+    → start + i < length text
 tokens_before text start [] i h lt = absurd (omega arith)
 tokens_before text start (t ∷ ts) zero h lt = omega (arith, h.0.after, h.0.forward, h.0.within)
 tokens_before text start (t ∷ ts) (suc i) h lt =
     let later : t.to + i < length text = tokens_before text t.to ts i h.1 (omega arith) in
     omega (arith, later, h.0.after, h.0.forward)
 
-pub goes_on : (may_end : State → Bool) (a b : Position) (text : List ℕ) (ts : List Token) (i : ℕ) (d : Token) (t : Lexeme) → i < length ts → t ≡ lexeme_of text (get_or ts i d) → advance a t ≡ Ok b →
+pub goes_on : (may_end : State
+    → Bool) (a b : Position) (text : List ℕ) (ts : List Token) (i : ℕ) (d : Token) (t : Lexeme) → i < length ts
+    → t ≡ lexeme_of text (get_or ts i d) → advance a t ≡ Ok b →
     go may_end b (lexemes text (drop (i + 1) ts)) ≡ go may_end a (lexemes text (drop i ts))
 goes_on may_end a b text ts i d t lt f e =
     let e2 : advance a (lexeme_of text (get_or ts i d)) ≡ Ok b = rw (← f) e in

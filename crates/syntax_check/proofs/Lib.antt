@@ -14,6 +14,7 @@ pub mod ResultNames
 pub mod RunResults
 pub mod SchemaPrefix
 pub mod Schemas
+pub mod SchemaRefusals
 pub mod SomeAnswer
 pub mod Soundness
 pub mod StateInvariant

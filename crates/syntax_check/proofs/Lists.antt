@@ -12,7 +12,8 @@ reverse_map f (x ∷ xs) =
     ∙ sym (map-append f (reverse xs) (x ∷ [])) ∙ ap (map f) (sym (reverse-append (x ∷ []) xs))
 
 -- one more element is written over by its image
-pub over_more : {X : Type 0} (f : X → X) (xs ys : List X) (i : ℕ) (y d : X) → i < length xs → length ys ≡ length xs → ys ≡ map f (take i xs) ++ drop i xs → y ≡ f (get_or ys i d) →
+pub over_more : {X : Type 0} (f : X → X) (xs ys : List X) (i : ℕ) (y d : X) → i < length xs → length ys ≡ length xs
+    → ys ≡ map f (take i xs) ++ drop i xs → y ≡ f (get_or ys i d) →
     set ys i y ≡ map f (take (i + 1) xs) ++ drop (i + 1) xs
 over_more f xs ys i y d h same e g =
     let within : i < length ys = rw same h in

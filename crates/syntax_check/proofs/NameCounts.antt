@@ -98,18 +98,18 @@ count_types (c ∷ s) x =
     one = omega arith
 
 -- lists of names within the limits
-pub record FewNames (names : List (List ℕ)) : Type 0 where
+pub record NamesWithinCounts (names : List (List ℕ)) : Type 0 where
   pub all : length names ≤ 4096
   pub of_one : (x : List ℕ) → count_of x names ≤ 256
 
-pub few_types : (s : SchemaView) → FewNames (types_of s) → WithinCounts s
-few_types s h = record {
+pub counts_types : (s : SchemaView) → NamesWithinCounts (types_of s) → WithinCounts s
+counts_types s h = record {
   all = let k = length-map s (λ (c : ConstructorView). c.result) in omega (arith, h.all);
   of_one = λ x. let k = count_types s x in omega (arith, h.of_one x);
 }
 
-pub types_few : (s : SchemaView) → WithinCounts s → FewNames (types_of s)
-types_few s h = record {
+pub types_counts : (s : SchemaView) → WithinCounts s → NamesWithinCounts (types_of s)
+types_counts s h = record {
   all = let k = length-map s (λ (c : ConstructorView). c.result) in omega (arith, h.all);
   of_one = λ x. let k = count_types s x in omega (arith, h.of_one x);
 }

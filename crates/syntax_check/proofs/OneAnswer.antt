@@ -9,8 +9,8 @@ use Rattle.syntax_check.specs.Verdict.{cause_of, SchemaTaken, SchemaOneAnswer, W
 use Rattle.syntax_check.proofs.WithoutCounts.{every, without}
 use Rattle.syntax_check.proofs.RunResults.{results, results_on}
 use Rattle.syntax_check.proofs.Completeness.{schema_runs, schema_results, word_runs}
-use Rattle.syntax_check.proofs.Stepwise.{run_front, run_more, one_run}
-use Rattle.syntax_check.proofs.NameCounts.{FewNames, types_few}
+use Rattle.syntax_check.proofs.Stepwise.{run_prefix, run_more, one_run}
+use Rattle.syntax_check.proofs.NameCounts.{NamesWithinCounts, types_counts}
 use Rattle.syntax_check.proofs.ResultNames.{results_more, results_without, named_form, end_without}
 use Rattle.syntax_check.proofs.Prefixes.{Language, but_levels, but_items, but_params, runs_without, no_stop, no_excess}
 use Rattle.syntax_check.proofs.FirstRefusal.{Plain}
@@ -30,7 +30,7 @@ module _ {X : Type 0} {G : Grammar X} (l : Language G) where
   not_plain ls st e ends syntax place (inl s) = no_stop l standard ls ls [] st place e (sym (append-nil ls)) s
       (split_below ls place s.split)
   not_plain ls st e ends syntax place (inr s) =
-      let w = l.said unbounded ls (without every st) (runs_without l every standard ls st e) (l.end_without every st
+      let w = l.soundness unbounded ls (without every st) (runs_without l every standard ls st e) (l.end_without every st
       ∙ ends) in
       s.not_yet w.0 w.1
   not_plain ls st e ends deep_type place s = no_excess l but_levels standard ls ls [] st place e (sym (append-nil ls))
@@ -41,17 +41,17 @@ module _ {X : Type 0} {G : Grammar X} (l : Language G) where
   not_plain ls st e ends too_many_params place s = no_excess l but_params standard ls ls [] st place e
       (sym (append-nil ls)) s (split_below ls place s.split)
 
--- a text with few constructors has few at each place
+-- a text within the counts is within them at each place
 not_many : (ls : List Lexeme) (st : State) (place : ℕ) → run unbounded (schema_start unbounded) ls ≡ Ok st
-    → is_schema_end st ≡ true → FewNames (results unbounded (schema_start unbounded) ls) → Exceeds Declarations
+    → is_schema_end st ≡ true → NamesWithinCounts (results unbounded (schema_start unbounded) ls) → Exceeds Declarations
     unbounded WithinCounts ls place → ⊥
-not_many ls st place e ends few x =
+not_many ls st place e ends counts x =
     let sp = x.split in
     let whole : ls ≡ (sp.prefix ++ sp.next ∷ []) ++ sp.later = sp.whole
     ∙ sym (append_assoc sp.prefix (sp.next ∷ []) sp.later) in
     let P : List Lexeme → Type 0 = λ z. run unbounded (schema_start unbounded) z ≡ Ok st in
-    let far = run_front unbounded (schema_start unbounded) (sp.prefix ++ sp.next ∷ []) sp.later st (subst P whole e) in
-    let near = run_front unbounded (schema_start unbounded) sp.prefix (sp.next ∷ []) far.0 far.1 in
+    let far = run_prefix unbounded (schema_start unbounded) (sp.prefix ++ sp.next ∷ []) sp.later st (subst P whole e) in
+    let near = run_prefix unbounded (schema_start unbounded) sp.prefix (sp.next ∷ []) far.0 far.1 in
     let one = one_run unbounded near.0 far.0 sp.next near.2 in
     let form = form_step sp.prefix near.0 far.0 sp.next near.1 one in
     let names = results_more unbounded sp.prefix sp.next (schema_start unbounded) near.0 far.0 near.1 one in
@@ -63,24 +63,24 @@ not_many ls st place e ends few x =
     (schema_start unbounded) (sp.prefix ++ sp.next ∷ []) sp.later far.0 far.1
     ∙ ap (λ z. z ++ results unbounded far.0 sp.later) (sym same) in
     x.too_much (can_end (ended sp.prefix (form_of sp.next)) sp.later far.0 st (run_more unbounded (schema_start unbounded)
-    near.0 far.0 sp.prefix (form_of sp.next) near.1 form) far.2 ends (subst FewNames all_names few))
+    near.0 far.0 sp.prefix (form_of sp.next) near.1 form) far.2 ends (subst NamesWithinCounts all_names counts))
 
 pub schema_one_answer : SchemaOneAnswer
-schema_one_answer ls s c place w few refusal = go c refusal
+schema_one_answer ls s c place w counts refusal = go c refusal
   where
     k : (st : State) × (run standard (schema_start standard) ls ≡ Ok st) × (is_schema_end st ≡ true)
     k = schema_runs standard ls s w
 
-    few_names : FewNames (results unbounded (schema_start unbounded) ls)
-    few_names =
+    counts_names : NamesWithinCounts (results unbounded (schema_start unbounded) ls)
+    counts_names =
         let same = results_without every standard ls (schema_start standard) k.0 k.1 ∙ schema_results standard ls s w in
-        subst FewNames (sym same) (types_few s few)
+        subst NamesWithinCounts (sym same) (types_counts s counts)
 
     go : (c : Reason) → SchemaRefusal ls c place → ⊥
     go syntax r = not_plain schemas ls k.0 k.1 k.2 syntax place r
     go deep_type r = not_plain schemas ls k.0 k.1 k.2 deep_type place r
     go too_many_constructors r = not_many ls (without every k.0) r.0 (runs_without schemas every standard ls k.0 k.1)
-        (end_without every k.0 ∙ k.2) few_names r.1
+        (end_without every k.0 ∙ k.2) counts_names r.1
     go too_many_fields r = not_plain schemas ls k.0 k.1 k.2 too_many_fields place r
     go too_many_params r = not_plain schemas ls k.0 k.1 k.2 too_many_params place r
 
@@ -98,11 +98,11 @@ word_one_answer ls e c place w refusal = go c refusal
     go too_many_params r = r
 
 pub schema_taken : SchemaTaken
-schema_taken ls s w few = go (schema_verdict ls) refl
+schema_taken ls s w counts = go (schema_verdict ls) refl
   where
     go : (v : Verdict) → schema_verdict ls ≡ v → schema_verdict ls ≡ None
     go None e = e
-    go (Some refusal) e = absurd (schema_one_answer ls s (cause_of refusal.0) refusal.1 w few
+    go (Some refusal) e = absurd (schema_one_answer ls s (cause_of refusal.0) refusal.1 w counts
         (schema_refused ls refusal.0 refusal.1 e).refused)
 
 pub word_taken : WordTaken

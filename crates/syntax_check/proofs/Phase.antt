@@ -17,7 +17,7 @@ pub data Phase : Type 0 where
   between : Phase
   marked : Phase
   before : Phase
-  behind : Phase
+  after_result : Phase
   in_word : Phase
   broken : Phase
 
@@ -47,7 +47,7 @@ spot_phase (Argument p s) nil rest = side_phase p nil rest
 spot_phase (Width p s) nil rest = side_phase p nil rest
 spot_phase (Field k) nil rest = rest
 spot_phase (Guarded k) nil rest = rest
-spot_phase (Param k) nil rest = only nil behind
+spot_phase (Param k) nil rest = only nil after_result
 
 abbrev pub frames_phase : List Frame → Phase
 frames_phase [] = before
@@ -63,7 +63,7 @@ mode_phase (Apply p s) nil rest = side_phase p nil rest
 mode_phase (Applied p s) nil rest = side_phase p nil rest
 mode_phase (Operated p s) nil rest = side_phase p nil rest
 mode_phase ResultName nil rest = only nil before
-mode_phase (Params k) nil rest = only nil behind
+mode_phase (Params k) nil rest = only nil after_result
 mode_phase _ nil rest = rest
 
 abbrev pub phase_of : State → Phase
@@ -92,9 +92,9 @@ pub data Turn : Phase → Bool → Phase → Type 0 where
   marking : Turn between false marked
   heading : Turn marked false before
   within : Turn before false before
-  naming : Turn before true behind
-  further : Turn behind false behind
-  closing : Turn behind false between
+  naming : Turn before true after_result
+  further : Turn after_result false after_result
+  closing : Turn after_result false between
   in_a_word : Turn in_word false in_word
   nowhere : {flag : Bool} {next : Phase} → Turn broken flag next
 
@@ -105,13 +105,13 @@ pub record Turned (st next : State) : Type 0 where
 -- the phases that stay
 pub data Stays : Phase → Type 0 where
   stays_before : Stays before
-  stays_behind : Stays behind
+  stays_after_result : Stays after_result
   stays_in_word : Stays in_word
   stays_broken : Stays broken
 
 pub stays_turn : (ph : Phase) → Stays ph → Turn ph false ph
 stays_turn _ stays_before = within
-stays_turn _ stays_behind = further
+stays_turn _ stays_after_result = further
 stays_turn _ stays_in_word = in_a_word
 stays_turn _ stays_broken = nowhere
 
@@ -131,7 +131,7 @@ spot_stays (Argument p s) nil rest h = side_stays p nil rest h
 spot_stays (Width p s) nil rest h = side_stays p nil rest h
 spot_stays (Field k) nil rest h = h
 spot_stays (Guarded k) nil rest h = h
-spot_stays (Param k) nil rest h = only_stays nil behind stays_behind
+spot_stays (Param k) nil rest h = only_stays nil after_result stays_after_result
 
 pub frames_stay : (below : List Frame) → Stays (frames_phase below)
 frames_stay [] = stays_before

@@ -9,10 +9,10 @@ use Rattle.syntax_check.specs.declared.machine.Cause.TheVariants.{Syntax}
 use Rattle.syntax_check.specs.Machine.{State, at, step, run, is_schema_end}
 use Rattle.syntax_check.specs.Judge.{Position, awaits_name, is_result, heads, judged_name, names_with}
 use Rattle.syntax_check.proofs.WithoutCounts.{Switches, without, bounds_without}
-use Rattle.syntax_check.proofs.Phase.{Phase, between, marked, before, behind, in_word, broken, unnamed, is_nil, only, frames_phase, phase_of, is_start, is_marked, Turn, opening, marking, heading, within, naming, further, closing, in_a_word, nowhere, Stays, stays_before, stays_behind, stays_in_word, stays_broken, side_stays, spot_stays, frames_stay}
+use Rattle.syntax_check.proofs.Phase.{Phase, between, marked, before, after_result, in_word, broken, unnamed, is_nil, only, frames_phase, phase_of, is_start, is_marked, Turn, opening, marking, heading, within, naming, further, closing, in_a_word, nowhere, Stays, stays_before, stays_after_result, stays_in_word, stays_broken, side_stays, spot_stays, frames_stay}
 use Rattle.syntax_check.proofs.Steps.{IsOk}
 use Rattle.syntax_check.proofs.RunResults.{named_in, if_taken, results, results_on}
-use Rattle.syntax_check.proofs.Stepwise.{ok_one, clash, run_front, one_run, run_one, step_ok, sound}
+use Rattle.syntax_check.proofs.Stepwise.{ok_one, clash, run_prefix, one_run, run_one, step_ok, sound}
 use Rattle.syntax_check.proofs.JudgePositions.{start_phase, marked_phase, result_phase, awaits_not, counted_not, is_false}
 
 -- ---- results
@@ -35,9 +35,9 @@ pub results_one : (m : Bounds) (st next : State) (t : Lexeme) → step m st t �
 results_one m st next t e =
     ap (λ o. named_in st t (if_taken o (λ mid. results m mid []))) e ∙ named_before st t [] ∙ append-nil (named st t)
 
-pub results_more : (m : Bounds) (front : List Lexeme) (t : Lexeme) (st mid next : State) → run m st front ≡ Ok mid
-    → step m mid t ≡ Ok next → results m st (front ++ t ∷ []) ≡ results m st front ++ named mid t
-results_more m front t st mid next e h = results_on m st front (t ∷ []) mid e ∙ ap (λ z. results m st front ++ z)
+pub results_more : (m : Bounds) (prefix : List Lexeme) (t : Lexeme) (st mid next : State) → run m st prefix ≡ Ok mid
+    → step m mid t ≡ Ok next → results m st (prefix ++ t ∷ []) ≡ results m st prefix ++ named mid t
+results_more m prefix t st mid next e h = results_on m st prefix (t ∷ []) mid e ∙ ap (λ z. results m st prefix ++ z)
     (results_one m mid next t h)
 
 -- ---- states without counts
@@ -74,7 +74,7 @@ pub results_without : (f : Switches) (m : Bounds) (ls : List Lexeme) (st last : 
     → results (bounds_without f m) (without f st) ls ≡ results m st ls
 results_without f m [] st last e = refl
 results_without f m (t ∷ ts) st last e =
-    let k = run_front m st (t ∷ []) ts last e in
+    let k = run_prefix m st (t ∷ []) ts last e in
     let s = one_run m st k.0 t k.1 in
     let w = (step_ok m st k.0 t s).0 f in
     let free = results (bounds_without f m) (without f k.0) ts in
@@ -119,14 +119,14 @@ abbrev pub in_schema : Phase → Bool
 in_schema between = true
 in_schema marked = true
 in_schema before = true
-in_schema behind = true
+in_schema after_result = true
 in_schema _ = false
 
 pub schema_sound : (ph : Phase) → in_schema ph ≡ true → sound ph ≡ true
 schema_sound between e = refl
 schema_sound marked e = refl
 schema_sound before e = refl
-schema_sound behind e = refl
+schema_sound after_result e = refl
 schema_sound in_word e = refl
 schema_sound broken e = cc
 
@@ -152,7 +152,7 @@ before_turn _ _ _ closing e h = cc
 before_turn _ _ _ in_a_word e h = cc
 before_turn _ _ _ nowhere e h = cc
 
-pub naming_turn : (a b : Phase) (flag : Bool) → Turn a flag b → a ≡ before → flag ≡ true → b ≡ behind
+pub naming_turn : (a b : Phase) (flag : Bool) → Turn a flag b → a ≡ before → flag ≡ true → b ≡ after_result
 naming_turn _ _ _ opening e h = cc
 naming_turn _ _ _ marking e h = cc
 naming_turn _ _ _ heading e h = cc
@@ -197,23 +197,24 @@ marking_turn _ _ _ closing h e = cc
 marking_turn _ _ _ in_a_word h e = cc
 marking_turn _ _ _ nowhere h e = cc
 
-pub behind_turn : (a b : Phase) (flag : Bool) → Turn a flag b → a ≡ behind → (b ≡ behind) ⊎ (b ≡ between)
-behind_turn _ _ _ opening e = cc
-behind_turn _ _ _ marking e = cc
-behind_turn _ _ _ heading e = cc
-behind_turn _ _ _ within e = cc
-behind_turn _ _ _ naming e = cc
-behind_turn _ _ _ further e = inl refl
-behind_turn _ _ _ closing e = inr refl
-behind_turn _ _ _ in_a_word e = cc
-behind_turn _ _ _ nowhere e = cc
+pub after_result_turn : (a b : Phase) (flag : Bool) → Turn a flag b → a ≡ after_result
+    → (b ≡ after_result) ⊎ (b ≡ between)
+after_result_turn _ _ _ opening e = cc
+after_result_turn _ _ _ marking e = cc
+after_result_turn _ _ _ heading e = cc
+after_result_turn _ _ _ within e = cc
+after_result_turn _ _ _ naming e = cc
+after_result_turn _ _ _ further e = inl refl
+after_result_turn _ _ _ closing e = inr refl
+after_result_turn _ _ _ in_a_word e = cc
+after_result_turn _ _ _ nowhere e = cc
 
 pub four : (ph : Phase) → in_schema ph ≡ true
-    → (ph ≡ between) ⊎ ((ph ≡ marked) ⊎ ((ph ≡ before) ⊎ (ph ≡ behind)))
+    → (ph ≡ between) ⊎ ((ph ≡ marked) ⊎ ((ph ≡ before) ⊎ (ph ≡ after_result)))
 four between e = inl refl
 four marked e = inr (inl refl)
 four before e = inr (inr (inl refl))
-four behind e = inr (inr (inr refl))
+four after_result e = inr (inr (inr refl))
 four in_word e = cc
 four broken e = cc
 
@@ -221,7 +222,7 @@ four broken e = cc
 
 not_between : (ph : Phase) → Stays ph → ph ≡ between → ⊥
 not_between _ stays_before e = cc
-not_between _ stays_behind e = cc
+not_between _ stays_after_result e = cc
 not_between _ stays_in_word e = cc
 not_between _ stays_broken e = cc
 
@@ -233,9 +234,9 @@ only_marked : (nil : Bool) → only nil marked ≡ between → ⊥
 only_marked true e = cc
 only_marked false e = cc
 
-only_behind : (nil : Bool) → only nil behind ≡ between → ⊥
-only_behind true e = cc
-only_behind false e = cc
+only_after_result : (nil : Bool) → only nil after_result ≡ between → ⊥
+only_after_result true e = cc
+only_after_result false e = cc
 
 pub between_start : (st : State) → phase_of st ≡ between → is_start st ≡ true
 between_start (at Start lv below) e = refl
@@ -250,14 +251,14 @@ between_start (at (Applied p s) lv below) e = absurd (not_between _ (side_stays 
 between_start (at (Operated p s) lv below) e = absurd (not_between _ (side_stays p (is_nil below) (frames_phase below)
     (frames_stay below)) e)
 between_start (at ResultName lv below) e = absurd (only_before (is_nil below) e)
-between_start (at (Params k) lv below) e = absurd (only_behind (is_nil below) e)
+between_start (at (Params k) lv below) e = absurd (only_after_result (is_nil below) e)
 between_start (at mode lv below) e = absurd (not_between _ (frames_stay below) e)
 
 -- ---- after a `!`
 
 no_mark : (ph : Phase) → Stays ph → ph ≡ marked → ⊥
 no_mark _ stays_before e = cc
-no_mark _ stays_behind e = cc
+no_mark _ stays_after_result e = cc
 no_mark _ stays_in_word e = cc
 no_mark _ stays_broken e = cc
 
@@ -265,7 +266,7 @@ marked_only : (nil : Bool) (ph : Phase) → (ph ≡ marked → ⊥) → only nil
 marked_only true ph never e = never e
 marked_only false ph never e = cc
 
-differ_marked : (ph : Phase) → ph ≡ marked → (ph ≡ between) ⊎ ((ph ≡ before) ⊎ (ph ≡ behind)) → ⊥
+differ_marked : (ph : Phase) → ph ≡ marked → (ph ≡ between) ⊎ ((ph ≡ before) ⊎ (ph ≡ after_result)) → ⊥
 differ_marked ph e (inl f) = cc
 differ_marked ph e (inr (inl f)) = cc
 differ_marked ph e (inr (inr f)) = cc
@@ -286,8 +287,8 @@ phase_marked (at (Operated p s) lv below) e = absurd (no_mark _ (side_stays p (i
     (frames_stay below)) e)
 phase_marked (at ResultName lv below) e = absurd (marked_only (is_nil below) before
     (λ f. differ_marked before f (inr (inl refl))) e)
-phase_marked (at (Params k) lv below) e = absurd (marked_only (is_nil below) behind
-    (λ f. differ_marked behind f (inr (inr refl))) e)
+phase_marked (at (Params k) lv below) e = absurd (marked_only (is_nil below) after_result
+    (λ f. differ_marked after_result f (inr (inr refl))) e)
 phase_marked (at mode lv below) e = absurd (no_mark _ (frames_stay below) e)
 
 unbroken : (ph other : Phase) → in_schema ph ≡ true → (ph ≡ other) ⊎ (ph ≡ broken) → ph ≡ other
@@ -311,15 +312,15 @@ not_at_mark st h never = is_false (is_marked st) (λ e. never (marked_between st
 
 -- neither between declarations nor after a `!`
 pub awaits_none : (st : State) → in_schema (phase_of st) ≡ true
-    → (phase_of st ≡ before) ⊎ (phase_of st ≡ behind) → awaits_name st ≡ false
+    → (phase_of st ≡ before) ⊎ (phase_of st ≡ after_result) → awaits_name st ≡ false
 awaits_none st h ph = awaits_not st (not_at_start st h (differ_1 (phase_of st) ph)) (not_at_mark st h
     (differ_2 (phase_of st) ph))
   where
-    differ_1 : (p : Phase) → (p ≡ before) ⊎ (p ≡ behind) → p ≡ between → ⊥
+    differ_1 : (p : Phase) → (p ≡ before) ⊎ (p ≡ after_result) → p ≡ between → ⊥
     differ_1 p (inl e) f = cc
     differ_1 p (inr e) f = cc
 
-    differ_2 : (p : Phase) → (p ≡ before) ⊎ (p ≡ behind) → p ≡ marked → ⊥
+    differ_2 : (p : Phase) → (p ≡ before) ⊎ (p ≡ after_result) → p ≡ marked → ⊥
     differ_2 p (inl e) f = cc
     differ_2 p (inr e) f = cc
 
@@ -430,7 +431,7 @@ one_result m [] st last e h ends b =
     let one : unnamed (phase_of last) ≡ 1 = ap (λ z. unnamed (phase_of z)) (sym (ok_one st last e)) ∙ b in
     absurd (omega (arith, none, one))
 one_result m (t ∷ ts) st last e h ends b =
-    let k = run_front m st (t ∷ []) ts last e in
+    let k = run_prefix m st (t ∷ []) ts last e in
     let s = one_run m st k.0 t k.1 in
     let w = ap length (results_on m st (t ∷ []) ts k.0 (run_one m st k.0 t s)) in
     let v = ap length (results_one m st k.0 t s) in
@@ -446,7 +447,8 @@ one_result m (t ∷ ts) st last e h ends b =
         omega (arith, w, k)
     go mid s true f ih w v = spells (at_result m st t f)
       where
-        spells : ((x : List ℕ) × (t ≡ word x)) ⊎ ((step m st t ≡ Err Syntax) × ((a : Position) → awaits_name a.state ≡ false
+        spells : ((x : List ℕ) × (t ≡ word x))
+            ⊎ ((step m st t ≡ Err Syntax) × ((a : Position) → awaits_name a.state ≡ false
             → judged_name a t ≡ None)) → 1 ≤ length (results m st (t ∷ ts))
         spells (inl x) =
             let n : named st t ≡ x.0 ∷ [] = ap (λ z. if z then spelled t else []) f ∙ ap spelled x.1 in

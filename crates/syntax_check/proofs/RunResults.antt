@@ -28,8 +28,8 @@ results m st (t ∷ ts) = named_in st t (if_taken (step m st t) (λ next. result
 abbrev pub trail : Bounds → State → List Lexeme → Outcome × List (List ℕ)
 trail m st ls = (run m st ls, results m st ls)
 
-pub runs_on : (m : Bounds) (st : State) (front rest : List Lexeme)
-    → run m st (front ++ rest) ≡ and_then (run m st front) (λ mid. run m mid rest)
+pub runs_on : (m : Bounds) (st : State) (prefix rest : List Lexeme)
+    → run m st (prefix ++ rest) ≡ and_then (run m st prefix) (λ mid. run m mid rest)
 runs_on m st [] rest = refl
 runs_on m st (t ∷ ts) rest = go (step m st t) (λ next. runs_on m next ts rest)
   where
@@ -51,8 +51,8 @@ named-append : (st : State) (t : Lexeme) (xs ys : List (List ℕ)) → named_in 
 named-append (at mode lv below) t xs ys = declared-append mode t xs ys
 
 -- the names in two runs, one after the other
-pub results_on : (m : Bounds) (st : State) (front rest : List Lexeme) (mid : State) → run m st front ≡ Ok mid
-    → results m st (front ++ rest) ≡ results m st front ++ results m mid rest
+pub results_on : (m : Bounds) (st : State) (prefix rest : List Lexeme) (mid : State) → run m st prefix ≡ Ok mid
+    → results m st (prefix ++ rest) ≡ results m st prefix ++ results m mid rest
 results_on m st [] rest mid e = ap (λ z. results m z rest) (ok_one st mid e)
 results_on m st (t ∷ ts) rest mid e =
     ap (named_in st t) (go (step m st t) e (λ next. results_on m next ts rest mid))

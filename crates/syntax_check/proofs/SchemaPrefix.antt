@@ -11,78 +11,79 @@ use Rattle.syntax_check.specs.declared.machine.Cause.TheVariants.{Syntax}
 use Rattle.syntax_check.specs.Machine.{State, Outcome, step, run, schema_start, is_schema_end}
 use Rattle.syntax_check.specs.Judge.{awaits_name, is_result, heads, count_of}
 use Rattle.syntax_check.proofs.WithoutCounts.{every, without}
-use Rattle.syntax_check.proofs.Phase.{Phase, between, marked, before, behind, unnamed, phase_of, is_start, is_marked, Turn}
+use Rattle.syntax_check.proofs.Phase.{Phase, between, marked, before, after_result, unnamed, phase_of, is_start, is_marked, Turn}
 use Rattle.syntax_check.proofs.Steps.{IsOk}
 use Rattle.syntax_check.proofs.RunResults.{results}
 use Rattle.syntax_check.proofs.Completeness.{schema_runs}
-use Rattle.syntax_check.proofs.Soundness.{schema_said}
-use Rattle.syntax_check.proofs.Stepwise.{ok_one, clash, shorter, same_split, run_front, run_more, last_step, step_ok}
-use Rattle.syntax_check.proofs.NameCounts.{count_append, count_itself, FewNames}
-use Rattle.syntax_check.proofs.ResultNames.{spelled, named, results_more, start_is_end, named_form, in_schema, schema_turn, opening_turn, marking_turn, behind_turn, between_start, start_between, marked_between, not_at_result, begins, begins_with, heads_name, start_goes, start_stops, marked_stops, mark_leads, name_leads, result_goes}
+use Rattle.syntax_check.proofs.Soundness.{schema_soundness}
+use Rattle.syntax_check.proofs.Stepwise.{ok_one, clash, shorter, same_split, run_prefix, run_more, last_step, step_ok}
+use Rattle.syntax_check.proofs.NameCounts.{count_append, count_itself, NamesWithinCounts}
+use Rattle.syntax_check.proofs.ResultNames.{spelled, named, results_more, start_is_end, named_form, in_schema, schema_turn, opening_turn, marking_turn, after_result_turn, between_start, start_between, marked_between, not_at_result, begins, begins_with, heads_name, start_goes, start_stops, marked_stops, mark_leads, name_leads, result_goes}
 use Rattle.syntax_check.proofs.JudgePositions.{awaits_not, awaits_start, awaits_marked}
 use Rattle.syntax_check.proofs.Prefixes.{runs_without, goes_on, came, no_way}
 use Rattle.syntax_check.proofs.FirstRefusal.{below_or, below_or_same}
-use Rattle.syntax_check.proofs.ConstructorCounts.{schemas, Few, Room, few_turn, few_goes, few_of}
+use Rattle.syntax_check.proofs.ConstructorCounts.{schemas, CountsSoFar, Room, counts_turn, counts_goes, counts_of}
 
 -- a place in a declaration: where that begins, and where its name stands, once that is there
-pub record Inside (ls front : List Lexeme) (place begun : ℕ) (is_mark : Bool) : Type 0 where
+pub record Inside (ls prefix : List Lexeme) (place begun : ℕ) (is_mark : Bool) : Type 0 where
   pub start : ℕ
   pub before : start < place
   pub earlier : SchemaView
   pub whole : Declarations unbounded (take start ls) earlier
   pub last : (later : ℕ) (s : SchemaView) → start < later → later ≤ place → Declarations unbounded (take later ls) s → ⊥
-  pub mark : is_mark ≡ true → (place ≡ start + 1) × ((others : List Lexeme) × (front ≡ others ++ sign Bang ∷ []))
+  pub mark : is_mark ≡ true → (place ≡ start + 1) × ((others : List Lexeme) × (prefix ≡ others ++ sign Bang ∷ []))
   pub name : is_mark ≡ false → (begun < place) × ((offset : ℕ) × NameOffset (drop start ls) offset
       × (begun ≡ start + offset))
 
 -- the machine without bounds stands after the prefix
-pub record Going (ls front rest : List Lexeme) (st : State) (place begun : ℕ) (names : List (List ℕ)) : Type 0 where
-  pub whole : ls ≡ front ++ rest
-  pub size : length front ≡ place
-  pub taken : run unbounded (schema_start unbounded) front ≡ Ok st
+pub record PrefixFacts (ls prefix rest : List Lexeme) (st : State) (place begun : ℕ)
+    (names : List (List ℕ)) : Type 0 where
+  pub whole : ls ≡ prefix ++ rest
+  pub size : length prefix ≡ place
+  pub taken : run unbounded (schema_start unbounded) prefix ≡ Ok st
   pub phase : in_schema (phase_of st) ≡ true
-  pub all_names : names ≡ results unbounded (schema_start unbounded) front
-  pub few : Few (phase_of st) names
-  pub inside : is_start st ≡ false → Inside ls front place begun (is_marked st)
+  pub all_names : names ≡ results unbounded (schema_start unbounded) prefix
+  pub counts : CountsSoFar (phase_of st) names
+  pub inside : is_start st ≡ false → Inside ls prefix place begun (is_marked st)
   pub none_yet : (later : ℕ) → later < place → Exceeds Declarations unbounded WithinCounts ls later → ⊥
 
-pub take_front : (ls front rest : List Lexeme) (place : ℕ) → ls ≡ front ++ rest → length front ≡ place
-    → take place ls ≡ front
-take_front ls front rest place whole size = ap (λ n. take n ls) (sym size) ∙ ap (take (length front)) whole
-    ∙ take-append_seam front rest
+pub take_prefix : (ls prefix rest : List Lexeme) (place : ℕ) → ls ≡ prefix ++ rest → length prefix ≡ place
+    → take place ls ≡ prefix
+take_prefix ls prefix rest place whole size = ap (λ n. take n ls) (sym size) ∙ ap (take (length prefix)) whole
+    ∙ take-append_seam prefix rest
 
-pub drop_front : (ls front rest : List Lexeme) (place : ℕ) → ls ≡ front ++ rest → length front ≡ place
+pub drop_prefix : (ls prefix rest : List Lexeme) (place : ℕ) → ls ≡ prefix ++ rest → length prefix ≡ place
     → drop place ls ≡ rest
-drop_front ls front rest place whole size = ap (λ n. drop n ls) (sym size) ∙ ap (drop (length front)) whole
-    ∙ drop-append_seam front rest
+drop_prefix ls prefix rest place whole size = ap (λ n. drop n ls) (sym size) ∙ ap (drop (length prefix)) whole
+    ∙ drop-append_seam prefix rest
 
-pub one_longer : (front : List Lexeme) (t : Lexeme) (place : ℕ) → length front ≡ place
-    → length (front ++ t ∷ []) ≡ place + 1
-one_longer front t place size = omega (arith, size, length-append front (t ∷ []))
+pub one_longer : (prefix : List Lexeme) (t : Lexeme) (place : ℕ) → length prefix ≡ place
+    → length (prefix ++ t ∷ []) ≡ place + 1
+one_longer prefix t place size = omega (arith, size, length-append prefix (t ∷ []))
 
-pub one_further : (ls front ts : List Lexeme) (t : Lexeme) → ls ≡ front ++ t ∷ ts → ls ≡ (front ++ t ∷ []) ++ ts
-one_further ls front ts t whole = whole ∙ sym (append_assoc front (t ∷ []) ts)
+pub one_further : (ls prefix ts : List Lexeme) (t : Lexeme) → ls ≡ prefix ++ t ∷ ts → ls ≡ (prefix ++ t ∷ []) ++ ts
+one_further ls prefix ts t whole = whole ∙ sym (append_assoc prefix (t ∷ []) ts)
 
 -- without bounds no state holds a count
-pub countless : (front : List Lexeme) (st : State) → run unbounded (schema_start unbounded) front ≡ Ok st
+pub countless : (prefix : List Lexeme) (st : State) → run unbounded (schema_start unbounded) prefix ≡ Ok st
     → without every st ≡ st
-countless front st e = ok_one (without every st) st (sym (runs_without schemas every unbounded front st e) ∙ e)
+countless prefix st e = ok_one (without every st) st (sym (runs_without schemas every unbounded prefix st e) ∙ e)
 
 -- a step on a lexeme of the same form
-pub form_step : (front : List Lexeme) (st next : State) (t : Lexeme) → run unbounded (schema_start unbounded)
-    front ≡ Ok st → step unbounded st t ≡ Ok next → step unbounded st (form_of t) ≡ Ok next
-form_step front st next t e h =
-    ap (λ z. step unbounded z (form_of t)) (sym (countless front st e)) ∙ (step_ok unbounded st next t h).1 every
-    ∙ ap (λ z. Ok z) (countless (front ++ t ∷ []) next (run_more unbounded (schema_start unbounded) st next front t
+pub form_step : (prefix : List Lexeme) (st next : State) (t : Lexeme) → run unbounded (schema_start unbounded)
+    prefix ≡ Ok st → step unbounded st t ≡ Ok next → step unbounded st (form_of t) ≡ Ok next
+form_step prefix st next t e h =
+    ap (λ z. step unbounded z (form_of t)) (sym (countless prefix st e)) ∙ (step_ok unbounded st next t h).1 every
+    ∙ ap (λ z. Ok z) (countless (prefix ++ t ∷ []) next (run_more unbounded (schema_start unbounded) st next prefix t
     e h))
 
 -- ---- one lexeme more
 
-module _ {ls front rest : List Lexeme} {st : State} {place begun : ℕ} {names : List (List ℕ)} (t : Lexeme)
-    (g : Going ls front rest st place begun names) where
+module _ {ls prefix rest : List Lexeme} {st : State} {place begun : ℕ} {names : List (List ℕ)} (t : Lexeme)
+    (g : PrefixFacts ls prefix rest st place begun names) where
   pub next_taken : (next : State) → step unbounded st t ≡ Ok next → run unbounded (schema_start unbounded)
-      (front ++ t ∷ []) ≡ Ok next
-  next_taken next h = run_more unbounded (schema_start unbounded) st next front t g.taken h
+      (prefix ++ t ∷ []) ≡ Ok next
+  next_taken next h = run_more unbounded (schema_start unbounded) st next prefix t g.taken h
 
   pub next_turn : (next : State) → step unbounded st t ≡ Ok next → Turn (phase_of st) (is_result st) (phase_of next)
   next_turn next h = (step_ok unbounded st next t h).2.turn
@@ -90,20 +91,20 @@ module _ {ls front rest : List Lexeme} {st : State} {place begun : ℕ} {names :
   pub next_phase : (next : State) → step unbounded st t ≡ Ok next → in_schema (phase_of next) ≡ true
   next_phase next h = schema_turn (phase_of st) (phase_of next) (is_result st) (next_turn next h) g.phase
 
-  pub next_few : (next : State) → step unbounded st t ≡ Ok next → Room (phase_of st) (is_result st) t names
-      → Few (phase_of next) (names ++ named st t)
-  next_few next h room = few_turn (phase_of st) (phase_of next) (is_result st) t names (next_turn next h) g.phase g.few
+  pub next_counts : (next : State) → step unbounded st t ≡ Ok next → Room (phase_of st) (is_result st) t names
+      → CountsSoFar (phase_of next) (names ++ named st t)
+  next_counts next h room = counts_turn (phase_of st) (phase_of next) (is_result st) t names (next_turn next h) g.phase g.counts
       room
 
   pub next_names : (next : State) → step unbounded st t ≡ Ok next → names ++ named st t ≡ results unbounded
-      (schema_start unbounded) (front ++ t ∷ [])
+      (schema_start unbounded) (prefix ++ t ∷ [])
   next_names next h = ap (λ z. z ++ named st t) g.all_names
-      ∙ sym (results_more unbounded front t (schema_start unbounded) st next g.taken h)
+      ∙ sym (results_more unbounded prefix t (schema_start unbounded) st next g.taken h)
 
   pub next_goes : (next : State) → step unbounded st t ≡ Ok next → Room (phase_of st) (is_result st) t names
-      → CanGoOn Declarations unbounded WithinCounts (front ++ t ∷ [])
-  next_goes next h room = few_goes (front ++ t ∷ []) next (names ++ named st t) (next_taken next h) (next_phase next h)
-      (next_names next h) (next_few next h room)
+      → CanGoOn Declarations unbounded WithinCounts (prefix ++ t ∷ [])
+  next_goes next h room = counts_goes (prefix ++ t ∷ []) next (names ++ named st t) (next_taken next h) (next_phase next h)
+      (next_names next h) (next_counts next h room)
 
 -- a number begins no declaration, and is no result
 differ_words : (n : Option ℕ) (x : List ℕ) → number n ≡ word x → ⊥
@@ -126,33 +127,33 @@ same_form (tag b) = inl refl
 same_form (sign s) = inl refl
 same_form other = inl refl
 
-module _ {ls front ts : List Lexeme} {st : State} {place begun : ℕ} {names : List (List ℕ)} (t : Lexeme)
-    (g : Going ls front (t ∷ ts) st place begun names) where
-  pub begins_here : is_start st ≡ true → Begins ls place place
-  begins_here e =
-      let w = schema_said unbounded front st g.taken (sym (start_is_end st) ∙ e) in
+module _ {ls prefix ts : List Lexeme} {st : State} {place begun : ℕ} {names : List (List ℕ)} (t : Lexeme)
+    (g : PrefixFacts ls prefix (t ∷ ts) st place begun names) where
+  pub begins_at_place : is_start st ≡ true → Begins ls place place
+  begins_at_place e =
+      let w = schema_soundness unbounded prefix st g.taken (sym (start_is_end st) ∙ e) in
       let P : List Lexeme → Type 0 = λ z. Declarations unbounded z w.0 in
       record {
         before = omega arith;
         earlier = w.0;
-        whole = subst P (sym (take_front ls front (t ∷ ts) place g.whole g.size)) w.1;
+        whole = subst P (sym (take_prefix ls prefix (t ∷ ts) place g.whole g.size)) w.1;
         last = λ later s a b d. absurd
             (omega arith);
       }
 
   -- a name stands at the prefix's end
-  pub name_here : heads t ≡ true → NameOffset (drop place ls) 0
-  name_here h =
+  pub name_at_place : heads t ≡ true → NameOffset (drop place ls) 0
+  name_at_place h =
       let P : List Lexeme → Type 0 = λ z. NameOffset z 0 in
-      subst P (sym (drop_front ls front (t ∷ ts) place g.whole g.size)) (at_once (heads_name t h).1)
+      subst P (sym (drop_prefix ls prefix (t ∷ ts) place g.whole g.size)) (at_once (heads_name t h).1)
 
   -- the declaration that the lexeme belongs to, by its name
-  pub declares_here : is_start st ≡ true → heads t ≡ true → Declares ls place place
-  declares_here e h = record {
+  pub declares_at_place : is_start st ≡ true → heads t ≡ true → Declares ls place place
+  declares_at_place e h = record {
     start = place;
-    begins = begins_here e;
+    begins = begins_at_place e;
     offset = 0;
-    name = name_here h;
+    name = name_at_place h;
     is_place = omega arith;
   }
 
@@ -171,8 +172,8 @@ module _ {ls front ts : List Lexeme} {st : State} {place begun : ℕ} {names : L
   not_both : (c : Bool) → c ≡ true → c ≡ false → ⊥
   not_both c x y = cc
 
-  begun_here : awaits_name st ≡ true → (if awaits_name st then place else begun) ≡ place
-  begun_here e = ap (λ b. if b then place else begun) e
+  begun_at_place : awaits_name st ≡ true → (if awaits_name st then place else begun) ≡ place
+  begun_at_place e = ap (λ b. if b then place else begun) e
 
   begun_before : awaits_name st ≡ false → (if awaits_name st then place else begun) ≡ begun
   begun_before e = ap (λ b. if b then place else begun) e
@@ -183,9 +184,9 @@ module _ {ls front ts : List Lexeme} {st : State} {place begun : ℕ} {names : L
   not_ended next h ahead later s same w =
       let P : ℕ → Type 0 = λ n. Declarations unbounded (take n ls) s in
       let Q : List Lexeme → Type 0 = λ z. Declarations unbounded z s in
-      let k = schema_runs unbounded (front ++ t ∷ []) s
-      (subst Q (take_front ls (front ++ t ∷ []) ts (place + 1) (one_further ls front ts t g.whole)
-      (one_longer front t place g.size)) (subst P same w)) in
+      let k = schema_runs unbounded (prefix ++ t ∷ []) s
+      (subst Q (take_prefix ls (prefix ++ t ∷ []) ts (place + 1) (one_further ls prefix ts t g.whole)
+      (one_longer prefix t place g.size)) (subst P same w)) in
       not_both (is_start next) (start_is_end next ∙ ap is_schema_end
       (ok_one next k.0 (sym (next_taken t g next h) ∙ k.1)) ∙ k.2) ahead
 
@@ -201,19 +202,19 @@ module _ {ls front ts : List Lexeme} {st : State} {place begun : ℕ} {names : L
 
   -- a declaration begins with a `!` or with its name
   first_inside : (next : State) → step unbounded st t ≡ Ok next → is_start next ≡ false → is_start st ≡ true
-      → Inside ls (front ++ t ∷ []) (place + 1) (if awaits_name st then place else begun) (is_marked next)
+      → Inside ls (prefix ++ t ∷ []) (place + 1) (if awaits_name st then place else begun) (is_marked next)
   first_inside next h ahead e = record {
     start = place;
     before = omega arith;
     earlier = b.earlier;
     whole = b.whole;
     last = still_last next h ahead place b.last;
-    mark = λ m. (refl, (front, ap (λ z. front ++ z ∷ []) (is_bang m opened)));
-    name = λ m. let k = begun_here (awaits_start st e) in (omega (arith, k), (0, name_here (is_name m opened), omega (arith, k)));
+    mark = λ m. (refl, (prefix, ap (λ z. prefix ++ z ∷ []) (is_bang m opened)));
+    name = λ m. let k = begun_at_place (awaits_start st e) in (omega (arith, k), (0, name_at_place (is_name m opened), omega (arith, k)));
   }
     where
       b : Begins ls place place
-      b = begins_here e
+      b = begins_at_place e
 
       begins_is : (c : Bool) → begins t ≡ c → c ≡ true
       begins_is true f = refl
@@ -231,7 +232,7 @@ module _ {ls front ts : List Lexeme} {st : State} {place begun : ℕ} {names : L
       is_name m (inr x) = x
 
   further_inside : (next : State) → step unbounded st t ≡ Ok next → is_start next ≡ false → is_start st ≡ false
-      → Inside ls (front ++ t ∷ []) (place + 1) (if awaits_name st then place else begun) (is_marked next)
+      → Inside ls (prefix ++ t ∷ []) (place + 1) (if awaits_name st then place else begun) (is_marked next)
   further_inside next h ahead e = record {
     start = i.start;
     before = omega (arith, i.before);
@@ -243,7 +244,7 @@ module _ {ls front ts : List Lexeme} {st : State} {place begun : ℕ} {names : L
     name = λ m. named_at (is_marked st) refl;
   }
     where
-      i : Inside ls front place begun (is_marked st)
+      i : Inside ls prefix place begun (is_marked st)
       i = g.inside e
 
       head : is_marked st ≡ true → (c : Bool) → heads t ≡ c → c ≡ true
@@ -251,7 +252,7 @@ module _ {ls front ts : List Lexeme} {st : State} {place begun : ℕ} {names : L
       head m false f = absurd (clash (step unbounded st t) next Syntax h (marked_stops unbounded st t m f))
 
       -- after the `!`
-      after_it : (others : List Lexeme) (x : Option (List ℕ)) → Heads t x → front ≡ others ++ sign Bang ∷ []
+      after_it : (others : List Lexeme) (x : Option (List ℕ)) → Heads t x → prefix ≡ others ++ sign Bang ∷ []
           → place ≡ i.start + 1 → NameOffset (drop i.start ls) 1
       after_it others x hd whole is =
           let P : List Lexeme → Type 0 = λ z. NameOffset z 1 in
@@ -265,13 +266,13 @@ module _ {ls front ts : List Lexeme} {st : State} {place begun : ℕ} {names : L
                 ∷ []),
             is,
           ) in
-          subst P (sym (drop_front ls others (sign Bang ∷ t ∷ ts) i.start all size)) (after_mark hd)
+          subst P (sym (drop_prefix ls others (sign Bang ∷ t ∷ ts) i.start all size)) (after_mark hd)
 
       named_at : (m : Bool) → is_marked st ≡ m → ((if awaits_name st then place else begun) < place + 1)
           × ((offset : ℕ) × NameOffset (drop i.start ls) offset
           × ((if awaits_name st then place else begun) ≡ i.start + offset))
       named_at true m =
-          let k = begun_here (awaits_marked st m) in
+          let k = begun_at_place (awaits_marked st m) in
           let b = i.mark m in
           let n = heads_name t (head m (heads t) refl) in
           (omega (arith, k), (1, after_it b.1.0 n.0 n.1 b.1.1 b.0, omega (arith, k, b.0)))
@@ -281,15 +282,15 @@ module _ {ls front ts : List Lexeme} {st : State} {place begun : ℕ} {names : L
           (omega (arith, k, n.0), (n.1.0, n.1.1, k ∙ n.1.2))
 
   next_inside : (next : State) → step unbounded st t ≡ Ok next → is_start next ≡ false → (b : Bool) → is_start st ≡ b
-      → Inside ls (front ++ t ∷ []) (place + 1) (if awaits_name st then place else begun) (is_marked next)
+      → Inside ls (prefix ++ t ∷ []) (place + 1) (if awaits_name st then place else begun) (is_marked next)
   next_inside next h ahead true e = first_inside next h ahead e
   next_inside next h ahead false e = further_inside next h ahead e
 
   -- what exceeds at this lexeme
-  pub here_exceeds : Exceeds Declarations unbounded WithinCounts ls place → CanGoOn Declarations unbounded IsAny
-      (ended front (form_of t)) × (CanGoOn Declarations unbounded WithinCounts (ended front (form_of t)) → ⊥)
-  here_exceeds s =
-      let k = same_split front s.split.prefix ts s.split.later t s.split.next (sym g.whole ∙ s.split.whole)
+  pub at_place_exceeds : Exceeds Declarations unbounded WithinCounts ls place → CanGoOn Declarations unbounded IsAny
+      (ended prefix (form_of t)) × (CanGoOn Declarations unbounded WithinCounts (ended prefix (form_of t)) → ⊥)
+  at_place_exceeds s =
+      let k = same_split prefix s.split.prefix ts s.split.later t s.split.next (sym g.whole ∙ s.split.whole)
       (g.size ∙ sym s.split.size) in
       let A : List Lexeme → Lexeme → Type 0 = λ a b. CanGoOn Declarations unbounded IsAny (ended a (form_of b))
       × (CanGoOn Declarations unbounded WithinCounts (ended a (form_of b)) → ⊥) in
@@ -297,39 +298,40 @@ module _ {ls front ts : List Lexeme} {st : State} {place begun : ℕ} {names : L
       let C : List Lexeme → Type 0 = λ a. A a t in
       subst C (sym k.0) (subst B (sym k.1) (s.with_it, s.too_much))
 
-  form_few : (next : State) → step unbounded st t ≡ Ok next → Room (phase_of st) (is_result st) t names
-      → CanGoOn Declarations unbounded WithinCounts (ended front (form_of t))
-  form_few next h room =
-      let f = form_step front st next t g.taken h in
-      few_goes (front ++ form_of t ∷ []) next (names ++ named st t) (run_more unbounded (schema_start unbounded) st
-      next front (form_of t) g.taken f) (next_phase t g next h)
-      (ap (λ z. z ++ named st t) g.all_names ∙ ap (λ z. results unbounded (schema_start unbounded) front ++ z)
-      (sym (named_form st t)) ∙ sym (results_more unbounded front (form_of t) (schema_start unbounded) st next
+  form_counts : (next : State) → step unbounded st t ≡ Ok next → Room (phase_of st) (is_result st) t names
+      → CanGoOn Declarations unbounded WithinCounts (ended prefix (form_of t))
+  form_counts next h room =
+      let f = form_step prefix st next t g.taken h in
+      counts_goes (prefix ++ form_of t ∷ []) next (names ++ named st t) (run_more unbounded (schema_start unbounded) st
+      next prefix (form_of t) g.taken f) (next_phase t g next h)
+      (ap (λ z. z ++ named st t) g.all_names ∙ ap (λ z. results unbounded (schema_start unbounded) prefix ++ z)
+      (sym (named_form st t)) ∙ sym (results_more unbounded prefix (form_of t) (schema_start unbounded) st next
       g.taken f))
-      (next_few t g next h room)
+      (next_counts t g next h room)
 
-  pub going_on : (next : State) → step unbounded st t ≡ Ok next → Room (phase_of st) (is_result st) t names
-      → Going ls (front ++ t ∷ []) ts next (place + 1) (if awaits_name st then place else begun) (names ++ named st t)
-  going_on next h room = record {
-    whole = one_further ls front ts t g.whole;
-    size = one_longer front t place g.size;
+  pub facts_further : (next : State) → step unbounded st t ≡ Ok next → Room (phase_of st) (is_result st) t names
+      → PrefixFacts ls (prefix ++ t ∷ []) ts next (place + 1) (if awaits_name st then place else begun)
+      (names ++ named st t)
+  facts_further next h room = record {
+    whole = one_further ls prefix ts t g.whole;
+    size = one_longer prefix t place g.size;
     taken = next_taken t g next h;
     phase = next_phase t g next h;
     all_names = next_names t g next h;
-    few = next_few t g next h room;
+    counts = next_counts t g next h room;
     inside = λ ahead. next_inside next h ahead (is_start st) refl;
     none_yet = λ later x s. none later (below_or later place) x s;
   }
     where
-      here : (later : ℕ) → later ≡ place → Exceeds Declarations unbounded WithinCounts ls later → ⊥
-      here later same s =
+      at_place : (later : ℕ) → later ≡ place → Exceeds Declarations unbounded WithinCounts ls later → ⊥
+      at_place later same s =
           let P : ℕ → Type 0 = Exceeds Declarations unbounded WithinCounts ls in
-          (here_exceeds (subst P same s)).1 (form_few next h room)
+          (at_place_exceeds (subst P same s)).1 (form_counts next h room)
 
       none : (later : ℕ) → (later < place) ⊎ (place ≤ later) → later < place + 1 → Exceeds Declarations unbounded
           WithinCounts ls later → ⊥
       none later (inl near) x s = g.none_yet later near s
-      none later (inr far) x s = here later (omega arith) s
+      none later (inr far) x s = at_place later (omega arith) s
 
   -- ---- a lexeme with which nothing goes on
 
@@ -337,41 +339,43 @@ module _ {ls front ts : List Lexeme} {st : State} {place begun : ℕ} {names : L
   past_stop : (why : Cause) (later : ℕ) → step unbounded st t ≡ Err why → place < later → Exceeds Declarations
       unbounded WithinCounts ls later → ⊥
   past_stop why later h far s =
-      let k = shorter front s.split.prefix ts (s.split.next ∷ s.split.later) t (sym g.whole ∙ s.split.whole)
+      let k = shorter prefix s.split.prefix ts (s.split.next ∷ s.split.later) t (sym g.whole ∙ s.split.whole)
       (omega (arith, g.size, s.split.size)) in
       let w = came schemas unbounded WithinCounts s.split.prefix s.so_far in
       let P : List Lexeme → Type 0 = λ z. run unbounded (schema_start unbounded) z ≡ Ok w.0 in
-      let v = run_front unbounded (schema_start unbounded) (front ++ t ∷ []) k.0 w.0
-      (subst P (k.1 ∙ sym (append_assoc front (t ∷ []) k.0)) w.1) in
-      clash (step unbounded st t) v.0 why (last_step unbounded (schema_start unbounded) st v.0 front t g.taken v.1) h
+      let v = run_prefix unbounded (schema_start unbounded) (prefix ++ t ∷ []) k.0 w.0
+      (subst P (k.1 ∙ sym (append_assoc prefix (t ∷ []) k.0)) w.1) in
+      clash (step unbounded st t) v.0 why (last_step unbounded (schema_start unbounded) st v.0 prefix t g.taken v.1) h
 
-  stop_here : (why : Cause) → step unbounded st t ≡ Err why → Exceeds Declarations unbounded WithinCounts ls place → ⊥
-  stop_here why h s = go (same_form t)
+  stop_at_place : (why : Cause) → step unbounded st t ≡ Err why → Exceeds Declarations unbounded WithinCounts ls place
+      → ⊥
+  stop_at_place why h s = go (same_form t)
     where
-      k : CanGoOn Declarations unbounded IsAny (ended front (form_of t))
-          × (CanGoOn Declarations unbounded WithinCounts (ended front (form_of t)) → ⊥)
-      k = here_exceeds s
+      k : CanGoOn Declarations unbounded IsAny (ended prefix (form_of t))
+          × (CanGoOn Declarations unbounded WithinCounts (ended prefix (form_of t)) → ⊥)
+      k = at_place_exceeds s
 
       go : (form_of t ≡ t) ⊎ ((n : Option ℕ) × (t ≡ number n)) → ⊥
-      go (inl e) = let P : Lexeme → Type 0 = λ z. CanGoOn Declarations unbounded IsAny (ended front z) in
-          no_way schemas unbounded IsAny front st t why g.taken h (subst P e k.0)
+      go (inl e) = let P : Lexeme → Type 0 = λ z. CanGoOn Declarations unbounded IsAny (ended prefix z) in
+          no_way schemas unbounded IsAny prefix st t why g.taken h (subst P e k.0)
       go (inr n) =
-          let w = came schemas unbounded IsAny (ended front (form_of t)) k.0 in
+          let w = came schemas unbounded IsAny (ended prefix (form_of t)) k.0 in
           let form : form_of t ≡ number (Some 0) = ap form_of n.1 in
-          let v = last_step unbounded (schema_start unbounded) st w.0 front (form_of t) g.taken w.1 in
+          let v = last_step unbounded (schema_start unbounded) st w.0 prefix (form_of t) g.taken w.1 in
           let P : Lexeme → Type 0 = λ z. step unbounded st z ≡ Ok w.0 in
-          let Q : Lexeme → Type 0 = λ z. CanGoOn Declarations unbounded WithinCounts (ended front z) in
+          let Q : Lexeme → Type 0 = λ z. CanGoOn Declarations unbounded WithinCounts (ended prefix z) in
           let f = subst P form v in
           k.1 (subst Q (sym form) (next_goes (number (Some 0)) g w.0 f (room_number st w.0 names (Some 0) f)))
 
   -- where nothing goes on, no declaration is one too many
-  pub none_stopped : (why : Cause) (later : ℕ) → step unbounded st t ≡ Err why → Exceeds Declarations unbounded WithinCounts
+  pub none_stopped : (why : Cause) (later : ℕ) → step unbounded st t ≡ Err why
+      → Exceeds Declarations unbounded WithinCounts
       ls later → ⊥
   none_stopped why later h s = go (below_or later place)
     where
       far : (place < later) ⊎ (place ≡ later) → ⊥
       far (inl x) = past_stop why later h x s
-      far (inr x) = let P : ℕ → Type 0 = Exceeds Declarations unbounded WithinCounts ls in stop_here why h (subst P (sym x) s)
+      far (inr x) = let P : ℕ → Type 0 = Exceeds Declarations unbounded WithinCounts ls in stop_at_place why h (subst P (sym x) s)
 
       go : (later < place) ⊎ (place ≤ later) → ⊥
       go (inl x) = g.none_yet later x s
@@ -379,31 +383,34 @@ module _ {ls front ts : List Lexeme} {st : State} {place begun : ℕ} {names : L
 
   -- ---- one constructor too many
 
-  exceeds_here : (next : State) → step unbounded st t ≡ Ok next → form_of t ≡ t
-      → (CanGoOn Declarations unbounded WithinCounts (ended front t) → ⊥) → Exceeds Declarations unbounded WithinCounts ls place
-  exceeds_here next h form never = record {
-    split = record { prefix = front; next = t; later = ts; whole = g.whole; size = g.size };
-    so_far = few_goes front st names g.taken g.phase g.all_names g.few;
-    with_it = let P : Lexeme → Type 0 = λ z. CanGoOn Declarations unbounded IsAny (ended front z) in
-        subst P (sym form) (goes_on schemas unbounded (front ++ t ∷ []) next (next_taken t g next h));
-    too_much = let P : Lexeme → Type 0 = λ z. CanGoOn Declarations unbounded WithinCounts (ended front z) → ⊥ in
+  exceeds_at_place : (next : State) → step unbounded st t ≡ Ok next → form_of t ≡ t
+      → (CanGoOn Declarations unbounded WithinCounts (ended prefix t) → ⊥)
+      → Exceeds Declarations unbounded WithinCounts ls place
+  exceeds_at_place next h form never = record {
+    split = record { prefix = prefix; next = t; later = ts; whole = g.whole; size = g.size };
+    so_far = counts_goes prefix st names g.taken g.phase g.all_names g.counts;
+    with_it = let P : Lexeme → Type 0 = λ z. CanGoOn Declarations unbounded IsAny (ended prefix z) in
+        subst P (sym form) (goes_on schemas unbounded (prefix ++ t ∷ []) next (next_taken t g next h));
+    too_much = let P : Lexeme → Type 0 = λ z. CanGoOn Declarations unbounded WithinCounts (ended prefix z) → ⊥ in
         subst P (sym form) never;
   }
 
-  -- what a text with few constructors says of the names with this lexeme's
-  few_with : (next : State) → step unbounded st t ≡ Ok next → CanGoOn Declarations unbounded WithinCounts (ended front t)
-      → (rest : List (List ℕ)) × FewNames ((names ++ named st t) ++ rest) × (unnamed (phase_of next) ≡ 1 → 1 ≤ length rest)
-  few_with next h c =
-      let k = few_of (front ++ t ∷ []) next (next_taken t g next h) c in
-      let P : List (List ℕ) → Type 0 = λ z. FewNames (z ++ k.0) in
+  -- what a text within the counts says of the names with this lexeme's
+  counts_with : (next : State) → step unbounded st t ≡ Ok next
+      → CanGoOn Declarations unbounded WithinCounts (ended prefix t)
+      → (rest : List (List ℕ)) × NamesWithinCounts ((names ++ named st t) ++ rest)
+      × (unnamed (phase_of next) ≡ 1 → 1 ≤ length rest)
+  counts_with next h c =
+      let k = counts_of (prefix ++ t ∷ []) next (next_taken t g next h) c in
+      let P : List (List ℕ) → Type 0 = λ z. NamesWithinCounts (z ++ k.0) in
       (k.0, subst P (sym (next_names t g next h)) k.1, k.2)
 
   pub too_many_in_all : is_start st ≡ true → begins t ≡ true → form_of t ≡ t → length names ≡ 4096
       → Exceeds Declarations unbounded WithinCounts ls place
   too_many_in_all start head form full =
       let n = start_goes unbounded st t start head in
-      exceeds_here n.0 n.1 form (λ c.
-      let k = few_with n.0 n.1 c in
+      exceeds_at_place n.0 n.1 form (λ c.
+      let k = counts_with n.0 n.1 c in
       let more = k.2 (opened (phase_of n.0) (opening_turn (phase_of st) (phase_of n.0) (is_result st)
       (next_turn t g n.0 n.1) (start_between st g.phase start))) in
       absurd (omega (
@@ -425,8 +432,8 @@ module _ {ls front ts : List Lexeme} {st : State} {place begun : ℕ} {names : L
   too_many_of_one x result is full =
       let P : Lexeme → Type 0 = λ z. IsOk (step unbounded st z) in
       let n = subst P (sym is) (result_goes unbounded st x result) in
-      exceeds_here n.0 n.1 (ap form_of is ∙ sym is) (λ c.
-      let k = few_with n.0 n.1 c in
+      exceeds_at_place n.0 n.1 (ap form_of is ∙ sym is) (λ c.
+      let k = counts_with n.0 n.1 c in
       let one : named st t ≡ x ∷ [] = ap (λ z. if z then spelled t else []) result ∙ ap spelled is in
       let counted : count_of x (named st t) ≡ 1 = ap (λ z. count_of x z) one ∙ count_itself x in
       absurd (omega (
@@ -442,27 +449,28 @@ module _ {ls front ts : List Lexeme} {st : State} {place begun : ℕ} {names : L
 -- ---- after a result
 
 -- a declaration that is one too many begins only later
-pub behind_far : (rest ls front : List Lexeme) (st : State) (place begun : ℕ) (names : List (List ℕ)) (q later : ℕ)
-    → Going ls front rest st place begun names → phase_of st ≡ behind →
+pub after_result_far : (rest ls prefix : List Lexeme) (st : State) (place begun : ℕ) (names : List (List ℕ))
+    (q later : ℕ)
+    → PrefixFacts ls prefix rest st place begun names → phase_of st ≡ after_result →
     Exceeds Declarations unbounded WithinCounts ls later → Declares ls q later → place < q
-behind_far [] ls front st place begun names q later g ph s d =
+after_result_far [] ls prefix st place begun names q later g ph s d =
     absurd (g.none_yet later (omega (
       arith,
       g.size,
       s.split.size,
       ap length g.whole,
-      length-append front [],
+      length-append prefix [],
       ap length s.split.whole,
       length-append s.split.prefix (s.split.next ∷ s.split.later),
     )) s)
-behind_far (t ∷ ts) ls front st place begun names q later g ph s d =
-    go (step unbounded st t) refl (λ next h gn p. behind_far ts ls (front ++ t ∷ []) next (place + 1) _ _ q later gn p
+after_result_far (t ∷ ts) ls prefix st place begun names q later g ph s d =
+    go (step unbounded st t) refl (λ next h gn p. after_result_far ts ls (prefix ++ t ∷ []) next (place + 1) _ _ q later gn p
     s d)
   where
-    differ_1 : (a : Phase) → a ≡ behind → a ≡ between → ⊥
+    differ_1 : (a : Phase) → a ≡ after_result → a ≡ between → ⊥
     differ_1 a e f = cc
 
-    differ_2 : (a : Phase) → a ≡ behind → a ≡ before → ⊥
+    differ_2 : (a : Phase) → a ≡ after_result → a ≡ before → ⊥
     differ_2 a e f = cc
 
     differ_3 : (b : Bool) → b ≡ false → b ≡ true → ⊥
@@ -475,27 +483,28 @@ behind_far (t ∷ ts) ls front st place begun names q later g ph s d =
     )
 
     -- a declaration ends with this lexeme
-    ended_here : (next : State) → step unbounded st t ≡ Ok next → phase_of next ≡ between → place < q
-    ended_here next h p =
-        let w = schema_said unbounded (front ++ t ∷ []) next (next_taken t g next h) (sym (start_is_end next)
+    ended_at_place : (next : State) → step unbounded st t ≡ Ok next → phase_of next ≡ between → place < q
+    ended_at_place next h p =
+        let w = schema_soundness unbounded (prefix ++ t ∷ []) next (next_taken t g next h) (sym (start_is_end next)
         ∙ between_start next p) in
         let P : List Lexeme → Type 0 = λ z. Declarations unbounded z w.0 in
-        let here = subst P (sym (take_front ls (front ++ t ∷ []) ts (place + 1) (one_further ls front ts t g.whole)
-        (one_longer front t place g.size))) w.1 in
-        after here (below_or d.start (place + 1)) (below_or later (place + 1))
+        let at_place = subst P (sym (take_prefix ls (prefix ++ t ∷ []) ts (place + 1) (one_further ls prefix ts t g.whole)
+        (one_longer prefix t place g.size))) w.1 in
+        after at_place (below_or d.start (place + 1)) (below_or later (place + 1))
       where
         after : {s : SchemaView} → Declarations unbounded (take (place + 1) ls) s → (d.start < place + 1)
             ⊎ (place + 1 ≤ d.start) → (later < place + 1) ⊎ (place + 1 ≤ later) → place < q
         after w (inr x) y = omega (arith, d.is_place)
-        after w (inl x) (inl y) = absurd ((going_on t g next h room).none_yet later y s)
+        after w (inl x) (inl y) = absurd ((facts_further t g next h room).none_yet later y s)
         after {s = tree} w (inl x) (inr y) = absurd (d.begins.last (place + 1) tree x y w)
 
     go : (o : Outcome) → step unbounded st t ≡ o → ((next : State) → step unbounded st t ≡ Ok next
-        → Going ls (front ++ t ∷ []) ts next (place + 1) (if awaits_name st then place else begun) (names ++ named st t)
-        → phase_of next ≡ behind → place + 1 < q) → place < q
+        → PrefixFacts ls (prefix ++ t ∷ []) ts next (place + 1) (if awaits_name st then place else begun)
+        (names ++ named st t)
+        → phase_of next ≡ after_result → place + 1 < q) → place < q
     go (Err why) h ih = absurd (none_stopped t g why later h s)
-    go (Ok next) h ih = turns (behind_turn (phase_of st) (phase_of next) (is_result st) (next_turn t g next h) ph)
+    go (Ok next) h ih = turns (after_result_turn (phase_of st) (phase_of next) (is_result st) (next_turn t g next h) ph)
       where
-        turns : (phase_of next ≡ behind) ⊎ (phase_of next ≡ between) → place < q
-        turns (inl p) = let k = ih next h (going_on t g next h room) p in omega arith
-        turns (inr p) = ended_here next h p
+        turns : (phase_of next ≡ after_result) ⊎ (phase_of next ≡ between) → place < q
+        turns (inl p) = let k = ih next h (facts_further t g next h room) p in omega arith
+        turns (inr p) = ended_at_place next h p

@@ -1,6 +1,5 @@
 -- Every list of lexemes is written or refused.
-use Rattle.std.proofs.Common.{◌≡◌, ◌⊎◌, inl, inr, ℕ, List, Some, None, refl}
-use Rattle.tlb_syntax.specs.Lexeme.{Lexeme}
+use Rattle.std.proofs.Common.{◌≡◌, ◌⊎◌, inl, inr, ℕ, Some, None, refl}
 use Rattle.tlb_syntax.specs.Grammar.{Declarations, TypeWord}
 use Rattle.tlb_syntax.specs.Tree.{ExprView, SchemaView}
 use Rattle.tlb_syntax.specs.Written.{standard, WithinCounts, IsFirst, SchemaRefusal, WordRefusal, Cause as Reason}

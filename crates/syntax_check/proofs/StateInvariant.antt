@@ -187,7 +187,8 @@ params_keeps m (Some b) k lv u =
 params_keeps m None k lv (sign Semicolon) = fits_start
 params_keeps m None k lv u = tt
 
-step_keeps : {t : Text} {mode : ParserState} {below : List Frame} (m : Bounds) (lv : Count) (u : Lexeme) → Fits t mode below
+step_keeps : {t : Text} {mode : ParserState} {below : List Frame} (m : Bounds) (lv : Count) (u : Lexeme)
+    → Fits t mode below
     → Keeps t (step_mode m mode lv below u)
 step_keeps m lv (word x) fits_start = fits_headed
 step_keeps m lv blank fits_start = fits_headed
@@ -243,7 +244,8 @@ run_keeps t m (u ∷ us) mode lv below last f e =
     (λ mode lv below g h. run_keeps t m us mode lv below last g h)
   where
     go : (o : Outcome) → and_then o (λ next. run m next us) ≡ Ok last → Keeps t o
-        → ((mode : ParserState) (lv : Count) (below : List Frame) → Fits t mode below → run m (at mode lv below) us ≡ Ok last
+        → ((mode : ParserState) (lv : Count) (below : List Frame) → Fits t mode below
+        → run m (at mode lv below) us ≡ Ok last
         → FitsState t last) → FitsState t last
     go (Ok (at mode lv below)) h g further = further mode lv below g h
     go (Err why) h g further = absurd (no_run why h)

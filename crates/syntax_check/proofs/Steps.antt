@@ -18,7 +18,7 @@ use Rattle.syntax_check.specs.declared.machine.Cause.TheVariants.{Syntax, DeepTy
 use Rattle.syntax_check.specs.Machine.{State, at, Outcome, and_then, spend, Begin, leaf, no_leaf, prefix, paren, record_, begin_sign, begin_number, begin_of, is_width, compares, begins, term, ends_sum, operated, applied, apply, bare_item, ends_items, bare_or_end, items, typed, params, step}
 use Rattle.syntax_check.specs.Judge.{is_result}
 use Rattle.syntax_check.proofs.WithoutCounts.{Switches, lost, side_without, spot_without, frame_without, without, bounds_without, given_without, IsOpen, open_without, Spending, may, may_not, spending, spend_lost}
-use Rattle.syntax_check.proofs.Phase.{Phase, between, marked, before, behind, broken, is_nil, only, side_phase, spot_phase, frames_phase, phase_of, base, base_of, Turn, opening, marking, heading, within, naming, closing, nowhere, Turned, Stays, stays_behind, stays_turn, only_stays, side_stays, spot_stays, frames_stay, given_phase}
+use Rattle.syntax_check.proofs.Phase.{Phase, between, marked, before, after_result, broken, is_nil, only, side_phase, spot_phase, frames_phase, phase_of, base, base_of, Turn, opening, marking, heading, within, naming, closing, nowhere, Turned, Stays, stays_after_result, stays_turn, only_stays, side_stays, spot_stays, frames_stay, given_phase}
 
 abbrev pub IsOk : Outcome → Type 0
 IsOk o = (next : State) × (o ≡ Ok next)
@@ -425,7 +425,7 @@ params_by m k lv below f b t = params (bounds_without f m) b (lost f.params k) (
 
 -- a parameter too many: the levels are not exceeded there
 abbrev Many : Bounds → Option Begin → Count → Count → List Frame → Lexeme → Type 0
-Many m b k lv below t = (only (is_nil below) behind ≡ broken) ⊎ ((only (is_nil below) behind ≡ behind)
+Many m b k lv below t = (only (is_nil below) after_result ≡ broken) ⊎ ((only (is_nil below) after_result ≡ after_result)
     × (IsOpen (base lv below) → (f : Switches) → f.params ≡ true → IsOk (params_by m k lv below f (plain_of b) t)))
 
 params_lifted : (m : Bounds) (b : Begin) (k lv : Count) (below : List Frame) (t : Lexeme) (f : Switches)
@@ -440,7 +440,7 @@ many : (m : Bounds) (b : Begin) (k lv : Count) (below : List Frame) (t : Lexeme)
 many m b k lv [] t = inr (refl, λ room f h. params_lifted m b k lv [] t f h (open_without f.levels lv room))
 many m b k lv (x ∷ below) t = inl refl
 
-closing_turn : (below : List Frame) → Turn (only (is_nil below) behind) false (only (is_nil below) between)
+closing_turn : (below : List Frame) → Turn (only (is_nil below) after_result) false (only (is_nil below) between)
 closing_turn [] = closing
 closing_turn (x ∷ below) = nowhere
 
@@ -470,7 +470,7 @@ params_facts m (Some b) k lv below t =
     ))
     (λ e. many m b k lv below t)
     (λ left room. facts_along (λ f. refl) (λ f. refl) (λ next q. keeps_phase (at (Params k) lv below) next
-    (only_stays (is_nil below) behind stays_behind) refl q) (λ z. z)
+    (only_stays (is_nil below) after_result stays_after_result) refl q) (λ z. z)
     (begins_facts m b (Param left) lv lv below (Many m (Some b) k lv below t)))
 params_facts m None k lv below (sign Semicolon) = both (λ f. refl)
     (record { turn = closing_turn below; same_base = refl })
@@ -482,7 +482,7 @@ abbrev pub step_by : Bounds → State → Lexeme → Switches → Outcome
 step_by m st t f = step (bounds_without f m) (without f st) t
 
 abbrev pub ManyAt : Bounds → State → Lexeme → Type 0
-ManyAt m st t = (phase_of st ≡ broken) ⊎ ((phase_of st ≡ behind) × (IsOpen (base_of st) → (f : Switches)
+ManyAt m st t = (phase_of st ≡ broken) ⊎ ((phase_of st ≡ after_result) × (IsOpen (base_of st) → (f : Switches)
     → f.params ≡ true → IsOk (step_by m st (form_of t) f)))
 
 abbrev pub StepFacts : Bounds → State → Lexeme → Type 0
@@ -504,7 +504,7 @@ headed_turn : (below : List Frame) → Turn (only (is_nil below) before) false (
 headed_turn [] = within
 headed_turn (x ∷ below) = nowhere
 
-result_turn : (below : List Frame) → Turn (only (is_nil below) before) true (only (is_nil below) behind)
+result_turn : (below : List Frame) → Turn (only (is_nil below) before) true (only (is_nil below) after_result)
 result_turn [] = naming
 result_turn (x ∷ below) = nowhere
 
@@ -539,7 +539,8 @@ bit_facts : (c : Bool) (k lv : Count) (below : List Frame) (P : Type 0) →
 bit_facts true k lv below P = both (λ f. refl) (refl, refl)
 bit_facts false k lv below P = stops (λ f. refl) (inr (λ f. (_, refl)))
 
-mode_facts : (m : Bounds) (mode : ParserState) (lv : Count) (below : List Frame) (t : Lexeme) → StepFacts m (at mode lv below)
+mode_facts : (m : Bounds) (mode : ParserState) (lv : Count) (below : List Frame) (t : Lexeme)
+    → StepFacts m (at mode lv below)
     t
 mode_facts m Start lv below (word x) = both (λ f. refl) (record { turn = start_turn below; same_base = refl })
 mode_facts m Start lv below blank = both (λ f. refl) (record { turn = start_turn below; same_base = refl })

@@ -50,9 +50,9 @@ same_split (y ∷ a) (x ∷ b) c d t u e h =
 
 -- ---- runs
 
-pub run_front : (m : Bounds) (st : State) (a b : List Lexeme) (last : State) → run m st (a ++ b) ≡ Ok last
+pub run_prefix : (m : Bounds) (st : State) (a b : List Lexeme) (last : State) → run m st (a ++ b) ≡ Ok last
     → (mid : State) × (run m st a ≡ Ok mid) × (run m mid b ≡ Ok last)
-run_front m st a b last e = go (run m st a) refl
+run_prefix m st a b last e = go (run m st a) refl
   where
     go : (o : Outcome) → run m st a ≡ o → (mid : State) × (run m st a ≡ Ok mid) × (run m mid b ≡ Ok last)
     go (Ok mid) h = (mid, h, sym (ap (λ z. and_then z (λ x. run m x b)) h) ∙ sym (runs_on m st a b) ∙ e)
@@ -73,15 +73,15 @@ one_run m st next t e = go (step m st t) refl
     go (Ok mid) h = h ∙ sym (ap (λ z. and_then z (λ x. run m x [])) h) ∙ e
     go (Err why) h = absurd (clash (run m st (t ∷ [])) next why e (ap (λ z. and_then z (λ x. run m x [])) h))
 
-pub run_more : (m : Bounds) (st mid next : State) (front : List Lexeme) (t : Lexeme) → run m st front ≡ Ok mid
-    → step m mid t ≡ Ok next → run m st (front ++ t ∷ []) ≡ Ok next
-run_more m st mid next front t e h = run_join m st mid next front (t ∷ []) e (run_one m mid next t h)
+pub run_more : (m : Bounds) (st mid next : State) (prefix : List Lexeme) (t : Lexeme) → run m st prefix ≡ Ok mid
+    → step m mid t ≡ Ok next → run m st (prefix ++ t ∷ []) ≡ Ok next
+run_more m st mid next prefix t e h = run_join m st mid next prefix (t ∷ []) e (run_one m mid next t h)
 
 -- the last step of a run
-pub last_step : (m : Bounds) (st mid next : State) (front : List Lexeme) (t : Lexeme) → run m st front ≡ Ok mid
-    → run m st (front ++ t ∷ []) ≡ Ok next → step m mid t ≡ Ok next
-last_step m st mid next front t e h =
-    let k = run_front m st front (t ∷ []) next h in
+pub last_step : (m : Bounds) (st mid next : State) (prefix : List Lexeme) (t : Lexeme) → run m st prefix ≡ Ok mid
+    → run m st (prefix ++ t ∷ []) ≡ Ok next → step m mid t ≡ Ok next
+last_step m st mid next prefix t e h =
+    let k = run_prefix m st prefix (t ∷ []) next h in
     let P : State → Type 0 = λ z. run m z (t ∷ []) ≡ Ok next in
     one_run m mid next t (subst P (ok_one k.0 mid (sym k.1 ∙ e)) k.2)
 
@@ -143,7 +143,7 @@ pub run_without : (f : Switches) (m : Bounds) (ls : List Lexeme) (st last : Stat
     → run (bounds_without f m) (without f st) ls ≡ Ok (without f last)
 run_without f m [] st last e = ap (λ z. Ok (without f z)) (ok_one st last e)
 run_without f m (t ∷ ts) st last e =
-    let k = run_front m st (t ∷ []) ts last e in
+    let k = run_prefix m st (t ∷ []) ts last e in
     let s = step_ok m st k.0 t (one_run m st k.0 t k.1) in
     run_join (bounds_without f m) (without f st) (without f k.0) (without f last) (t ∷ []) ts
     (run_one (bounds_without f m) (without f st) (without f k.0) t (s.0 f)) (run_without f m ts k.0 last k.2)
@@ -193,13 +193,13 @@ sound_step m st next t e h =
 pub sound_run : (m : Bounds) (ls : List Lexeme) (st last : State) → run m st ls ≡ Ok last → Sound m st → Sound m last
 sound_run m [] st last e h = subst (Sound m) (ok_one st last e) h
 sound_run m (t ∷ ts) st last e h =
-    let k = run_front m st (t ∷ []) ts last e in
+    let k = run_prefix m st (t ∷ []) ts last e in
     sound_run m ts k.0 last k.2 (sound_step m st k.0 t (one_run m st k.0 t k.1) h)
 
 pub word_run : (m : Bounds) (ls : List Lexeme) (st last : State) → run m st ls ≡ Ok last → phase_of st ≡ in_word
     → phase_of last ≡ in_word
 word_run m [] st last e h = ap phase_of (sym (ok_one st last e)) ∙ h
 word_run m (t ∷ ts) st last e h =
-    let k = run_front m st (t ∷ []) ts last e in
+    let k = run_prefix m st (t ∷ []) ts last e in
     let s = step_ok m st k.0 t (one_run m st k.0 t k.1) in
     word_run m ts k.0 last k.2 (word_turn (phase_of st) (phase_of k.0) (is_result st) s.2.turn h)

@@ -24,7 +24,7 @@ use Rattle.syntax_check.specs.declared.machine.Frame.TheVariants as frames
 use Rattle.syntax_check.specs.declared.machine.Cause.{Cause}
 use Rattle.syntax_check.specs.declared.machine.Cause.TheVariants.{Syntax, DeepType, TooManyFields, TooManyParams}
 
--- the mode, the levels that may be opened here, and the open brackets, the innermost first
+-- the mode, the levels that may be opened, and the open brackets, the innermost first
 pub data State : Type 0 where
   at : ParserState → Count → List Frame → State
 
@@ -236,12 +236,12 @@ schema_start m = at Start m.levels []
 abbrev pub word_start : Bounds → State
 word_start m = at (Apply Word false) m.levels []
 
--- a schema may end here
+-- a schema may end in the state
 abbrev pub is_schema_end : State → Bool
 is_schema_end (at Start lv below) = true
 is_schema_end _ = false
 
--- a type word may end here
+-- a type word may end in the state
 abbrev pub is_word_end : State → Bool
 is_word_end (at (Applied Word s) lv below) = true
 is_word_end (at (Operated Word s) lv below) = true

@@ -20,25 +20,27 @@ cause_of TooManyParams = too_many_params
 -- ---- schemas
 
 abbrev pub SchemaWritten : Type 0
-SchemaWritten = (ls : List Lexeme) → schema_verdict ls ≡ None → (s : SchemaView) × Declarations standard ls s × WithinCounts s
+SchemaWritten = (ls : List Lexeme) → schema_verdict ls ≡ None
+    → (s : SchemaView) × Declarations standard ls s × WithinCounts s
 
 abbrev pub SchemaIsRefused : Type 0
 SchemaIsRefused = (ls : List Lexeme) (c : Cause) (place : ℕ) → schema_verdict ls ≡ Some (c, place)
     → IsFirst (SchemaRefusal ls) (cause_of c) place
 
 abbrev pub SchemaTaken : Type 0
-SchemaTaken = (ls : List Lexeme) (s : SchemaView) → Declarations standard ls s → WithinCounts s → schema_verdict ls ≡ None
+SchemaTaken = (ls : List Lexeme) (s : SchemaView) → Declarations standard ls s → WithinCounts s
+    → schema_verdict ls ≡ None
 
 -- no list of lexemes writes a schema within the limits and is refused, first or later
 abbrev pub SchemaOneAnswer : Type 0
-SchemaOneAnswer = (ls : List Lexeme) (s : SchemaView) (c : Reason) (place : ℕ) → Declarations standard ls s → WithinCounts s
-    → SchemaRefusal ls c place → ⊥
+SchemaOneAnswer = (ls : List Lexeme) (s : SchemaView) (c : Reason) (place : ℕ) → Declarations standard ls s
+    → WithinCounts s → SchemaRefusal ls c place → ⊥
 
 -- every list of lexemes writes a schema within the limits, or has a first refusal
 abbrev pub SchemaSomeAnswer : Type 0
 SchemaSomeAnswer = (ls : List Lexeme)
     → ((s : SchemaView) × Declarations standard ls s × WithinCounts s)
-        ⊎ ((c : Reason) × (place : ℕ) × IsFirst (SchemaRefusal ls) c place)
+    ⊎ ((c : Reason) × (place : ℕ) × IsFirst (SchemaRefusal ls) c place)
 
 -- ---- type words
 

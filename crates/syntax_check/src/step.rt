@@ -48,7 +48,7 @@ pub struct Move {
 pub struct Machine {
     pub limits: Limits,
     pub mode: ParserState,
-    /// The levels that may be opened here.
+    /// The levels that may still be opened.
     pub levels: Option<u32>,
     /// The open brackets, the innermost last.
     pub open: Vec<Frame>,
@@ -118,7 +118,9 @@ fn given_to(spot: Spot) -> ParserState
     ensures { result ≡ spec.given_to spot }
 {
     match spot {
-        Spot::Operand(side, starred) | Spot::Width(side, starred) => ParserState::Operated(side, starred),
+        Spot::Operand(side, starred) | Spot::Width(side, starred) => ParserState::Operated(
+            side, starred,
+        ),
         Spot::Argument(side, starred) => ParserState::Applied(side, starred),
         Spot::Field(items) => ParserState::Typed(items),
         Spot::Guarded(items) => ParserState::Items(items),

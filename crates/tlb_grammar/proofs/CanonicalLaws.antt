@@ -16,8 +16,8 @@ use Rattle.tlb_grammar.proofs.CanonicalPieces.{SignsStandAlone, canonical_pieces
 use Rattle.tlb_grammar.proofs.CanonicalLevels.{levels_within}
 use Rattle.tlb_grammar.proofs.CanonicalProper.{written_proper}
 
-one_few : (c : ConstructorView) → WithinCounts (c ∷ [])
-one_few c = record {
+one_within : (c : ConstructorView) → WithinCounts (c ∷ [])
+one_within c = record {
   all = omega arith;
   of_one = λ x. elim (bytes_eq c.result x) as (λ t. 0 + cond t 1 0 ≤ 256) [ true ↦ omega arith | false ↦ omega arith ];
 }
@@ -40,7 +40,7 @@ module _ (tokens_once : (text : List ℕ) (a b : List Token) → Tokenizes text 
         tokens = r.tokens;
         tokenized = r.tokenized;
         written = subst P (sym r.same) (canonical_written c (Some 64) p le);
-        counts = one_few c;
+        counts = one_within c;
       }
 
   written_shallow : (c : ConstructorView) → IsConstructor c → Writes (ended_text c) (c ∷ []) → constructor_levels c ≤ 64

@@ -20,15 +20,15 @@ data Open : Type 0 where
   prefix : Open
 
 -- after a term
-abbrev behind : List Open → List Open
-behind [] = []
-behind (bracket ∷ st) = bracket ∷ st
-behind (prefix ∷ st) = behind st
+abbrev term_ended : List Open → List Open
+term_ended [] = []
+term_ended (bracket ∷ st) = bracket ∷ st
+term_ended (prefix ∷ st) = term_ended st
 
 -- after a closing bracket
 abbrev shut : List Open → List Open
 shut [] = []
-shut (o ∷ st) = behind st
+shut (o ∷ st) = term_ended st
 
 abbrev by_sign : Sign → List Open → List Open
 by_sign OpenParen st = bracket ∷ st
@@ -37,12 +37,12 @@ by_sign Tilde st = prefix ∷ st
 by_sign Caret st = prefix ∷ st
 by_sign CloseParen st = shut st
 by_sign CloseBracket st = shut st
-by_sign Hash st = behind st
+by_sign Hash st = term_ended st
 by_sign _ st = st
 
 abbrev after : Lexeme → List Open → List Open
-after (word x) st = behind st
-after (number n) st = behind st
+after (word x) st = term_ended st
+after (number n) st = term_ended st
 after (sign s) st = by_sign s st
 after blank st = st
 after (tag b) st = st
@@ -77,13 +77,13 @@ next d st n h p = let le = within d st n h in let more = p.most in record { most
 
 -- no term stands open
 abbrev IsBase : List Open → Type 0
-IsBase st = behind st ≡ st
+IsBase st = term_ended st ≡ st
 
 along : (st to : List Open) {ls : List Lexeme} {n : ℕ} → to ≡ st → Fits n st ls → Fits n to ls
 along st to {ls} {n} e p = let P : List Open → Type 0 = λ z. Fits n z ls in subst P (sym e) p
 
-based : (st : List Open) {ls : List Lexeme} {n : ℕ} → IsBase st → Fits n st ls → Fits n (behind st) ls
-based st b p = along st (behind st) b p
+based : (st : List Open) {ls : List Lexeme} {n : ℕ} → IsBase st → Fits n st ls → Fits n (term_ended st) ls
+based st b p = along st (term_ended st) b p
 
 compared_peak : {c : Sign} {op : Op} → Compares c op → (st : List Open) → by_sign c st ≡ st
 compared_peak equal st = refl
@@ -98,7 +98,7 @@ headed_peak by_blank st b = refl
 
 mutual
   term_peak : {m : Bounds} {d : Count} {s : List Lexeme} {e : ExprView} {r : List Lexeme} → Term m d s e r
-      → (n : ℕ) (st : List Open) → Room d st n → Fits n (behind st) r → Fits n st s
+      → (n : ℕ) (st : List Open) → Room d st n → Fits n (term_ended st) r → Fits n st s
   term_peak {d = d} a_number n st h p = next d st n h p
   term_peak {d = d} a_name n st h p = next d st n h p
   term_peak {d = d} a_hash n st h p = next d st n h p
@@ -249,7 +249,7 @@ chain p q =
     record { own = omega arith; rest = omega arith }
 
 in_paren : {st : List Open} {k : ℕ} {s r : List Lexeme} → Reach (bracket ∷ st) (bracket ∷ st) k s (sign CloseParen ∷ r)
-    → Reach st (behind st) (suc k) (sign OpenParen ∷ s) r
+    → Reach st (term_ended st) (suc k) (sign OpenParen ∷ s) r
 in_paren {st} {k} {s} {r} p =
     let own = p.own in
     let rest = p.rest in
@@ -259,7 +259,7 @@ in_paren {st} {k} {s} {r} p =
 
 in_record : {st : List Open} {k : ℕ} {s r : List Lexeme}
     → Reach (bracket ∷ st) (bracket ∷ st) k s (sign CloseBracket ∷ r)
-    → Reach st (behind st) (suc k) (sign OpenBracket ∷ s) r
+    → Reach st (term_ended st) (suc k) (sign OpenBracket ∷ s) r
 in_record {st} {k} {s} {r} p =
     let own = p.own in
     let rest = p.rest in
@@ -268,7 +268,7 @@ in_record {st} {k} {s} {r} p =
     record { own = omega arith; rest = omega arith }
 
 prefixed : {o : Sign} {st : List Open} {k : ℕ} {s r : List Lexeme} → by_sign o st ≡ prefix ∷ st
-    → Reach (prefix ∷ st) (behind st) k s r → Reach st (behind st) (suc k) (sign o ∷ s) r
+    → Reach (prefix ∷ st) (term_ended st) k s r → Reach st (term_ended st) (suc k) (sign o ∷ s) r
 prefixed {o} {st} {k} {s} {r} e p =
     let P : List Open → Type 0 = λ z. peak z s ≤ peak st (sign o ∷ s) in
     let first : peak (prefix ∷ st) s ≤ peak st (sign o ∷ s) = subst P e (later st (sign o) s) in
@@ -277,12 +277,12 @@ prefixed {o} {st} {k} {s} {r} e p =
     record { own = omega arith; rest = omega arith }
 
 -- the terms after a name or a `##`, `#<` or `#<=` in parentheses
-abbrev Behind : List Open → ExprList → List Lexeme → Type 0
-Behind st es r = Reach (bracket ∷ st) (bracket ∷ st) (exprs_levels es) (exprs_before es (sign CloseParen ∷ r))
+abbrev TermEnded : List Open → ExprList → List Lexeme → Type 0
+TermEnded st es r = Reach (bracket ∷ st) (bracket ∷ st) (exprs_levels es) (exprs_before es (sign CloseParen ∷ r))
     (sign CloseParen ∷ r)
 
-named_reach : (x : List ℕ) (es : ExprList) (st : List Open) (r : List Lexeme) → Behind st es r
-    → Reach st (behind st) (expr_levels (named x es)) (expr_before (named x es) r) r
+named_reach : (x : List ℕ) (es : ExprList) (st : List Open) (r : List Lexeme) → TermEnded st es r
+    → Reach st (term_ended st) (expr_levels (named x es)) (expr_before (named x es) r) r
 named_reach x no_exprs st r p = leaf (word x) st r
 named_reach x (an_expr e es) st r p = in_paren (skip {l = word x} refl p)
 
@@ -303,7 +303,7 @@ head_same None st b = refl
 
 mutual
   expr_reach : (e : ExprView) (st : List Open) (r : List Lexeme)
-      → Reach st (behind st) (expr_levels e) (expr_before e r) r
+      → Reach st (term_ended st) (expr_levels e) (expr_before e r) r
   expr_reach (lit n) st r = leaf (number (Some n)) st r
   expr_reach (named x es) st r = named_reach x es st r (exprs_reach es (bracket ∷ st) (sign CloseParen ∷ r) refl)
   expr_reach nat32 st r = leaf (sign Hash) st r
@@ -327,18 +327,18 @@ mutual
       → Reach st st (exprs_levels es) (exprs_before es r) r
   exprs_reach no_exprs st r b = none_reach st r
   exprs_reach (an_expr e es) st r b =
-      chain (into st (behind st) st b (expr_reach e st (exprs_before es r))) (exprs_reach es st r b)
+      chain (into st (term_ended st) st b (expr_reach e st (exprs_before es r))) (exprs_reach es st r b)
 
   type_reach : (t : TypeView) (st : List Open) (r : List Lexeme) → IsBase st
       → Reach st st (type_levels t) (type_before t r) r
-  type_reach (plain e) st r b = into st (behind st) st b (expr_reach e st r)
+  type_reach (plain e) st r b = into st (term_ended st) st b (expr_reach e st r)
   type_reach (when c e) st r b =
-      chain (into st (behind st) st b (expr_reach c st (sign Question ∷ expr_before e r)))
-      (skip {l = sign Question} refl (into st (behind st) st b (expr_reach e st r)))
+      chain (into st (term_ended st) st b (expr_reach c st (sign Question ∷ expr_before e r)))
+      (skip {l = sign Question} refl (into st (term_ended st) st b (expr_reach e st r)))
   type_reach (when_bit c k e) st r b =
-      chain (into st (behind st) st b (expr_reach c st (sign Dot ∷ number (Some k) ∷ sign Question ∷ expr_before e r)))
+      chain (into st (term_ended st) st b (expr_reach c st (sign Dot ∷ number (Some k) ∷ sign Question ∷ expr_before e r)))
       (skip {l = sign Dot} refl
-      (skip {l = number (Some k)} b (skip {l = sign Question} refl (into st (behind st) st b (expr_reach e st r)))))
+      (skip {l = number (Some k)} b (skip {l = sign Question} refl (into st (term_ended st) st b (expr_reach e st r)))))
 
   item_reach : (i : ItemView) (st : List Open) (r : List Lexeme) → IsBase st
       → Reach st st (item_levels i) (item_before i r) r
@@ -348,10 +348,10 @@ mutual
       (skip {l = kind_lexeme k} (kind_same k st b) (skip {l = sign CloseBrace} refl (none_reach st r)))))
   item_reach (check a op c) st r b =
       skip {l = sign OpenBrace} refl
-      (chain (into st (behind st) st b
+      (chain (into st (term_ended st) st b
       (expr_reach a st (sign (comparing op) ∷ expr_before c (sign CloseBrace ∷ r))))
       (skip {l = sign (comparing op)} (comparing_same op st)
-      (upto {l = sign CloseBrace} refl (into st (behind st) st b (expr_reach c st (sign CloseBrace ∷ r))))))
+      (upto {l = sign CloseBrace} refl (into st (term_ended st) st b (expr_reach c st (sign CloseBrace ∷ r))))))
   item_reach (explicit x t) st r b =
       skip {l = head x} (head_same x st b) (skip {l = sign Colon} refl (type_reach t st r b))
 

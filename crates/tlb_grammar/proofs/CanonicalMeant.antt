@@ -11,7 +11,7 @@ use Rattle.tlb_lexer.specs.Spelling.{spells, is_underscore, are_bits, ends_hex}
 use Rattle.tlb_lexer.specs.Tokenization.{longest_name, TokenizesFrom, ended, gap, token, Tokenizes, Longest}
 use Rattle.tlb_grammar.proofs.Symbols.{and_parts, or_parts, clash}
 use Rattle.tlb_syntax.specs.declared.sign.Sign.{Sign}
-use Rattle.tlb_syntax.specs.Lexeme.{Lexeme, word, blank, number, tag, sign, other, meaning, lexemes, decimal_onto, binary_bits, hexadecimal_bits, at_most_1023, and_at_most_1023, hex_value, hex_bits, or_behind, without_completion, hex_digits, is_completed, sign_among, sign_text, signs}
+use Rattle.tlb_syntax.specs.Lexeme.{Lexeme, word, blank, number, tag, sign, other, meaning, lexemes, decimal_onto, binary_bits, hexadecimal_bits, at_most_1023, and_at_most_1023, hex_value, hex_bits, before_completion, without_completion, hex_digits, is_completed, sign_among, sign_text, signs}
 use Rattle.tlb_grammar.proofs.CanonicalTrees.{IsWord, IsMark}
 
 abbrev pub IsMeant : Lexeme → Type 0
@@ -46,15 +46,15 @@ at_most_meant : (bits : List ℕ) → AreBits bits → IsMeant (tag (at_most_102
 at_most_meant bits h =
     elim (nat_le (length bits) 1023) as
     (λ t. nat_le (length bits) 1023 ≡ t → IsMeant (tag (if t then Some bits else None))) [
-      | true ↦ λ e. record { bits = h; few = few e }
+      | true ↦ λ e. record { bits = h; short = short e }
       | false ↦ λ e. tt
     ] refl
   where
-    few : nat_le (length bits) 1023 ≡ true → length bits ≤ 1023
-    few e = grind arith
+    short : nat_le (length bits) 1023 ≡ true → length bits ≤ 1023
+    short e = grind arith
 
 empty_meant : IsMeant (tag (Some []))
-empty_meant = record { bits = tt; few = omega arith }
+empty_meant = record { bits = tt; short = omega arith }
 
 bit_digit : (d : ℕ) → is_bit d ≡ true → d - 48 < 2
 bit_digit d e = grind arith
@@ -96,13 +96,14 @@ abbrev AreSomeBits : Option (List ℕ) → Type 0
 AreSomeBits None = Unit {0}
 AreSomeBits (Some bits) = AreBits bits
 
-behind_bits : (b : ℕ) (found : Option (List ℕ)) → b < 2 → AreSomeBits found → AreSomeBits (or_behind b found)
-behind_bits b (Some bits) h k = (h, k)
-behind_bits b None h k = elim (b == 1) as (λ t. AreSomeBits (if t then Some [] else None)) [ true ↦ tt | false ↦ tt ]
+completion_bits : (b : ℕ) (found : Option (List ℕ)) → b < 2 → AreSomeBits found
+    → AreSomeBits (before_completion b found)
+completion_bits b (Some bits) h k = (h, k)
+completion_bits b None h k = elim (b == 1) as (λ t. AreSomeBits (if t then Some [] else None)) [ true ↦ tt | false ↦ tt ]
 
 uncompleted_bits : (bits : List ℕ) → AreBits bits → AreSomeBits (without_completion bits)
 uncompleted_bits [] h = tt
-uncompleted_bits (b ∷ bits) h = behind_bits b (without_completion bits) h.0 (uncompleted_bits bits h.1)
+uncompleted_bits (b ∷ bits) h = completion_bits b (without_completion bits) h.0 (uncompleted_bits bits h.1)
 
 and_at_most_meant : (found : Option (List ℕ)) → AreSomeBits found → IsMeant (tag (and_at_most_1023 found))
 and_at_most_meant None h = tt
@@ -113,12 +114,12 @@ one_hex true d e = refl
 one_hex false d e = elim (or_parts (is_hex_digit d) false e) [ inl h ↦ rw h refl | inr h ↦ cc ]
 
 -- digits before a `_` are hexadecimal, and so are all digits where no `_` closes them
-hex_front : (ds : List ℕ) → ends_hex ds ≡ true → list_all is_hex_digit (hex_digits ds) ≡ true
-hex_front [] e = cc
-hex_front (d ∷ []) e = one_hex (d == 95) d e
-hex_front (d ∷ c ∷ ds) e =
+hex_prefix : (ds : List ℕ) → ends_hex ds ≡ true → list_all is_hex_digit (hex_digits ds) ≡ true
+hex_prefix [] e = cc
+hex_prefix (d ∷ []) e = one_hex (d == 95) d e
+hex_prefix (d ∷ c ∷ ds) e =
     let p = and_parts (is_hex_digit d) (ends_hex (c ∷ ds)) e in
-    rw p.0 (hex_front (c ∷ ds) p.1)
+    rw p.0 (hex_prefix (c ∷ ds) p.1)
 
 hex_alone : (d : ℕ) → (is_hex_digit d || d == 95) ≡ true → (if d == 95 then true else false) ≡ false
     → list_all is_hex_digit (d ∷ []) ≡ true
@@ -137,7 +138,7 @@ hex_open (d ∷ c ∷ ds) e f =
 hex_meant : (ds : List ℕ) → ends_hex ds ≡ true → IsMeant (tag (hexadecimal_bits ds))
 hex_meant ds e =
     let closed = and_at_most_meant (without_completion (flat_map hex_bits (hex_digits ds)))
-    (uncompleted_bits (flat_map hex_bits (hex_digits ds)) (hex_all_bits (hex_digits ds) (hex_front ds e))) in
+    (uncompleted_bits (flat_map hex_bits (hex_digits ds)) (hex_all_bits (hex_digits ds) (hex_prefix ds e))) in
     elim (is_underscore ds) as (λ t. IsMeant (tag (
     if t then Some []
     else if is_completed ds then and_at_most_1023 (without_completion (flat_map hex_bits (hex_digits ds)))

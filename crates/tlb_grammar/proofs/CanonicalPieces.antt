@@ -168,8 +168,8 @@ module _ (sign_longest : SignsStandAlone) where
   read_back [] = refl
   read_back (b ∷ bs) = both (λ x xs. x ∷ xs) (omega arith) (read_back bs)
 
-  few_bits : (bs : List ℕ) → length bs ≤ 1023 → at_most_1023 bs ≡ Some bs
-  few_bits bs h = grind arith
+  short_bits : (bs : List ℕ) → length bs ≤ 1023 → at_most_1023 bs ≡ Some bs
+  short_bits bs h = grind arith
 
   bit_digit : (b : ℕ) → b < 2 → is_bit (48 + b) ≡ true
   bit_digit b h = grind arith
@@ -188,7 +188,7 @@ module _ (sign_longest : SignsStandAlone) where
   bits_read b bs h =
       ap (λ t. if t then Some [] else at_most_1023 (map (λ d. d - 48) (map (λ d. 48 + d) (b ∷ bs))))
       (not_underscore b bs h.bits.0)
-      ∙ ap at_most_1023 (read_back (b ∷ bs)) ∙ few_bits (b ∷ bs) h.few
+      ∙ ap at_most_1023 (read_back (b ∷ bs)) ∙ short_bits (b ∷ bs) h.short
 
   tag_part : (t : TagView) → IsTag t → Part (tag_text t) (marked t)
   tag_part computed h = nothing

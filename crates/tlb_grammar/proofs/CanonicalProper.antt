@@ -22,8 +22,8 @@ one_within one_less n h = omega arith
 abbrev IsStandard : Bounds → Type 0
 IsStandard m = m.items ≡ Some 255
 
-few_items : (m : Bounds) (n : ℕ) → IsStandard m → Within m.items n → n ≤ 255
-few_items m n b h = let P : Count → Type 0 = λ k. Within k n in subst P b h
+item_count : (m : Bounds) (n : ℕ) → IsStandard m → Within m.items n → n ≤ 255
+item_count m n b h = let P : Count → Type 0 = λ k. Within k n in subst P b h
 
 headed : {h : Lexeme} {x : Option (List ℕ)} → Heads h x → IsMeant h → IsWordOrBlank x
 headed by_name p = p
@@ -39,7 +39,7 @@ mutual
   term_proper (a_reference sp t) b p = term_proper t b p.1
   term_proper (a_paren sp t) b p = let q = sum_proper t b p.1 in (q.0, q.1.1)
   term_proper {m = m} (a_record {is = is} sp t) b p = let q = items_proper t b p.1 in
-      ((few_items m (items_count is) b q.0, q.1), q.2.1)
+      ((item_count m (items_count is) b q.0, q.1), q.2.1)
 
   terms_proper : {m : Bounds} {d : Count} {s : List Lexeme} {es : ExprList} {r : List Lexeme} → Terms m d s es r
       → IsStandard m → AreMeant s → AreExprs es × AreMeant r
@@ -109,18 +109,18 @@ declared_proper : {exotic : Bool} {s : List Lexeme} {c : ConstructorView} {r : L
 declared_proper (a_declaration h t is ps) p =
     let mark = tag_proper t p.1 in
     let inside = items_proper is refl mark.1 in
-    let behind = params_proper ps refl inside.2.1.1 in (
+    let counted = params_proper ps refl inside.2.1.1 in (
       record {
         name = headed h p.0;
         tag = mark.0;
-        few_items = inside.0;
+        item_count = inside.0;
         items = inside.1;
         result =
             inside.2.1.0;
-        few_params = behind.0;
-        params = behind.1;
+        param_count = counted.0;
+        params = counted.1;
       },
-      behind.2.1,
+      counted.2.1,
     )
 
 declaration_proper : {s : List Lexeme} {c : ConstructorView} {r : List Lexeme} → Declaration standard s c r → AreMeant s

@@ -23,7 +23,7 @@ pub record IsWord (x : List ℕ) : Type 0 where
 -- the bits of a tag
 pub record IsMark (b : List ℕ) : Type 0 where
   pub bits : AreBits b
-  pub few : length b ≤ 1023
+  pub short : length b ≤ 1023
 
 abbrev pub IsWordOrBlank : Option (List ℕ) → Type 0
 IsWordOrBlank None = Unit {0}
@@ -81,10 +81,10 @@ abbrev mutual
 pub record IsConstructor (c : ConstructorView) : Type 0 where
   pub name : IsWordOrBlank c.name
   pub tag : IsTag c.tag
-  pub few_items : items_count c.items ≤ 255
+  pub item_count : items_count c.items ≤ 255
   pub items : AreItems c.items
   pub result : IsWord c.result
-  pub few_params : exprs_count c.params ≤ 8
+  pub param_count : exprs_count c.params ≤ 8
   pub params : AreExprs c.params
 
 -- ---- their lexemes, before others

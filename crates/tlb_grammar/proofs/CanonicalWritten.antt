@@ -150,17 +150,17 @@ mutual
 
   pub items_written : (is : ItemList) (top d k : Count) (r : List Lexeme) → AreItems is → Within d (items_levels is)
       → Within k (items_count is) → Items (leveled top) d k (items_before is r) is r
-  items_written no_items top d k r p w few = no_item
-  items_written (an_item i is) top d k r p w few =
-      let o = opened k (items_count is) few in
+  items_written no_items top d k r p w short = no_item
+  items_written (an_item i is) top d k r p w short =
+      let o = opened k (items_count is) short in
       one_item o.1 (item_written i top d (items_before is r) p.0 (in_left d (item_levels i) (items_levels is) w))
       (items_written is top d o.0 r p.1 (in_right d (item_levels i) (items_levels is) w) o.2)
 
 params_written : (es : ExprList) (top k : Count) (r : List Lexeme) → AreExprs es → Within top (exprs_levels es)
     → Within k (exprs_count es) → Params (leveled top) k (exprs_before es r) es r
-params_written no_exprs top k r p w few = no_param
-params_written (an_expr e es) top k r p w few =
-    let o = opened k (exprs_count es) few in
+params_written no_exprs top k r p w short = no_param
+params_written (an_expr e es) top k r p w short =
+    let o = opened k (exprs_count es) short in
     a_param o.1 (term_written e top top (exprs_before es r) p.0 (in_left top (expr_levels e) (exprs_levels es) w))
     (params_written es top o.0 r p.1 (in_right top (expr_levels e) (exprs_levels es) w) o.2)
 
@@ -179,8 +179,8 @@ declaration_written c top r p w =
     let i = in_left top (items_levels c.items) (exprs_levels c.params) w in
     let q = in_right top (items_levels c.items) (exprs_levels c.params) w in
     as_declaration c.exotic (a_declaration (headed c.name) (tag_written c.tag _)
-    (items_written c.items top top (Some 255) _ p.items i p.few_items)
-    (params_written c.params top (Some 8) _ p.params q p.few_params))
+    (items_written c.items top top (Some 255) _ p.items i p.item_count)
+    (params_written c.params top (Some 8) _ p.params q p.param_count))
 
 -- the lexemes of the canonical text and a semicolon derive the constructor
 pub canonical_written : (c : ConstructorView) (top : Count) → IsConstructor c → Within top (constructor_levels c)

@@ -25,11 +25,11 @@ pub record TokenizedAs (whole : List ℕ) (place : ℕ) (text : List ℕ) (ls : 
 pub both : {A B C : Type 0} {a b : A} {c d : B} (f : A → B → C) → a ≡ b → c ≡ d → f a c ≡ f b d
 both f p q = λ i. f (p i) (q i)
 
-left_by : (n place : ℕ) (whole front text : List ℕ) → length front ≡ n → drop place whole ≡ front ++ text
+left_by : (n place : ℕ) (whole prefix text : List ℕ) → length prefix ≡ n → drop place whole ≡ prefix ++ text
     → drop (place + n) whole ≡ text
-left_by n place whole front text size e =
-    sym (drop-drop n place whole) ∙ ap (drop n) e ∙ ap (λ k. drop k (front ++ text)) (sym size)
-    ∙ drop-append_seam front text
+left_by n place whole prefix text size e =
+    sym (drop-drop n place whole) ∙ ap (drop n) e ∙ ap (λ k. drop k (prefix ++ text)) (sym size)
+    ∙ drop-append_seam prefix text
 
 bytes_at : (place : ℕ) (whole bytes text : List ℕ) → drop place whole ≡ bytes ++ text
     → take ((place + length bytes) - place) (drop place whole) ≡ bytes
@@ -37,7 +37,8 @@ bytes_at place whole bytes text e =
     let size : (place + length bytes) - place ≡ length bytes = omega arith in
     ap (λ k. take k (drop place whole)) size ∙ ap (take (length bytes)) e ∙ take-append_seam bytes text
 
-tokenized_as : {text : List ℕ} {ls : List Lexeme} → Pieces text ls → (place : ℕ) (whole : List ℕ) → drop place whole ≡ text
+tokenized_as : {text : List ℕ} {ls : List Lexeme} → Pieces text ls → (place : ℕ) (whole : List ℕ)
+    → drop place whole ≡ text
     → TokenizedAs whole place text ls
 tokenized_as no_piece place whole e = record { tokens = []; tokenized = ended; same = refl }
 tokenized_as (a_space {text = text} p) place whole e =

@@ -62,20 +62,20 @@ hex_all (b ∷ c ∷ bs) e =
     let one = hex_inner b parts.0 in
     rw one (hex_all (c ∷ bs) parts.1)
 
-inner_behind : (kind : TokenKind) (b : ℕ) (bs : List ℕ) → spells kind (b ∷ bs) ≡ true → list_all is_inner bs ≡ true
-inner_behind Name b bs e =
+inner_after_first : (kind : TokenKind) (b : ℕ) (bs : List ℕ) → spells kind (b ∷ bs) ≡ true → list_all is_inner bs ≡ true
+inner_after_first Name b bs e =
     all_of is_name_byte is_inner name_inner bs (and_parts (is_letter b) (list_all is_name_byte bs) e).1
-inner_behind Blank b [] e = refl
-inner_behind Blank b (c ∷ bs) e = cc
-inner_behind Number b bs e = all_of is_digit is_inner digit_inner bs (and_parts (is_digit b) (list_all is_digit bs) e).1
-inner_behind BinaryTag b bs e =
+inner_after_first Blank b [] e = refl
+inner_after_first Blank b (c ∷ bs) e = cc
+inner_after_first Number b bs e = all_of is_digit is_inner digit_inner bs (and_parts (is_digit b) (list_all is_digit bs) e).1
+inner_after_first BinaryTag b bs e =
     elim (or_parts (is_underscore bs) (are_bits bs) (and_parts (b == 36) (is_underscore bs || are_bits bs) e).1) [
       | inl h ↦ underscore_all bs h
       | inr h ↦ bits_all bs h
     ]
-inner_behind HexTag b bs e = hex_all bs (and_parts (b == 35) (ends_hex bs) e).1
-inner_behind Symbol b [] e = refl
-inner_behind Symbol b (c ∷ cs) e =
+inner_after_first HexTag b bs e = hex_all bs (and_parts (b == 35) (ends_hex bs) e).1
+inner_after_first Symbol b [] e = refl
+inner_after_first Symbol b (c ∷ cs) e =
     elim (long_symbol b c cs e) [
       | hashes x y z ↦ rw (y, z) refl
       | hash_less x y z ↦ rw (y, z) refl
@@ -83,9 +83,9 @@ inner_behind Symbol b (c ∷ cs) e =
       | angle_equal x y z ↦ rw (y, z) refl
     ]
 
-among_behind : (bs cs : List ℕ) (c : ℕ) → list_all is_inner (bs ++ c ∷ cs) ≡ true → is_inner c ≡ true
-among_behind [] cs c e = (and_parts (is_inner c) (list_all is_inner cs) e).0
-among_behind (b ∷ bs) cs c e = among_behind bs cs c (and_parts (is_inner b) (list_all is_inner (bs ++ c ∷ cs)) e).1
+inner_among : (bs cs : List ℕ) (c : ℕ) → list_all is_inner (bs ++ c ∷ cs) ≡ true → is_inner c ≡ true
+inner_among [] cs c e = (and_parts (is_inner c) (list_all is_inner cs) e).0
+inner_among (b ∷ bs) cs c e = inner_among bs cs c (and_parts (is_inner b) (list_all is_inner (bs ++ c ∷ cs)) e).1
 
 not_true : (t : Bool) → not t ≡ true → t ≡ true → ⊥
 not_true true e f = cc
@@ -102,7 +102,7 @@ no_longer kind other (b ∷ bs) (c ∷ cs) sp ends m lt le e = further (m - suc 
         let tokenized : take m (b ∷ bs ++ c ∷ cs) ≡ b ∷ bs ++ c ∷ take k cs =
         ap (λ j. take j (b ∷ bs ++ c ∷ cs)) size ∙ take-append-add (b ∷ bs) (c ∷ cs) (suc k) in
         let P : List ℕ → Type 0 = λ xs. spells other xs ≡ true in
-        let inner = among_behind bs (take k cs) c (inner_behind other b (bs ++ c ∷ take k cs) (subst P tokenized e)) in
+        let inner = inner_among bs (take k cs) c (inner_after_first other b (bs ++ c ∷ take k cs) (subst P tokenized e)) in
         not_true (is_inner c) ends inner
 
 -- no longer prefix spells any token where the text after a token begins with a byte that no token goes on with

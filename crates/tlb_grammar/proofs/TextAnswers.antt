@@ -1,5 +1,5 @@
 -- From the layers below to what a text writes, or is refused for.
-use Rattle.std.proofs.Common.{◌≡◌, ◌≢◌, ◌⊎◌, inl, inr, ◌∙◌, ap, sym, subst, ℕ, zero, suc, List, [], ◌∷◌, length, Option, Some, None, Result, Ok, Err, refl, ◌<◌, ◌≤◌, get_or, arith}
+use Rattle.std.proofs.Common.{◌≡◌, ◌⊎◌, inl, inr, ◌∙◌, ap, sym, subst, ℕ, zero, suc, List, [], ◌∷◌, length, Result, Ok, Err, refl, ◌<◌, ◌≤◌, get_or, arith}
 use Rattle.std.specs.Prelude.{⊤}
 use Rattle.syntax_check.specs.declared.machine.Cause.{Cause as Checked}
 use Rattle.syntax_check.specs.declared.machine.Cause.TheVariants as checked
@@ -23,22 +23,24 @@ byte_within [] size n t h = absurd (omega (arith, h))
 byte_within (u ∷ ts) size zero t h = refl
 byte_within (u ∷ ts) size (suc n) t h = byte_within ts size n t (omega (arith, h))
 
-pub byte_behind : (ts : List Token) (size n : ℕ) → length ts ≤ n → byte_of ts size n ≡ size
-byte_behind [] size n h = refl
-byte_behind (u ∷ ts) size zero h = absurd (omega (arith, h))
-byte_behind (u ∷ ts) size (suc n) h = byte_behind ts size n (omega (arith, h))
+pub byte_past : (ts : List Token) (size n : ℕ) → length ts ≤ n → byte_of ts size n ≡ size
+byte_past [] size n h = refl
+byte_past (u ∷ ts) size zero h = absurd (omega (arith, h))
+byte_past (u ∷ ts) size (suc n) h = byte_past ts size n (omega (arith, h))
 
 -- ---- refusals
 
 pub schema_is_refused : (text : List ℕ) (tokens first second : List Token) (c : Checked) (place : ℕ) (e : GrammarError)
-    → Tokenizes text tokens → first ≡ tokens → second ≡ tokens → IsFirst (SchemaRefusal (lexemes text first)) (cause_of c) place
+    → Tokenizes text tokens → first ≡ tokens → second ≡ tokens
+    → IsFirst (SchemaRefusal (lexemes text first)) (cause_of c) place
     → e ≡ error_of c (byte_of second (length text) place) → Refuses text e
 schema_is_refused text tokens first second c place e tokenized is_first is_second refused is =
     let P : GrammarError → Type 0 = Refuses text in
     let Q : List Token → Type 0 = λ ts. IsFirst (SchemaRefusal (lexemes text ts)) (cause_of c) place in
     subst P (sym (is ∙ ap (λ ts. error_of c (byte_of ts (length text) place)) is_second)) (by_cause c (subst Q is_first refused))
   where
-    by_cause : (c : Checked) → IsFirst (SchemaRefusal (lexemes text tokens)) (cause_of c) place → Refuses text (error_of c (byte_of tokens (length text) place))
+    by_cause : (c : Checked) → IsFirst (SchemaRefusal (lexemes text tokens)) (cause_of c) place
+        → Refuses text (error_of c (byte_of tokens (length text) place))
     by_cause checked.Syntax f = record { tokens = tokens; tokenized = tokenized; place = place; first = f; is_byte = refl }
     by_cause checked.DeepType f = record { tokens = tokens; tokenized = tokenized; place = place; first = f; is_byte = refl }
     by_cause checked.TooManyConstructors f = record { tokens = tokens; tokenized = tokenized; place = place; first = f; is_byte = refl }
@@ -46,14 +48,16 @@ schema_is_refused text tokens first second c place e tokenized is_first is_secon
     by_cause checked.TooManyParams f = record { tokens = tokens; tokenized = tokenized; place = place; first = f; is_byte = refl }
 
 pub word_is_refused : (text : List ℕ) (tokens first second : List Token) (c : Checked) (place : ℕ) (e : GrammarError)
-    → Tokenizes text tokens → first ≡ tokens → second ≡ tokens → IsFirst (WordRefusal (lexemes text first)) (cause_of c) place
+    → Tokenizes text tokens → first ≡ tokens → second ≡ tokens
+    → IsFirst (WordRefusal (lexemes text first)) (cause_of c) place
     → e ≡ error_of c (byte_of second (length text) place) → RefusesWord text e
 word_is_refused text tokens first second c place e tokenized is_first is_second refused is =
     let P : GrammarError → Type 0 = RefusesWord text in
     let Q : List Token → Type 0 = λ ts. IsFirst (WordRefusal (lexemes text ts)) (cause_of c) place in
     subst P (sym (is ∙ ap (λ ts. error_of c (byte_of ts (length text) place)) is_second)) (by_cause c (subst Q is_first refused))
   where
-    by_cause : (c : Checked) → IsFirst (WordRefusal (lexemes text tokens)) (cause_of c) place → RefusesWord text (error_of c (byte_of tokens (length text) place))
+    by_cause : (c : Checked) → IsFirst (WordRefusal (lexemes text tokens)) (cause_of c) place
+        → RefusesWord text (error_of c (byte_of tokens (length text) place))
     by_cause checked.Syntax f = record { tokens = tokens; tokenized = tokenized; place = place; first = f; is_byte = refl }
     by_cause checked.DeepType f = record { tokens = tokens; tokenized = tokenized; place = place; first = f; is_byte = refl }
     by_cause checked.TooManyConstructors f = record { tokens = tokens; tokenized = tokenized; place = place; first = f; is_byte = refl }
@@ -69,18 +73,18 @@ error_at too_many_fields byte = errors.TooManyFields byte
 error_at too_many_params byte = errors.TooManyParams byte
 
 -- a refusal is one of the tokens or one of the lexemes
-data Told (Refused : Cause → ℕ → Type 0) (text : List ℕ) (e : GrammarError) : Type 0 where
-  by_tokens : (f : LexError) → TokenRefusal text f → e ≡ errors.Lex f → Told Refused text e
-  by_lexemes : (c : Cause) (n : ℕ) → Refused c n → e ≡ error_at c n → Told Refused text e
+data Reported (Refused : Cause → ℕ → Type 0) (text : List ℕ) (e : GrammarError) : Type 0 where
+  by_tokens : (f : LexError) → TokenRefusal text f → e ≡ errors.Lex f → Reported Refused text e
+  by_lexemes : (c : Cause) (n : ℕ) → Refused c n → e ≡ error_at c n → Reported Refused text e
 
-told : (R : Cause → ℕ → Type 0) (text : List ℕ) (e : GrammarError) → RefusesBy R text e → Told R text e
-told R text (errors.Lex f) x = by_tokens f x refl
-told R text (errors.Syntax n) x = by_lexemes syntax n x refl
-told R text (errors.DeepType n) x = by_lexemes deep_type n x refl
-told R text (errors.TooManyConstructors n) x = by_lexemes too_many_constructors n x refl
-told R text (errors.TooManyFields n) x = by_lexemes too_many_fields n x refl
-told R text (errors.TooManyParams n) x = by_lexemes too_many_params n x refl
-told R text errors.NoMemory x = absurd x
+reported : (R : Cause → ℕ → Type 0) (text : List ℕ) (e : GrammarError) → RefusesBy R text e → Reported R text e
+reported R text (errors.Lex f) x = by_tokens f x refl
+reported R text (errors.Syntax n) x = by_lexemes syntax n x refl
+reported R text (errors.DeepType n) x = by_lexemes deep_type n x refl
+reported R text (errors.TooManyConstructors n) x = by_lexemes too_many_constructors n x refl
+reported R text (errors.TooManyFields n) x = by_lexemes too_many_fields n x refl
+reported R text (errors.TooManyParams n) x = by_lexemes too_many_params n x refl
+reported R text errors.NoMemory x = absurd x
 
 -- ---- a text has an answer
 
@@ -145,7 +149,8 @@ module _ (laws : Laws) where
   moved : (text : List ℕ) (a b : List Token) (P : List Token → Type 0) → Tokenizes text a → Tokenizes text b → P a → P b
   moved text a b P tokenized cut' p = subst P (laws.tokens.tokenized text a b tokenized cut') p
 
-  schemas_one : (text : List ℕ) (c d : Cause) (m n : ℕ) → SchemaRefused text c m → SchemaRefused text d n → (c ≡ d) × (m ≡ n)
+  schemas_one : (text : List ℕ) (c d : Cause) (m n : ℕ) → SchemaRefused text c m → SchemaRefused text d n
+      → (c ≡ d) × (m ≡ n)
   schemas_one text c d m n a b =
       let P : List Token → Type 0 = λ ts. IsFirst (SchemaRefusal (lexemes text ts)) c a.place in
       let one = laws.first_schema (lexemes text b.tokens) c d a.place b.place (moved text a.tokens b.tokens P a.tokenized b.tokenized a.first) b.first in
@@ -157,40 +162,41 @@ module _ (laws : Laws) where
       let one = laws.first_word (lexemes text b.tokens) c d a.place b.place (moved text a.tokens b.tokens P a.tokenized b.tokenized a.first) b.first in
       (one.0, a.is_byte ∙ ap (λ ts. byte_of ts (length text) a.place) (laws.tokens.tokenized text a.tokens b.tokens a.tokenized b.tokenized) ∙ ap (byte_of b.tokens (length text)) one.1 ∙ sym b.is_byte)
 
-  told_once : (R : Cause → ℕ → Type 0) (text : List ℕ)
-      → ((c d : Cause) (m n : ℕ) → R c m → R d n → (c ≡ d) × (m ≡ n)) → ((c : Cause) (n : ℕ) (f : LexError) → R c n → TokenRefusal text f → ⊥)
-      → (e g : GrammarError) → Told R text e → Told R text g → e ≡ g
-  told_once R text one apart e g (by_tokens f a is) (by_tokens h b is') = is ∙ ap errors.Lex (laws.tokens.refusal text f h a b) ∙ sym is'
-  told_once R text one apart e g (by_tokens f a is) (by_lexemes d n b is') = absurd (apart d n f b a)
-  told_once R text one apart e g (by_lexemes c m a is) (by_tokens f b is') = absurd (apart c m f a b)
-  told_once R text one apart e g (by_lexemes c m a is) (by_lexemes d n b is') =
+  reported_once : (R : Cause → ℕ → Type 0) (text : List ℕ)
+      → ((c d : Cause) (m n : ℕ) → R c m → R d n → (c ≡ d) × (m ≡ n))
+      → ((c : Cause) (n : ℕ) (f : LexError) → R c n → TokenRefusal text f → ⊥)
+      → (e g : GrammarError) → Reported R text e → Reported R text g → e ≡ g
+  reported_once R text one apart e g (by_tokens f a is) (by_tokens h b is') = is ∙ ap errors.Lex (laws.tokens.refusal text f h a b) ∙ sym is'
+  reported_once R text one apart e g (by_tokens f a is) (by_lexemes d n b is') = absurd (apart d n f b a)
+  reported_once R text one apart e g (by_lexemes c m a is) (by_tokens f b is') = absurd (apart c m f a b)
+  reported_once R text one apart e g (by_lexemes c m a is) (by_lexemes d n b is') =
       let k = one c d m n a b in is ∙ ap (λ x. error_at x m) k.0 ∙ ap (error_at d) k.1 ∙ sym is'
 
   -- a text has at most one refusal
   pub refused_at_most_once : (text : List ℕ) (e f : GrammarError) → Refuses text e → Refuses text f → e ≡ f
   refused_at_most_once text e f a b =
-      told_once (SchemaRefused text) text (schemas_one text) (λ c n h r x. laws.tokens.not_both text r.tokens h r.tokenized x) e f
-      (told (SchemaRefused text) text e a) (told (SchemaRefused text) text f b)
+      reported_once (SchemaRefused text) text (schemas_one text) (λ c n h r x. laws.tokens.not_both text r.tokens h r.tokenized x) e f
+      (reported (SchemaRefused text) text e a) (reported (SchemaRefused text) text f b)
 
   pub word_refused_at_most_once : (text : List ℕ) (e f : GrammarError) → RefusesWord text e → RefusesWord text f → e ≡ f
   word_refused_at_most_once text e f a b =
-      told_once (WordRefused text) text (words_one text) (λ c n h r x. laws.tokens.not_both text r.tokens h r.tokenized x) e f
-      (told (WordRefused text) text e a) (told (WordRefused text) text f b)
+      reported_once (WordRefused text) text (words_one text) (λ c n h r x. laws.tokens.not_both text r.tokens h r.tokenized x) e f
+      (reported (WordRefused text) text e a) (reported (WordRefused text) text f b)
 
   -- and not where it writes something
   pub not_both_read : (text : List ℕ) (s : SchemaView) (e : GrammarError) → Writes text s → Refuses text e → ⊥
-  not_both_read text s e w r = go (told (SchemaRefused text) text e r)
+  not_both_read text s e w r = go (reported (SchemaRefused text) text e r)
     where
-      go : Told (SchemaRefused text) text e → ⊥
+      go : Reported (SchemaRefused text) text e → ⊥
       go (by_tokens f a is) = laws.tokens.not_both text w.tokens f w.tokenized a
       go (by_lexemes c n a is) =
           let P : List Token → Type 0 = λ ts. SchemaRefusal (lexemes text ts) c a.place in
           laws.one_schema (lexemes text w.tokens) s c a.place w.written w.counts (moved text a.tokens w.tokens P a.tokenized w.tokenized a.first.refused)
 
   pub not_both_words : (text : List ℕ) (x : ExprView) (e : GrammarError) → WritesWord text x → RefusesWord text e → ⊥
-  not_both_words text x e w r = go (told (WordRefused text) text e r)
+  not_both_words text x e w r = go (reported (WordRefused text) text e r)
     where
-      go : Told (WordRefused text) text e → ⊥
+      go : Reported (WordRefused text) text e → ⊥
       go (by_tokens f a is) = laws.tokens.not_both text w.tokens f w.tokenized a
       go (by_lexemes c n a is) =
           let P : List Token → Type 0 = λ ts. WordRefusal (lexemes text ts) c a.place in
@@ -209,19 +215,23 @@ module _ (laws : Laws) where
 
 -- ---- what is answered, by what holds of it
 
-pub answered_written : {X V : Type 0} (r : Result X GrammarError) (view : X → V) (W : V → Type 0) (R : GrammarError → Type 0)
+pub answered_written : {X V : Type 0} (r : Result X GrammarError) (view : X → V) (W : V → Type 0) (R : GrammarError
+    → Type 0)
     → ((v w : V) → W v → W w → v ≡ w) → ((v : V) (e : GrammarError) → W v → R e → ⊥) → IfRead r (λ x. W (view x)) R
     → (v : V) → W v → IfRead r (λ x. view x ≡ v) (λ e. ⊥)
 answered_written (Ok x) view W R one apart holds v w = one (view x) v holds w
 answered_written (Err e) view W R one apart holds v w = λ memory. apart v e w (holds memory)
 
-pub answered_refused : {X V : Type 0} (r : Result X GrammarError) (view : X → V) (W : V → Type 0) (R : GrammarError → Type 0)
-    → ((e f : GrammarError) → R e → R f → e ≡ f) → ((v : V) (e : GrammarError) → W v → R e → ⊥) → IfRead r (λ x. W (view x)) R
+pub answered_refused : {X V : Type 0} (r : Result X GrammarError) (view : X → V) (W : V → Type 0) (R : GrammarError
+    → Type 0)
+    → ((e f : GrammarError) → R e → R f → e ≡ f) → ((v : V) (e : GrammarError) → W v → R e → ⊥)
+    → IfRead r (λ x. W (view x)) R
     → (e : GrammarError) → R e → IfRead r (λ x. ⊥) (λ f. f ≡ e)
 answered_refused (Ok x) view W R one apart holds e refused = apart (view x) e holds refused
 answered_refused (Err f) view W R one apart holds e refused = λ memory. one f e (holds memory) refused
 
-pub answered_limits : {X V : Type 0} (r : Result X GrammarError) (view : X → V) (W L : V → Type 0) (R : GrammarError → Type 0)
+pub answered_limits : {X V : Type 0} (r : Result X GrammarError) (view : X → V) (W L : V → Type 0) (R : GrammarError
+    → Type 0)
     → ((v : V) → W v → L v) → IfRead r (λ x. W (view x)) R → IfRead r (λ x. L (view x)) (λ e. ⊤)
 answered_limits (Ok x) view W L R within holds = within (view x) holds
 answered_limits (Err e) view W L R within holds = λ memory. tt

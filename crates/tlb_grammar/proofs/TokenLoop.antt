@@ -19,25 +19,30 @@ placed-read text start [] h = tt
 placed-read text start (t ∷ ts) h =
     (record { within = record { forward = omega (arith, h.0.forward); within = h.0.within }; spelled = grind (arith, h.0.spelled) }, placed-read text t.to ts h.1)
 
-pub read_at : (text : List ℕ) (ts : List Token) (i : ℕ) (d : Token) → i < length ts → ArePlaced text ts → IsRead text (get_or ts i d)
+pub read_at : (text : List ℕ) (ts : List Token) (i : ℕ) (d : Token) → i < length ts → ArePlaced text ts
+    → IsRead text (get_or ts i d)
 read_at text [] i d h r = absurd (omega arith)
 read_at text (t ∷ ts) zero d h r = r.0
 read_at text (t ∷ ts) (suc i) d h r = read_at text ts i d (omega arith) r.1
 
-lexemes_from : (text : List ℕ) (ts : List Token) (i : ℕ) (d : Token) → i < length ts → lexemes text (drop i ts) ≡ lexeme_of text (get_or ts i d) ∷ lexemes text (drop (i + 1) ts)
+lexemes_from : (text : List ℕ) (ts : List Token) (i : ℕ) (d : Token) → i < length ts
+    → lexemes text (drop i ts) ≡ lexeme_of text (get_or ts i d) ∷ lexemes text (drop (i + 1) ts)
 lexemes_from text ts i d h = rw (add-one, drop-cons ts i d) refl
 
-stepped : (st : State) (t u : Lexeme) (ls all : List Lexeme) (o : Option State) → all ≡ t ∷ ls → u ≡ t → step st u ≡ o → run st all ≡ onward o (λ next. run next ls)
+stepped : (st : State) (t u : Lexeme) (ls all : List Lexeme) (o : Option State) → all ≡ t ∷ ls → u ≡ t → step st u ≡ o
+    → run st all ≡ onward o (λ next. run next ls)
 stepped st t u ls all o whole same e = ap (run st) whole ∙ ap (λ z. onward z (λ next. run next ls)) (ap (step st) (sym same) ∙ e)
 
 -- one token more
-pub step_on : (text : List ℕ) (ts : List Token) (i : ℕ) (d : Token) (st later : State) (u : Lexeme) (r : Option State) → i < length ts → u ≡ lexeme_of text (get_or ts i d)
+pub step_on : (text : List ℕ) (ts : List Token) (i : ℕ) (d : Token) (st later : State) (u : Lexeme) (r : Option State)
+    → i < length ts → u ≡ lexeme_of text (get_or ts i d)
     → step st u ≡ Some later → run st (lexemes text (drop i ts)) ≡ r → run later (lexemes text (drop (i + 1) ts)) ≡ r
 step_on text ts i d st later u r h same e kept =
     sym (stepped st (lexeme_of text (get_or ts i d)) u (lexemes text (drop (i + 1) ts)) (lexemes text (drop i ts)) (Some later) (lexemes_from text ts i d h) same e) ∙ kept
 
 -- a token that can't come
-pub stop_at : (text : List ℕ) (ts : List Token) (i : ℕ) (d : Token) (st : State) (u : Lexeme) (r : Option State) → i < length ts → u ≡ lexeme_of text (get_or ts i d)
+pub stop_at : (text : List ℕ) (ts : List Token) (i : ℕ) (d : Token) (st : State) (u : Lexeme) (r : Option State)
+    → i < length ts → u ≡ lexeme_of text (get_or ts i d)
     → step st u ≡ None → run st (lexemes text (drop i ts)) ≡ r → r ≡ None
 stop_at text ts i d st u r h same e kept =
     sym kept ∙ stepped st (lexeme_of text (get_or ts i d)) u (lexemes text (drop (i + 1) ts)) (lexemes text (drop i ts)) None (lexemes_from text ts i d h) same e
@@ -49,13 +54,16 @@ none_some : {X : Type 0} (x : X) → None ≡ Some x → ⊥
 none_some x e = cc
 
 -- what is built is what is written
-pub schema_found : (m : Bounds) (ls : List Lexeme) (found : Schema) → Some found.constructors ≡ built_schema ls → (s : SchemaView) → Declarations m ls s → view.schema found ≡ s
+pub schema_found : (m : Bounds) (ls : List Lexeme) (found : Schema) → Some found.constructors ≡ built_schema ls
+    → (s : SchemaView) → Declarations m ls s → view.schema found ≡ s
 schema_found m ls found e s w = let b = schema_built m ls s w in ap (map view.constructor) (some_one found.constructors b.value (e ∙ b.is)) ∙ b.same
 
-pub word_found : (m : Bounds) (ls : List Lexeme) (found : Expr) → Some found ≡ built_word ls → (e : ExprView) → TypeWord m ls e → view.expr found ≡ e
+pub word_found : (m : Bounds) (ls : List Lexeme) (found : Expr) → Some found ≡ built_word ls → (e : ExprView)
+    → TypeWord m ls e → view.expr found ≡ e
 word_found m ls found e t w = let b = word_built m ls t w in ap view.expr (some_one found b.value (e ∙ b.is)) ∙ b.same
 
-pub schema_is_found : (m : Bounds) (ls : List Lexeme) (s : SchemaView) → None ≡ built_schema ls → Declarations m ls s → ⊥
+pub schema_is_found : (m : Bounds) (ls : List Lexeme) (s : SchemaView) → None ≡ built_schema ls → Declarations m ls s
+    → ⊥
 schema_is_found m ls s e w = let b = schema_built m ls s w in none_some b.value (e ∙ b.is)
 
 pub word_is_found : (m : Bounds) (ls : List Lexeme) (e : ExprView) → None ≡ built_word ls → TypeWord m ls e → ⊥

@@ -30,7 +30,8 @@ below_seen es = search (rules, the_lemmas)
 pub up_to_seen : (es : List Expr) → view.expr (exprs.UpTo es) ≡ up_to (view.exprs es)
 up_to_seen es = search (rules, the_lemmas)
 
-pub sum_seen : (a b : Expr) (es : List Expr) → view.expr (exprs.Sum a b es) ≡ sum_of (view.expr a) (view.expr b) (map view.expr es)
+pub sum_seen : (a b : Expr) (es : List Expr)
+    → view.expr (exprs.Sum a b es) ≡ sum_of (view.expr a) (view.expr b) (map view.expr es)
 sum_seen a b es = search (rules, the_lemmas)
 
 pub star_seen : (a b : Expr) → view.expr (exprs.Star a b) ≡ star (view.expr a) (view.expr b)
@@ -51,7 +52,8 @@ plain_seen e = search (rules, the_lemmas)
 pub when_seen : (c e : Expr) → view.field_type (types.If c e) ≡ when (view.expr c) (view.expr e)
 when_seen c e = search (rules, the_lemmas)
 
-pub when_bit_seen : (c : Expr) (k : ℕ) (e : Expr) → view.field_type (types.IfBit c k e) ≡ when_bit (view.expr c) k (view.expr e)
+pub when_bit_seen : (c : Expr) (k : ℕ) (e : Expr)
+    → view.field_type (types.IfBit c k e) ≡ when_bit (view.expr c) k (view.expr e)
 when_bit_seen c k e = search (rules, the_lemmas)
 
 pub implicit_seen : (x : List ℕ) (k : ParamKind) → view.item (Implicit x k) ≡ implicit x k

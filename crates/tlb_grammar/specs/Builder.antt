@@ -19,7 +19,6 @@ use Rattle.tlb_syntax.specs.declared.tree.FieldType.{FieldType}
 use Rattle.tlb_syntax.specs.declared.tree.FieldType.TheVariants as types
 use Rattle.tlb_syntax.specs.declared.tree.Item.{Item}
 use Rattle.tlb_syntax.specs.declared.tree.Item.TheVariants.{Implicit, Check, Explicit}
-use Rattle.tlb_syntax.specs.declared.tree.Tag.{Tag}
 use Rattle.tlb_syntax.specs.declared.tree.Tag.TheVariants.{Computed, Given}
 use Rattle.tlb_syntax.specs.declared.tree.Constructor.{Constructor}
 use Rattle.tlb_syntax.specs.Lexeme.{Lexeme, word, blank, number, tag, sign, other}
@@ -127,8 +126,15 @@ abbrev pub with_field : List Item → Option (List ℕ) → FieldType → List I
 with_field is name t = with_item is (Explicit name t)
 
 abbrev pub with_param : Constructor → Expr → Constructor
-with_param c e = record { exotic = c.exotic; name = c.name; tag = c.tag; items = c.items; result = c.result; params =
-    c.params ++ e ∷ [] }
+with_param c e = record {
+  exotic = c.exotic;
+  name = c.name;
+  tag = c.tag;
+  items = c.items;
+  result = c.result;
+  params =
+      c.params ++ e ∷ [];
+}
 
 -- after a term that is part of this
 unfoldable pub after_term : Frame → Expr → Option ParserState

@@ -11,7 +11,7 @@ ghost use Rattle.tlb_grammar.specs.Builder.{at};
 ghost use Rattle.tlb_grammar.specs.Follows.{state, ArePlaced};
 
 use crate::builder::Builder;
-use crate::state::{ParserState, OpenSum};
+use crate::state::{OpenSum, ParserState};
 use sqlite_items::Items;
 use std::alloc::Global;
 use tlb_lexer::Token;

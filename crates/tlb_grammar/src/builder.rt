@@ -6,8 +6,8 @@ ghost use Rattle.tlb_grammar.specs.Builder as plain;
 ghost use Rattle.tlb_grammar.specs.Builder.{at};
 ghost use Rattle.tlb_grammar.specs.Follows.{under, state, Follows, Covered, IsBare, Removes, RemovesAny};
 
-use crate::parts::{comparison, after_term, kind, kind_end, result_of, tested_bit, width};
-use crate::state::{Frame, Guard, Heading, ParserState, OpenSum};
+use crate::parts::{after_term, comparison, kind, kind_end, result_of, tested_bit, width};
+use crate::state::{Frame, Guard, Heading, OpenSum, ParserState};
 use sqlite_items::{Boxed, Items};
 use std::alloc::Global;
 use tlb_memory::NoMemory;
@@ -239,7 +239,12 @@ impl Builder {
     }
 
     #[tactic(auto, unfolding(crate::specs::Builder::operated_sign))]
-    fn operated_sign(&mut self, sum: OpenSum, e: Expr, sign: Sign) -> Result<Option<ParserState>, NoMemory>
+    fn operated_sign(
+        &mut self,
+        sum: OpenSum,
+        e: Expr,
+        sign: Sign,
+    ) -> Result<Option<ParserState>, NoMemory>
         ensures { Follows self.new result (plain.operated_sign sign sum e (under self.old) self.old.done) }
     {
         match sign {
@@ -369,12 +374,19 @@ impl Builder {
 
     // Between items.
     #[tactic(auto, unfolding(crate::specs::Builder::items))]
-    fn items(&mut self, items: Items<Item>, next: Lexeme<'_>) -> Result<Option<ParserState>, NoMemory>
+    fn items(
+        &mut self,
+        items: Items<Item>,
+        next: Lexeme<'_>,
+    ) -> Result<Option<ParserState>, NoMemory>
         requires { IsSpelled next }
         ensures { Follows self.new result (plain.items (lexeme next.entry) items (under self.old) self.old.done) }
     {
         match next {
-            Lexeme::Name(text) => Ok(Some(ParserState::ItemName(items, Name::new(self.alloc, text)?))),
+            Lexeme::Name(text) => Ok(Some(ParserState::ItemName(
+                items,
+                Name::new(self.alloc, text)?,
+            ))),
             Lexeme::Blank => Ok(Some(ParserState::ItemBlank(items))),
             Lexeme::Number(_) => self.term_in(Frame::Field(items, None), next),
             Lexeme::BinaryTag(_) | Lexeme::HexTag(_) => {
@@ -417,7 +429,11 @@ impl Builder {
     }
 
     #[tactic(auto, unfolding(crate::specs::Builder::items_sign))]
-    fn items_sign(&mut self, items: Items<Item>, sign: Sign) -> Result<Option<ParserState>, NoMemory>
+    fn items_sign(
+        &mut self,
+        items: Items<Item>,
+        sign: Sign,
+    ) -> Result<Option<ParserState>, NoMemory>
         ensures { Follows self.new result (plain.items_sign sign items (under self.old) self.old.done) }
     {
         match sign {
@@ -492,7 +508,10 @@ impl Builder {
         ensures { Follows self.new result (plain.named (lexeme next.entry) items name (under self.old) self.old.done) }
     {
         match next {
-            Lexeme::Sign(Sign::Colon) => self.enter(Frame::Field(items, Some(name)), ParserState::Term),
+            Lexeme::Sign(Sign::Colon) => self.enter(
+                Frame::Field(items, Some(name)),
+                ParserState::Term,
+            ),
             _ => {
                 let args = Items::new(self.alloc);
                 self.typed(items, None, Expr::Named(name, args), next)
@@ -588,7 +607,11 @@ impl Builder {
 
     /// The mode after the lexeme, or `None` where it can't come.
     #[tactic(auto, unfolding(crate::specs::Builder::step_mode))]
-    pub(crate) fn step(&mut self, mode: ParserState, next: Lexeme<'_>) -> Result<Option<ParserState>, NoMemory>
+    pub(crate) fn step(
+        &mut self,
+        mode: ParserState,
+        next: Lexeme<'_>,
+    ) -> Result<Option<ParserState>, NoMemory>
         requires { IsSpelled next }
         ensures { Follows self.new result (plain.step (state mode self.old) (lexeme next.entry)) }
     {

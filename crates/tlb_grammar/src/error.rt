@@ -6,7 +6,7 @@ use tlb_memory::NoMemory;
 /// Why a text writes no schema, or a word no type. The number is the place in the text, a byte's offset from 0.
 #[derive(Clone, Copy, Debug, PartialEq, Eq, Error)]
 pub enum GrammarError {
-    /// The text is not cut into tokens.
+    /// The text has no tokens.
     #[error("{0}")]
     Lex(LexError),
     /// No declaration goes on with this token, or the text ends too soon.

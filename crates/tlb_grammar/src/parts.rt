@@ -12,7 +12,11 @@ use tlb_syntax::{Constructor, Expr, FieldType, Item, Lexeme, Name, Op, ParamKind
 
 /// The mode after a term that is part of this.
 #[tactic(auto, unfolding(crate::specs::Builder::after_term))]
-pub(crate) fn after_term(alloc: Global, frame: Frame, e: Expr) -> Result<Option<ParserState>, NoMemory>
+pub(crate) fn after_term(
+    alloc: Global,
+    frame: Frame,
+    e: Expr,
+) -> Result<Option<ParserState>, NoMemory>
     ensures { IfOk result (λ mode. mode ≡ plain.after_term frame e) }
 {
     match frame {

@@ -1,7 +1,8 @@
 -- What is kept of a schema.
-use Rattle.std.proofs.Common.{◌≡◌, ◌≤◌, ◌+◌, ◌∙◌, ap, sym, subst, refl, ℕ, Bool, true, false, List, [], ◌∷◌, arith}
+use Rattle.std.proofs.Common.{◌≡◌, ◌≤◌, refl, Bool, true, false, [], ◌∷◌, length, get_or, arith}
 use Rattle.std.specs.Prelude.{All, cond, count_by, filter, not, bytes_eq}
 use Rattle.std.proofs.lemmas.List.Elements.{All-filter, filter_passes}
+use Rattle.std.proofs.lemmas.List.Sums.{length-filter}
 use Rattle.tlb_syntax.specs.Limits.{IsWithinLimits}
 use Rattle.tlb_syntax.specs.Tree.{ConstructorView, SchemaView}
 use Rattle.kind_terms.specs.Classes.{is_dictionary}
@@ -11,13 +12,15 @@ use Rattle.tlb_kinds.specs.Refusals.{kept_of, ordinary}
 use Rattle.tlb_kinds.proofs.Loops.{kept_few, kept_within}
 use Rattle.tlb_kinds.proofs.Passing.{kinded_stays}
 
-counted : (b : Bool) (m n : ℕ) → m ≤ n → cond b (1 + m) m ≤ cond b (1 + n) n
-counted true m n h = omega arith
-counted false m n h = h
+longer : (b : Bool) (c : ConstructorView) (xs ys : SchemaView) → length xs ≤ length ys
+    → length (cond b (c ∷ xs) xs) ≤ length (cond b (c ∷ ys) ys)
+longer true c xs ys h = omega (arith, h)
+longer false c xs ys h = h
 
-at_most_one_more : (b : Bool) (m n : ℕ) → m ≤ n → m ≤ cond b (1 + n) n
-at_most_one_more true m n h = omega arith
-at_most_one_more false m n h = h
+one_longer : (b : Bool) (c : ConstructorView) (xs ys : SchemaView) → length xs ≤ length ys
+    → length xs ≤ length (cond b (c ∷ ys) ys)
+one_longer true c xs ys h = omega (arith, h)
+one_longer false c xs ys h = h
 
 module _ (out : ConstructorView → Bool) where
   abbrev keep : SchemaView → SchemaView
@@ -27,30 +30,26 @@ module _ (out : ConstructorView → Bool) where
   not_true true e = cc
   not_true false e = refl
 
-  each_out : (s : SchemaView) → All (λ c. not (out c) ≡ true) s → All (λ c. out c ≡ false) s
-  each_out [] all = all
-  each_out (c ∷ cs) all = (not_true (out c) all.0, each_out cs all.1)
-
   none_left : (s : SchemaView) → All (λ c. out c ≡ false) (keep s)
-  none_left s = each_out (keep s) (filter_passes (λ (c : ConstructorView). not (out c)) s)
+  none_left s = λ k d lt.
+      not_true (out (get_or (keep s) k d)) (filter_passes (λ (c : ConstructorView). not (out c)) s k d lt)
 
-  count_of_one : (p : ConstructorView → Bool) (c : ConstructorView) (cs kept : SchemaView) (a b : Bool) → p c ≡ b
-      → count_by p kept ≤ count_by p cs → count_by p (cond a (c ∷ kept) kept) ≤ count_by p (c ∷ cs)
-  count_of_one p c cs kept true b is less =
-      let count : ℕ → ℕ = λ n. cond b (1 + n) n in
-      let after : cond (p c) (1 + count_by p kept) (count_by p kept) ≡ count (count_by p kept) =
-      ap (λ z. cond z (1 + count_by p kept) (count_by p kept)) is in
-      let before : cond (p c) (1 + count_by p cs) (count_by p cs) ≡ count (count_by p cs) =
-      ap (λ z. cond z (1 + count_by p cs) (count_by p cs)) is in
-      subst (λ n. n ≤ count_by p (c ∷ cs)) (sym after)
-      (subst (λ n. count (count_by p kept) ≤ n) (sym before) (counted b (count_by p kept) (count_by p cs) less))
-  count_of_one p c cs kept false b is less =
-      subst (λ n. count_by p kept ≤ n) (sym (ap (λ z. cond z (1 + count_by p cs) (count_by p cs)) is))
-      (at_most_one_more b (count_by p kept) (count_by p cs) less)
+  module _ (p : ConstructorView → Bool) where
+    one_step : (a : Bool) (c : ConstructorView) (xs ys : SchemaView) → length (filter p xs) ≤ length (filter p ys)
+        → length (filter p (cond a (c ∷ xs) xs)) ≤ length (filter p (c ∷ ys))
+    one_step true c xs ys h = longer (p c) c (filter p xs) (filter p ys) h
+    one_step false c xs ys h = one_longer (p c) c (filter p xs) (filter p ys) h
 
-  count_left : (p : ConstructorView → Bool) (s : SchemaView) → count_by p (keep s) ≤ count_by p s
-  count_left p [] = omega arith
-  count_left p (c ∷ cs) = count_of_one p c cs (keep cs) (not (out c)) (p c) refl (count_left p cs)
+    filtered_left : (s : SchemaView) → length (filter p (keep s)) ≤ length (filter p s)
+    filtered_left [] = omega arith
+    filtered_left (c ∷ cs) = one_step (not (out c)) c (keep cs) cs (filtered_left cs)
+
+    count_left : (s : SchemaView) → count_by p (keep s) ≤ count_by p s
+    count_left s =
+        let less = filtered_left s in
+        let kept = length-filter p (keep s) in
+        let all = length-filter p s in
+        omega (arith, less, kept, all)
 
 pub kept_is_ordinary : KeptIsOrdinary
 kept_is_ordinary s =
@@ -67,11 +66,11 @@ kept_count p s =
 
 pub kept_stays_within : KeptStaysWithin
 kept_stays_within s within = record {
-  few = record {
-    all = (let less = kept_few s in omega (arith, less, within.few.all));
+  counts = record {
+    all = (let less = kept_few s in omega (arith, less, within.counts.all));
     of_one = λ x.
         let less = kept_count (λ (c : ConstructorView). bytes_eq c.result x) s in
-        omega (arith, less, within.few.of_one x);
+        omega (arith, less, within.counts.of_one x);
   };
   constructors = kept_within s within.constructors;
 }

@@ -113,7 +113,8 @@ is_symbol_class _ = false
 abbrev Opens : TokenKind → ℕ → List ℕ → Type 0
 Opens kind b bs = (kind ≡ kind_by (class b) bs) × IsTokenClass (class b)
 
-by_class : (kind : TokenKind) (b : ℕ) (bs : List ℕ) (k : Class) → class b ≡ k → kind ≡ kind_by k bs → IsTokenClass k → Opens kind b bs
+by_class : (kind : TokenKind) (b : ℕ) (bs : List ℕ) (k : Class) → class b ≡ k → kind ≡ kind_by k bs → IsTokenClass k
+    → Opens kind b bs
 by_class kind b bs k e f g =
     let P : Class → Type 0 = λ x. (kind ≡ kind_by x bs) × IsTokenClass x in subst P (sym e) (f, g)
 

@@ -35,7 +35,8 @@ passes p (x ∷ xs) =
       | false ↦ λ e. refl
     ] refl
 
-pub too_far : (p : ℕ → Bool) (xs : List ℕ) (m : ℕ) → prefix_len p xs < m → m ≤ length xs → list_all p (take m xs) ≡ true → ⊥
+pub too_far : (p : ℕ → Bool) (xs : List ℕ) (m : ℕ) → prefix_len p xs < m → m ≤ length xs
+    → list_all p (take m xs) ≡ true → ⊥
 too_far p [] m lt le e = absurd (omega arith)
 too_far p (x ∷ xs) zero lt le e = absurd (omega arith)
 too_far p (x ∷ xs) (suc m) lt le e =
@@ -59,11 +60,13 @@ bounded n len h =
     ] refl
 
 -- the first place that fails is the length of the prefix that passes
-pub first_failing : (p : ℕ → Bool) (bytes : List ℕ) → unwrap_or (position (λ b. not (p b)) bytes) (length bytes) ≡ prefix_len p bytes
+pub first_failing : (p : ℕ → Bool) (bytes : List ℕ)
+    → unwrap_or (position (λ b. not (p b)) bytes) (length bytes) ≡ prefix_len p bytes
 first_failing p bytes =
     bounded (prefix_len (λ x. not (not (p x))) bytes) (length bytes) (prefix_len-le-length (λ x. not (not (p x))) bytes) ∙ not_not p bytes
 
-pub none_fails : (p : ℕ → Bool) (bytes : List ℕ) (found : Option ℕ) → found ≡ position (λ b. not (p b)) bytes → found ≡ None → length bytes ≡ prefix_len p bytes
+pub none_fails : (p : ℕ → Bool) (bytes : List ℕ) (found : Option ℕ) → found ≡ position (λ b. not (p b)) bytes
+    → found ≡ None → length bytes ≡ prefix_len p bytes
 none_fails p bytes found e none = ap (λ o. unwrap_or o (length bytes)) (sym none ∙ e) ∙ first_failing p bytes
 
 -- what holds of each byte of a list holds of a byte that is among them

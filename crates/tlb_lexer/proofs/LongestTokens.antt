@@ -19,7 +19,8 @@ use Rattle.tlb_lexer.proofs.Classes.{tells, hexy, kind_by, LongSymbol, hashes, h
 abbrev pub Ends : Class → ℕ → ℕ → List ℕ → Type 0
 Ends k n b bs = (m : ℕ) → n < m → m ≤ length bs → spells (kind_by k (take m bs)) (b ∷ take m bs) ≡ true → ⊥
 
-past : (k : Class) (n b : ℕ) (bs : List ℕ) → class b ≡ k → Ends k n b bs → (m : ℕ) (other : TokenKind) → suc n < m → m ≤ length (b ∷ bs) → spells other (take m (b ∷ bs)) ≡ true → ⊥
+past : (k : Class) (n b : ℕ) (bs : List ℕ) → class b ≡ k → Ends k n b bs → (m : ℕ) (other : TokenKind) → suc n < m
+    → m ≤ length (b ∷ bs) → spells other (take m (b ∷ bs)) ≡ true → ⊥
 past k n b bs is ends zero other lt le e = absurd (omega arith)
 past k n b bs is ends (suc m) other lt le e =
     let o = opens_with other b (take m bs) e in
@@ -27,7 +28,8 @@ past k n b bs is ends (suc m) other lt le e =
     let P : TokenKind → Type 0 = λ x. spells x (b ∷ take m bs) ≡ true in
     ends m (omega arith) (omega arith) (subst P same e)
 
-pub longest_of : (kind : TokenKind) (k : Class) (size n b : ℕ) (bs : List ℕ) → class b ≡ k → size ≡ suc n → n ≤ length bs → spells kind (b ∷ take n bs) ≡ true → Ends k n b bs → Longest kind size (b ∷ bs)
+pub longest_of : (kind : TokenKind) (k : Class) (size n b : ℕ) (bs : List ℕ) → class b ≡ k → size ≡ suc n
+    → n ≤ length bs → spells kind (b ∷ take n bs) ≡ true → Ends k n b bs → Longest kind size (b ∷ bs)
 longest_of kind k size n b bs is one le sp ends =
     let P : ℕ → Type 0 = λ x. Longest kind x (b ∷ bs) in
     subst P (sym one) (record { within = omega arith; spelled = sp; longest = past k n b bs is ends })
@@ -36,16 +38,16 @@ pub name_longest : (b : ℕ) (bs : List ℕ) → class b ≡ Letter → Longest 
 name_longest b bs is =
     let n = prefix_len is_name_byte bs in
     let letter : is_letter b ≡ true = tells b Letter is in
-    let front = passes is_name_byte bs in
-    longest_of Name Letter (1 + n) n b bs is (omega arith) (prefix_len-le-length is_name_byte bs) (rw (letter, front) refl)
+    let prefix = passes is_name_byte bs in
+    longest_of Name Letter (1 + n) n b bs is (omega arith) (prefix_len-le-length is_name_byte bs) (rw (letter, prefix) refl)
     (λ m lt le e. too_far is_name_byte bs m lt le (and_parts (is_letter b) (list_all is_name_byte (take m bs)) e).1)
 
 pub number_longest : (b : ℕ) (bs : List ℕ) → class b ≡ Digit → Longest Number (1 + prefix_len is_digit bs) (b ∷ bs)
 number_longest b bs is =
     let n = prefix_len is_digit bs in
     let digit : is_digit b ≡ true = tells b Digit is in
-    let front = passes is_digit bs in
-    longest_of Number Digit (1 + n) n b bs is (omega arith) (prefix_len-le-length is_digit bs) (rw (digit, front) refl)
+    let prefix = passes is_digit bs in
+    longest_of Number Digit (1 + n) n b bs is (omega arith) (prefix_len-le-length is_digit bs) (rw (digit, prefix) refl)
     (λ m lt le e. too_far is_digit bs m lt le (and_parts (is_digit b) (list_all is_digit (take m bs)) e).1)
 
 one_underscore : (xs : List ℕ) → is_underscore xs ≡ true → length xs ≡ 1
@@ -79,7 +81,8 @@ binary_ends n b bs some within m lt le e =
       | inr h ↦ too_far is_bit bs m (omega arith) le (all_bits (take m bs) h)
     ]
 
-pub bits_longest : (b : ℕ) (bs : List ℕ) → class b ≡ Dollar → 0 < prefix_len is_bit bs → Longest BinaryTag (1 + prefix_len is_bit bs) (b ∷ bs)
+pub bits_longest : (b : ℕ) (bs : List ℕ) → class b ≡ Dollar → 0 < prefix_len is_bit bs
+    → Longest BinaryTag (1 + prefix_len is_bit bs) (b ∷ bs)
 bits_longest b bs is some =
     let n = prefix_len is_bit bs in
     let within = prefix_len-le-length is_bit bs in
@@ -94,7 +97,8 @@ starts_one x (c ∷ cs) e =
     let p = and_parts (nat_eq x c) true e in
     (cs, ap (λ y. y ∷ cs) (sym (eqb-true x c p.0)))
 
-pub empty_binary_longest : (b : ℕ) (bs : List ℕ) → class b ≡ Dollar → prefix_len is_bit bs ≡ 0 → starts_with nat_eq bs (codes "_") ≡ true → Longest BinaryTag 2 (b ∷ bs)
+pub empty_binary_longest : (b : ℕ) (bs : List ℕ) → class b ≡ Dollar → prefix_len is_bit bs ≡ 0
+    → starts_with nat_eq bs (codes "_") ≡ true → Longest BinaryTag 2 (b ∷ bs)
 empty_binary_longest b bs is none starts =
     let k = starts_one 95 bs starts in
     let same : b ≡ 36 = tells b Dollar is in
@@ -129,23 +133,24 @@ closes_at (c ∷ cs) =
 abbrev EndsHex : ℕ → ℕ → Bool → Type 0
 EndsHex m d closes = (m ≤ d) ⊎ ((m ≡ d + 1) × (closes ≡ true))
 
-pub hex_front : (bs : List ℕ) (m : ℕ) → m ≤ length bs → ends_hex (take m bs) ≡ true → EndsHex m (prefix_len is_hex_digit bs) (closes_hex bs)
-hex_front [] m le e = inl (omega arith)
-hex_front (c ∷ cs) zero le e = cc
-hex_front (c ∷ []) (suc zero) le e =
+pub hex_prefix : (bs : List ℕ) (m : ℕ) → m ≤ length bs → ends_hex (take m bs) ≡ true
+    → EndsHex m (prefix_len is_hex_digit bs) (closes_hex bs)
+hex_prefix [] m le e = inl (omega arith)
+hex_prefix (c ∷ cs) zero le e = cc
+hex_prefix (c ∷ []) (suc zero) le e =
     elim (is_hex_digit c) as (λ t. (t || c == 95) ≡ true → EndsHex 1 (cond t (1 + 0) 0) (if t then false else c == 95)) [
       | true ↦ λ h. inl (omega arith)
       | false ↦ λ h. inr (omega arith, h)
     ] e
-hex_front (c ∷ []) (suc (suc m)) le e = absurd (omega arith)
-hex_front (c ∷ d ∷ cs) (suc zero) le e =
+hex_prefix (c ∷ []) (suc (suc m)) le e = absurd (omega arith)
+hex_prefix (c ∷ d ∷ cs) (suc zero) le e =
     elim (is_hex_digit c) as (λ t. (t || c == 95) ≡ true → EndsHex 1 (cond t (1 + prefix_len is_hex_digit (d ∷ cs)) 0) (if t then closes_hex (d ∷ cs) else c == 95)) [
       | true ↦ λ h. inl (omega arith)
       | false ↦ λ h. inr (omega arith, h)
     ] e
-hex_front (c ∷ d ∷ cs) (suc (suc m)) le e =
+hex_prefix (c ∷ d ∷ cs) (suc (suc m)) le e =
     let p = and_parts (is_hex_digit c) (ends_hex (d ∷ take m cs)) e in
-    let h = hex_front (d ∷ cs) (suc m) (omega arith) p.1 in
+    let h = hex_prefix (d ∷ cs) (suc m) (omega arith) p.1 in
     rw p.0 (elim h [ inl k ↦ inl (omega arith) | inr k ↦ inr (omega (arith, k.0), k.1) ])
 
 ends_cons : (c : ℕ) (xs : List ℕ) → is_hex_digit c ≡ true → ends_hex xs ≡ true → ends_hex (c ∷ xs) ≡ true
@@ -188,29 +193,32 @@ hexy_take [] (suc m) some = refl
 hexy_take (c ∷ cs) zero some = absurd (omega arith)
 hexy_take (c ∷ cs) (suc m) some = refl
 
-hex_ends : (n b : ℕ) (bs : List ℕ) → hexy bs ≡ true → ((m : ℕ) → n < m → EndsHex m (prefix_len is_hex_digit bs) (closes_hex bs) → ⊥) → Ends NumberSign n b bs
+hex_ends : (n b : ℕ) (bs : List ℕ) → hexy bs ≡ true
+    → ((m : ℕ) → n < m → EndsHex m (prefix_len is_hex_digit bs) (closes_hex bs) → ⊥) → Ends NumberSign n b bs
 hex_ends n b bs h f m lt le e =
     let is_hex : hexy (take m bs) ≡ true = hexy_take bs m (omega arith) ∙ h in
     let P : Bool → Type 0 = λ t. spells (if t then HexTag else Symbol) (b ∷ take m bs) ≡ true in
     let tag : is_hex_tag (b ∷ take m bs) ≡ true = subst P is_hex e in
-    f m lt (hex_front bs m le (and_parts (b == 35) (ends_hex (take m bs)) tag).1)
+    f m lt (hex_prefix bs m le (and_parts (b == 35) (ends_hex (take m bs)) tag).1)
 
-pub closed_longest : (b : ℕ) (bs : List ℕ) → class b ≡ NumberSign → closes_hex bs ≡ true → Longest HexTag (prefix_len is_hex_digit bs + 2) (b ∷ bs)
+pub closed_longest : (b : ℕ) (bs : List ℕ) → class b ≡ NumberSign → closes_hex bs ≡ true
+    → Longest HexTag (prefix_len is_hex_digit bs + 2) (b ∷ bs)
 closed_longest b bs is closes =
     let d = prefix_len is_hex_digit bs in
     let same : b ≡ 35 = tells b NumberSign is in
-    let front = hex_closed bs closes in
-    let first : hexy bs ≡ true = sym (hexy_take bs (suc d) (omega arith)) ∙ hexy_of (take (suc d) bs) front in
-    longest_of HexTag NumberSign (d + 2) (suc d) b bs is (omega arith) (closed_within bs closes) (rw (same, front) refl)
+    let prefix = hex_closed bs closes in
+    let first : hexy bs ≡ true = sym (hexy_take bs (suc d) (omega arith)) ∙ hexy_of (take (suc d) bs) prefix in
+    longest_of HexTag NumberSign (d + 2) (suc d) b bs is (omega arith) (closed_within bs closes) (rw (same, prefix) refl)
     (hex_ends (suc d) b bs first (λ m lt k. elim k [ inl x ↦ absurd (omega arith) | inr x ↦ absurd (omega (arith, x.0)) ]))
 
-pub hex_longest : (b : ℕ) (bs : List ℕ) → class b ≡ NumberSign → 0 < prefix_len is_hex_digit bs → closes_hex bs ≡ false → Longest HexTag (prefix_len is_hex_digit bs + 1) (b ∷ bs)
+pub hex_longest : (b : ℕ) (bs : List ℕ) → class b ≡ NumberSign → 0 < prefix_len is_hex_digit bs
+    → closes_hex bs ≡ false → Longest HexTag (prefix_len is_hex_digit bs + 1) (b ∷ bs)
 hex_longest b bs is some open_end =
     let d = prefix_len is_hex_digit bs in
     let same : b ≡ 35 = tells b NumberSign is in
-    let front : ends_hex (take d bs) ≡ true = hex_run bs d some (omega arith) in
-    let first : hexy bs ≡ true = sym (hexy_take bs d some) ∙ hexy_of (take d bs) front in
-    longest_of HexTag NumberSign (d + 1) d b bs is (omega arith) (prefix_len-le-length is_hex_digit bs) (rw (same, front) refl)
+    let prefix : ends_hex (take d bs) ≡ true = hex_run bs d some (omega arith) in
+    let first : hexy bs ≡ true = sym (hexy_take bs d some) ∙ hexy_of (take d bs) prefix in
+    longest_of HexTag NumberSign (d + 1) d b bs is (omega arith) (prefix_len-le-length is_hex_digit bs) (rw (same, prefix) refl)
     (hex_ends d b bs first (λ m lt k. elim k [ inl x ↦ absurd (omega arith) | inr x ↦ absurd (clash _ x.1 open_end) ]))
 
 pub not_hexy : (bs : List ℕ) → prefix_len is_hex_digit bs ≡ 0 → closes_hex bs ≡ false → hexy bs ≡ false
@@ -238,7 +246,8 @@ not_same c n e t same = let P : ℕ → Type 0 = λ x. (x == n) ≡ false in cla
 size_of : (m : ℕ) (cs xs : List ℕ) → m ≤ length cs → take m cs ≡ xs → m ≡ length xs
 size_of m cs xs le e = sym (length-take-le m cs le) ∙ ap length e
 
-symbol_ends : (k : Class) (n b c : ℕ) (cs : List ℕ) → ((m : ℕ) → 0 < m → kind_by k (take m (c ∷ cs)) ≡ Symbol) → ((m : ℕ) → n < suc m → m ≤ length cs → LongSymbol b c (take m cs) → ⊥) → Ends k n b (c ∷ cs)
+symbol_ends : (k : Class) (n b c : ℕ) (cs : List ℕ) → ((m : ℕ) → 0 < m → kind_by k (take m (c ∷ cs)) ≡ Symbol)
+    → ((m : ℕ) → n < suc m → m ≤ length cs → LongSymbol b c (take m cs) → ⊥) → Ends k n b (c ∷ cs)
 symbol_ends k n b c cs is f zero lt le e = absurd (omega arith)
 symbol_ends k n b c cs is f (suc m) lt le e =
     let P : TokenKind → Type 0 = λ x. spells x (b ∷ c ∷ take m cs) ≡ true in
@@ -247,10 +256,12 @@ symbol_ends k n b c cs is f (suc m) lt le e =
 no_bytes : (k : Class) (n b : ℕ) → Ends k n b []
 no_bytes k n b m lt le e = absurd (omega arith)
 
-plain_hash : (c : ℕ) (cs : List ℕ) → hexy (c ∷ cs) ≡ false → (m : ℕ) → 0 < m → kind_by NumberSign (take m (c ∷ cs)) ≡ Symbol
+plain_hash : (c : ℕ) (cs : List ℕ) → hexy (c ∷ cs) ≡ false → (m : ℕ) → 0 < m
+    → kind_by NumberSign (take m (c ∷ cs)) ≡ Symbol
 plain_hash c cs h m some = let e : hexy (take m (c ∷ cs)) ≡ false = hexy_take (c ∷ cs) m some ∙ h in rw e refl
 
-hash_alone : (b : ℕ) (bs : List ℕ) → class b ≡ NumberSign → hash_symbol_len bs ≡ 1 → Ends NumberSign 0 b bs → Longest Symbol (hash_symbol_len bs) (b ∷ bs)
+hash_alone : (b : ℕ) (bs : List ℕ) → class b ≡ NumberSign → hash_symbol_len bs ≡ 1 → Ends NumberSign 0 b bs
+    → Longest Symbol (hash_symbol_len bs) (b ∷ bs)
 hash_alone b bs is one ends =
     let same : b ≡ 35 = tells b NumberSign is in
     longest_of Symbol NumberSign (hash_symbol_len bs) 0 b bs is (omega arith) (omega arith) (rw same refl) ends
@@ -309,7 +320,8 @@ hash_by_angle b (d ∷ cs) is =
       | inr ne ↦ let other = flip_false d 61 ne in rw other (hash_angle b d cs is ne)
     ]
 
-pub hash_longest : (b : ℕ) (bs : List ℕ) → class b ≡ NumberSign → hexy bs ≡ false → Longest Symbol (hash_symbol_len bs) (b ∷ bs)
+pub hash_longest : (b : ℕ) (bs : List ℕ) → class b ≡ NumberSign → hexy bs ≡ false
+    → Longest Symbol (hash_symbol_len bs) (b ∷ bs)
 hash_longest b [] is h = hash_alone b [] is refl (no_bytes NumberSign 0 b)
 hash_longest b (c ∷ cs) is h =
     elim (same_or_not c 35) as (λ _. Longest Symbol (hash_symbol_len (c ∷ cs)) (b ∷ c ∷ cs)) [
@@ -342,7 +354,8 @@ angle_equal_longest b cs is =
       | angle_equal x y z ↦ absurd (omega (arith, size_of m cs [] le z))
     ]))
 
-pub two_longest : (b : ℕ) (bs : List ℕ) → class b ≡ Angle → starts_with nat_eq bs (codes "=") ≡ true → Longest Symbol 2 (b ∷ bs)
+pub two_longest : (b : ℕ) (bs : List ℕ) → class b ≡ Angle → starts_with nat_eq bs (codes "=") ≡ true
+    → Longest Symbol 2 (b ∷ bs)
 two_longest b bs is starts =
     let k = starts_one 61 bs starts in rw k.1 (angle_equal_longest b k.0 is)
 
@@ -353,7 +366,8 @@ angle_sign b e =
       | inr h ↦ let same : b ≡ 62 = eqb-true b 62 h in rw same refl
     ]
 
-pub angle_longest : (b : ℕ) (bs : List ℕ) → class b ≡ Angle → starts_with nat_eq bs (codes "=") ≡ false → Longest Symbol 1 (b ∷ bs)
+pub angle_longest : (b : ℕ) (bs : List ℕ) → class b ≡ Angle → starts_with nat_eq bs (codes "=") ≡ false
+    → Longest Symbol 1 (b ∷ bs)
 angle_longest b bs is starts =
     longest_of Symbol Angle 1 0 b bs is (omega arith) (omega arith) (angle_sign b (tells b Angle is)) (ends bs starts)
   where
@@ -363,7 +377,8 @@ angle_longest b bs is starts =
       | hashes x y z ↦ not_hash b is x
       | hash_less x y z ↦ not_hash b is x
       | hash_less_equal x y z ↦ not_hash b is x
-      | angle_equal x y z ↦ let P : ℕ → Type 0 = λ w. starts_with nat_eq (w ∷ cs) (codes "=") ≡ false in clash true refl (subst P y starts)
+      | angle_equal x y z ↦ let P : ℕ
+          → Type 0 = λ w. starts_with nat_eq (w ∷ cs) (codes "=") ≡ false in clash true refl (subst P y starts)
     ])
 
 pub sign_longest : (b : ℕ) (bs : List ℕ) → class b ≡ Sign → Longest Symbol 1 (b ∷ bs)

@@ -53,4 +53,4 @@ Begins kind after found = (first : ℕ) → class first ≡ kind → IsFirstStre
 abbrev pub hash_symbol_len : List ℕ → ℕ
 hash_symbol_len after =
     if starts_with nat_eq after (codes "#") then 2 else if starts_with nat_eq after (codes "<=") then 3
-        else if starts_with nat_eq after (codes "<") then 2 else 1
+    else if starts_with nat_eq after (codes "<") then 2 else 1

@@ -1,5 +1,5 @@
--- How a schema's text is cut into tokens: at each place the longest spelling, with white space and
--- comments between. The signs of comments are those of the TON documentation on TL-B.
+-- How a schema's text is tokenized: at each place the longest spelling, with white space and comments between. The
+-- signs of comments are those of the TON documentation on TL-B.
 use Rattle.std.specs.Prelude.{ℕ, ◌≡◌, ◌+◌, ◌-◌, ◌<◌, ◌≤◌, true, List, [], ◌∷◌, length, take, drop, codes}
 use Rattle.std.specs.List.{prefix_len}
 use Rattle.tlb_lexer.specs.declared.TokenKind.{TokenKind}
@@ -26,7 +26,7 @@ OccursAt mark place bytes = take (length mark) (drop place bytes) ≡ mark
 
 -- and at no earlier place
 pub record OccursFirstAt (mark : List ℕ) (place : ℕ) (bytes : List ℕ) : Type 0 where
-  pub stands : OccursAt mark place bytes
+  pub occurs : OccursAt mark place bytes
   pub first : (earlier : ℕ) → earlier < place → OccursAt mark earlier bytes → ⊥
 
 -- one byte of white space stands first
@@ -67,7 +67,7 @@ pub record IsNothing (text : List ℕ) : Type 0 where
   pub no_token : (kind : TokenKind) (n : ℕ) → n ≤ length text → spells kind (take n text) ≡ true → ⊥
   pub no_comment : IsOpenComment text → ⊥
 
--- what is left of a text from a place on is cut into these tokens
+-- what is left of a text from a place on has these tokens
 pub data TokenizesFrom : ℕ → List ℕ → List Token → Type 0 where
   ended : {place : ℕ} → TokenizesFrom place [] []
   gap : {place n : ℕ} {text : List ℕ} {tokens : List Token} → IsGap n text
@@ -76,18 +76,19 @@ pub data TokenizesFrom : ℕ → List ℕ → List Token → Type 0 where
       → (kind ≡ Name → n ≤ longest_name) → TokenizesFrom (place + n) (drop n text) tokens
       → TokenizesFrom place text (record { kind = kind; from = place; to = place + n } ∷ tokens)
 
--- what is left of a text from a place on is cut no further than to the place of this refusal
+-- what is left of a text from a place on has tokens to the place of this refusal, and none there
 pub data TokenRefusalFrom : ℕ → List ℕ → LexError → Type 0 where
   after_gap : {place n : ℕ} {text : List ℕ} {error : LexError} → IsGap n text
       → TokenRefusalFrom (place + n) (drop n text) error → TokenRefusalFrom place text error
   after_token : {place n : ℕ} {text : List ℕ} {kind : TokenKind} {error : LexError} → Longest kind n text
-      → (kind ≡ Name → n ≤ longest_name) → TokenRefusalFrom (place + n) (drop n text) error → TokenRefusalFrom place text error
+      → (kind ≡ Name → n ≤ longest_name) → TokenRefusalFrom (place + n) (drop n text) error
+      → TokenRefusalFrom place text error
   bad_character : {place : ℕ} {text : List ℕ} → IsNothing text → TokenRefusalFrom place text (BadCharacter place)
   open_comment : {place : ℕ} {text : List ℕ} → IsOpenComment text → TokenRefusalFrom place text (OpenComment place)
   too_long_name : {place n : ℕ} {text : List ℕ} → Longest Name n text → longest_name < n
       → TokenRefusalFrom place text (TooLongName place)
 
--- the text is cut into these tokens
+-- the text has these tokens
 abbrev pub Tokenizes : List ℕ → List Token → Type 0
 Tokenizes text tokens = TokenizesFrom 0 text tokens
 

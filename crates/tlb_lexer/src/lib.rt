@@ -1,4 +1,4 @@
-//! The tokens of a TL-B schema: a text of bytes is cut at each place into the longest spelling, with white
+//! The tokens of a TL-B schema: a text of bytes is divided at each place into the longest spelling, with white
 //! space and comments between. The signs are those of the TON documentation on TL-B; where that leaves a
 //! spelling open, the definitions of this crate fix it.
 #![tactic(auto)]
@@ -43,7 +43,7 @@ pub struct Token {
     pub to: u32,
 }
 
-/// Why a text is not cut. The number is the place in the text, a byte's offset from 0.
+/// Why a text has no tokens. The number is the place in the text, a byte's offset from 0.
 #[derive(Clone, Copy, Debug, PartialEq, Eq, Error)]
 pub enum LexError {
     /// A byte that begins no token, no white space and no comment.
@@ -119,7 +119,7 @@ fn tokenize(alloc: Global, text: &[u8]) -> Result<Vec<Token>, LexError>
     Ok(tokens)
 }
 
-/// Cuts a text of at most 1,048,576 bytes into its tokens. White space (space, tab, carriage return, line
+/// The tokens of a text of at most 1,048,576 bytes. White space (space, tab, carriage return, line
 /// feed) and comments stand freely between: `//` to the end of its line, which a line feed alone or the
 /// text's end ends, and `/*` to the next `*/` after it.
 pub fn tokens(alloc: Global, text: &[u8]) -> Result<Vec<Token>, LexError>
@@ -127,7 +127,8 @@ pub fn tokens(alloc: Global, text: &[u8]) -> Result<Vec<Token>, LexError>
     // What is answered holds of the text.
     ensures holds { IfAnswered result (λ ts. Tokenizes text.now ts.items) (λ e. TokenRefusal text.now e) }
     // The tokens of the text are answered, unless memory runs out.
-    ensures tokenized { (ts : List Token) → Tokenizes text.now ts → IfAnswered result (λ found. found.items ≡ ts) (λ _. ⊥) }
+    ensures tokenized { (ts : List Token) → Tokenizes text.now ts
+        → IfAnswered result (λ found. found.items ≡ ts) (λ _. ⊥) }
     // The refusal of the text is answered, unless memory runs out.
     ensures refused { (e : LexError) → TokenRefusal text.now e → IfAnswered result (λ _. ⊥) (λ found. found ≡ e) }
     // The tokens stand in order within the text, and their bytes spell their kinds.

@@ -149,7 +149,7 @@ fn stretch_by(kind: Class, after: &[u8]) -> Stretch
 pub fn first_stretch(text: &[u8]) -> Stretch
     requires not_ended { 0 < length text.now }
     requires within { length text.now ≤ 1048576 }
-    ensures stands { IsFirstStretch text.now result }
+    ensures first { IsFirstStretch text.now result }
     ensures advances { Advances text.now result }
 {
     stretch_by(class_of(text[0]), &text[1..])

@@ -115,14 +115,15 @@ record WritesItem (d : Count) (i : ItemView) (r : List Lexeme) : Type 0 where
 record WritesItems (d k : Count) (is : ItemList) (r : List Lexeme) : Type 0 where
   rest : AreOfText r
   shallow : AtMost d (levels_in is)
-  few : AtMost k (item_count is)
+  counted : AtMost k (item_count is)
   formed : AreItems is
 
 heads : {l : Lexeme} {x : Option (List ℕ)} → Heads l x → IsOfText l → IsWordOrNone x
 heads by_name h = h
 heads by_blank h = tt
 
-moved : (p q : Precedence) (d : Count) (e : ExprView) (r : List Lexeme) → levels q e ≤ levels p e → Writes p d e r → Writes q d e r
+moved : (p q : Precedence) (d : Count) (e : ExprView) (r : List Lexeme) → levels q e ≤ levels p e → Writes p d e r
+    → Writes q d e r
 moved p q d e r h w = record { rest = w.rest; shallow = less d (levels q e) (levels p e) h w.shallow; formed = w.formed }
 
 alone : (e : ExprView) → levels_of (an_expr e no_exprs) ≤ levels in_term e
@@ -144,7 +145,7 @@ mutual
       record { rest = w.rest.1; shallow = less d (levels in_term e) (levels in_sum e + 1) (in-parens e) (one-more d left (levels in_sum e) p w.shallow); formed = w.formed }
   term {d} (a_record {left = left} {is = is} p t) h =
       let w = items t h.1 in
-      record { rest = w.rest.1; shallow = one-more d left (levels_in is) p w.shallow; formed = (w.few, w.formed) }
+      record { rest = w.rest.1; shallow = one-more d left (levels_in is) p w.shallow; formed = (w.counted, w.formed) }
 
   terms : {d : Count} {s r : List Lexeme} {es : ExprList} → Terms standard d s es r → AreOfText s → WritesAll d es r
   terms {d} no_terms h = record { rest = h; shallow = zero-levels d; formed = tt }
@@ -153,7 +154,8 @@ mutual
       let ws = terms ts w.rest in
       record { rest = ws.rest; shallow = both d (levels in_term e) (levels_of es) w.shallow ws.shallow; formed = (w.formed, ws.formed) }
 
-  apply : {d : Count} {s r : List Lexeme} {e : ExprView} → Apply standard d s e r → AreOfText s → Writes in_application d e r
+  apply : {d : Count} {s r : List Lexeme} {e : ExprView} → Apply standard d s e r → AreOfText s
+      → Writes in_application d e r
   apply {d} (of_name {x = x} {es = es} ts) h =
       let w = terms ts h.1 in
       record { rest = w.rest; shallow = less d (levels in_application (named x es)) (levels_of es) (name-levels x es) w.shallow; formed = (h.0, w.formed) }
@@ -168,7 +170,8 @@ mutual
       record { rest = w.rest; shallow = less d (levels_of (an_expr e no_exprs)) (levels in_term e) (alone e) w.shallow; formed = (refl, (w.formed, tt)) }
   apply {d} {r = r} {e = e} (of_term t) h = moved in_term in_application d e r (as-application e) (term t h)
 
-  product : {d : Count} {s r : List Lexeme} {e : ExprView} → Product standard d s e r → AreOfText s → Writes in_product d e r
+  product : {d : Count} {s r : List Lexeme} {e : ExprView} → Product standard d s e r → AreOfText s
+      → Writes in_product d e r
   product {d} {r = r} {e = e} (one_factor t) h = moved in_application in_product d e r (as-product e) (apply t h)
   product {d} (two_factors {a = a} {b = b} t u) h =
       let w = apply t h in
@@ -178,7 +181,8 @@ mutual
   sum : {d : Count} {s r : List Lexeme} {e : ExprView} → Sum standard d s e r → AreOfText s → Writes in_sum d e r
   sum {d} (a_sum {mid = mid} {a = a} t us) h = addends us (moved in_product in_sum d a mid (as-sum a) (product t h))
 
-  addends : {d : Count} {a e : ExprView} {s r : List Lexeme} → Addends standard d a s e r → Writes in_sum d a s → Writes in_sum d e r
+  addends : {d : Count} {a e : ExprView} {s r : List Lexeme} → Addends standard d a s e r → Writes in_sum d a s
+      → Writes in_sum d e r
   addends no_addend w = w
   addends {d} (an_addend {mid = mid} {a = a} {b = b} t us) w =
       let v = product t w.rest.1 in
@@ -192,10 +196,10 @@ mutual
       let w = term t h in
       let v = term u w.rest.1 in
       record { rest = v.rest; shallow = both d (levels in_term c) (levels in_term e) w.shallow v.shallow; formed = (w.formed, v.formed) }
-  typed {d} (on_bit {c = c} {e = e} few t u) h =
+  typed {d} (on_bit {c = c} {e = e} counted t u) h =
       let w = term t h in
       let v = term u w.rest.1.1.1 in
-      record { rest = v.rest; shallow = both d (levels in_term c) (levels in_term e) w.shallow v.shallow; formed = (w.formed, few, v.formed) }
+      record { rest = v.rest; shallow = both d (levels in_term c) (levels in_term e) w.shallow v.shallow; formed = (w.formed, counted, v.formed) }
 
   item : {d : Count} {s r : List Lexeme} {i : ItemView} → AnItem standard d s i r → AreOfText s → WritesItem d i r
   item {d} of_numbers h = record { rest = h.1.1.1.1.1; shallow = zero-levels d; formed = h.1.0 }
@@ -211,27 +215,28 @@ mutual
       let w = typed t h in
       record { rest = w.rest; shallow = w.shallow; formed = (tt, w.formed) }
 
-  items : {d k : Count} {s r : List Lexeme} {is : ItemList} → Items standard d k s is r → AreOfText s → WritesItems d k is r
-  items {d} {k} no_item h = record { rest = h; shallow = zero-levels d; few = zero-levels k; formed = tt }
+  items : {d k : Count} {s r : List Lexeme} {is : ItemList} → Items standard d k s is r → AreOfText s
+      → WritesItems d k is r
+  items {d} {k} no_item h = record { rest = h; shallow = zero-levels d; counted = zero-levels k; formed = tt }
   items {d} {k} (one_item {left = left} {i = i} {is = is} p t ts) h =
       let w = item t h in
       let ws = items ts w.rest in
-      record { rest = ws.rest; shallow = both d (item_levels i) (levels_in is) w.shallow ws.shallow; few = one-more k left (item_count is) p ws.few; formed = (w.formed, ws.formed) }
+      record { rest = ws.rest; shallow = both d (item_levels i) (levels_in is) w.shallow ws.shallow; counted = one-more k left (item_count is) p ws.counted; formed = (w.formed, ws.formed) }
 
 -- ---- declarations
 
 record WritesParams (k : Count) (es : ExprList) (r : List Lexeme) : Type 0 where
   rest : AreOfText r
   shallow : levels_of es ≤ 64
-  few : AtMost k (expr_count es)
+  counted : AtMost k (expr_count es)
   formed : AreExprs es
 
 params : {k : Count} {s r : List Lexeme} {es : ExprList} → Params standard k s es r → AreOfText s → WritesParams k es r
-params {k} no_param h = record { rest = h; shallow = omega arith; few = zero-levels k; formed = tt }
+params {k} no_param h = record { rest = h; shallow = omega arith; counted = zero-levels k; formed = tt }
 params {k} (a_param {left = left} {e = e} {es = es} p t ts) h =
     let w = term t h in
     let ws = params ts w.rest in
-    record { rest = ws.rest; shallow = both (Some 64) (levels in_term e) (levels_of es) w.shallow ws.shallow; few = one-more k left (expr_count es) p ws.few; formed = (w.formed, ws.formed) }
+    record { rest = ws.rest; shallow = both (Some 64) (levels in_term e) (levels_of es) w.shallow ws.shallow; counted = one-more k left (expr_count es) p ws.counted; formed = (w.formed, ws.formed) }
 
 tags : {s r : List Lexeme} {t : TagView} → Tagged s t r → AreOfText s → IsTag t × AreOfText r
 tags tagged h = (h.0, h.1)
@@ -241,7 +246,8 @@ record WritesConstructor (c : ConstructorView) (r : List Lexeme) : Type 0 where
   rest : AreOfText r
   formed : IsConstructor c
 
-declared : {exotic : Bool} {s r : List Lexeme} {c : ConstructorView} → Declared standard exotic s c r → AreOfText s → WritesConstructor c r
+declared : {exotic : Bool} {s r : List Lexeme} {c : ConstructorView} → Declared standard exotic s c r → AreOfText s
+    → WritesConstructor c r
 declared (a_declaration x t is ps) h =
     let g = tags t h.1 in
     let w = items is g.1 in
@@ -252,16 +258,17 @@ declared (a_declaration x t is ps) h =
         name = heads x h.0;
         tag = g.0;
         items = w.formed;
-        item_count = w.few;
+        item_count = w.counted;
         item_levels = w.shallow;
         type_name = w.rest.1.0;
         params = p.formed;
-        param_count = p.few;
+        param_count = p.counted;
         param_levels = p.shallow;
       };
     }
 
-declaration : {s r : List Lexeme} {c : ConstructorView} → Declaration standard s c r → AreOfText s → WritesConstructor c r
+declaration : {s r : List Lexeme} {c : ConstructorView} → Declaration standard s c r → AreOfText s
+    → WritesConstructor c r
 declaration (of_ordinary d) h = declared d h
 declaration (of_exotic d) h = declared d h.1
 
@@ -271,8 +278,9 @@ declarations (one_more d ds) h =
     let w = declaration d h in
     (w.formed, declarations ds w.rest)
 
-pub within_limits : (ls : List Lexeme) (s : SchemaView) → Declarations standard ls s → AreOfText ls → WithinCounts s → IsWithinLimits s
-within_limits ls s d h few = record { counts = few; constructors = declarations d h }
+pub within_limits : (ls : List Lexeme) (s : SchemaView) → Declarations standard ls s → AreOfText ls → WithinCounts s
+    → IsWithinLimits s
+within_limits ls s d h counted = record { counts = counted; constructors = declarations d h }
 
 pub word_within : (ls : List Lexeme) (e : ExprView) → TypeWord standard ls e → AreOfText ls → IsWordWithinLimits e
 word_within ls e d h = let w = sum d h in record { expression = w.formed; levels = w.shallow }

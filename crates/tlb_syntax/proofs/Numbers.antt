@@ -26,7 +26,8 @@ pub too-large : (ds : List ℕ) (i n : ℕ) → i < length ds → decimal_onto n
 too-large ds i n h e large =
     number_of-large ds (omega (arith, large, next-digit ds i n h e, decimal_onto-ge (10 * n + (get_or ds i 0 - 48)) (drop (i + 1) ds)))
 
-pub read-all : (ds : List ℕ) (i n : ℕ) → length ds ≤ i → n < 2 ^ 32 → decimal_onto n (drop i ds) ≡ decimal_onto 0 ds → number_of ds ≡ Some n
+pub read-all : (ds : List ℕ) (i n : ℕ) → length ds ≤ i → n < 2 ^ 32 → decimal_onto n (drop i ds) ≡ decimal_onto 0 ds
+    → number_of ds ≡ Some n
 read-all ds i n h small e =
     let f : ℕ → Option ℕ = λ m. Some m in
     let is : decimal_onto 0 ds ≡ n = sym e ∙ at_drop_all (decimal_onto n) ds i h in

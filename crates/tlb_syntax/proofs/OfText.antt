@@ -33,27 +33,28 @@ a-symbol (s ∷ ss) text = chosen (bytes_eq (sign_text s) text) s (sign_among ss
 
 -- ---- tags
 
-few-bits : (bits : List ℕ) (b : Bool) → nat_le (length bits) 1023 ≡ b → AreBits bits → IsOfText (tag (if b then Some bits else None))
-few-bits bits true h are = record { are_bits = are; short = grind (arith, nat_tests, h) }
-few-bits bits false h are = tt
+short-bits : (bits : List ℕ) (b : Bool) → nat_le (length bits) 1023 ≡ b → AreBits bits
+    → IsOfText (tag (if b then Some bits else None))
+short-bits bits true h are = record { are_bits = are; short = grind (arith, nat_tests, h) }
+short-bits bits false h are = tt
 
 abbrev AreSome : Option (List ℕ) → Type 0
 AreSome None = Unit {0}
 AreSome (Some bits) = AreBits bits
 
-few-some : (found : Option (List ℕ)) → AreSome found → IsOfText (tag (and_at_most_1023 found))
-few-some None h = tt
-few-some (Some bits) h = few-bits bits (nat_le (length bits) 1023) refl h
+short-some : (found : Option (List ℕ)) → AreSome found → IsOfText (tag (and_at_most_1023 found))
+short-some None h = tt
+short-some (Some bits) h = short-bits bits (nat_le (length bits) 1023) refl h
 
-behind : (b : ℕ) (found : Option (List ℕ)) → b < 2 → AreSome found → AreSome (before_completion b found)
-behind zero None h rest = tt
-behind (suc zero) None h rest = tt
-behind (suc (suc b)) None h rest = absurd (omega arith)
-behind b (Some bits) h rest = (h, rest)
+before-completion : (b : ℕ) (found : Option (List ℕ)) → b < 2 → AreSome found → AreSome (before_completion b found)
+before-completion zero None h rest = tt
+before-completion (suc zero) None h rest = tt
+before-completion (suc (suc b)) None h rest = absurd (omega arith)
+before-completion b (Some bits) h rest = (h, rest)
 
 uncompleted : (bits : List ℕ) → AreBits bits → AreSome (without_completion bits)
 uncompleted [] h = tt
-uncompleted (b ∷ bits) h = behind b (without_completion bits) h.0 (uncompleted bits h.1)
+uncompleted (b ∷ bits) h = before-completion b (without_completion bits) h.0 (uncompleted bits h.1)
 
 digit-bits : (ds : List ℕ) → list_all is_bit ds ≡ true → AreBits (map (λ d. d - 48) ds)
 digit-bits [] h = tt
@@ -71,7 +72,8 @@ digits-before : (ds : List ℕ) → ends_hex ds ≡ true → list_all is_hex_dig
 digits-before [] h = refl
 digits-before (d ∷ []) h = last-digit d (d == 95) refl h
   where
-    last-digit : (d : ℕ) (b : Bool) → (d == 95) ≡ b → (is_hex_digit d || d == 95) ≡ true → list_all is_hex_digit (if b then [] else d ∷ []) ≡ true
+    last-digit : (d : ℕ) (b : Bool) → (d == 95) ≡ b → (is_hex_digit d || d == 95) ≡ true
+        → list_all is_hex_digit (if b then [] else d ∷ []) ≡ true
     last-digit d true e h = refl
     last-digit d false e h = grind (arith, h, e)
 digits-before (d ∷ e ∷ ds) h =
@@ -89,8 +91,8 @@ a-hex_tag : (ds : List ℕ) (alone completed : Bool) → is_completed ds ≡ com
     → IsOfText (tag (if alone then Some [] else if completed then and_at_most_1023 (without_completion (flat_map hex_bits (hex_digits ds))) else at_most_1023 (flat_map hex_bits ds)))
 a-hex_tag ds true completed c h = record { are_bits = tt; short = omega arith }
 a-hex_tag ds false true c h =
-    few-some (without_completion (flat_map hex_bits (hex_digits ds))) (uncompleted (flat_map hex_bits (hex_digits ds)) (hex-bits (hex_digits ds) (digits-before ds h)))
-a-hex_tag ds false false c h = few-bits (flat_map hex_bits ds) (nat_le (length (flat_map hex_bits ds)) 1023) refl (hex-bits ds (digits-only ds h c))
+    short-some (without_completion (flat_map hex_bits (hex_digits ds))) (uncompleted (flat_map hex_bits (hex_digits ds)) (hex-bits (hex_digits ds) (digits-before ds h)))
+a-hex_tag ds false false c h = short-bits (flat_map hex_bits ds) (nat_le (length (flat_map hex_bits ds)) 1023) refl (hex-bits ds (digits-only ds h c))
 
 all-bits : (ds : List ℕ) → are_bits ds ≡ true → list_all is_bit ds ≡ true
 all-bits [] h = refl
@@ -99,11 +101,12 @@ all-bits (d ∷ ds) h = h
 a-binary_tag : (ds : List ℕ) (alone : Bool) → is_underscore ds ≡ alone → (alone || are_bits ds) ≡ true
     → IsOfText (tag (if alone then Some [] else at_most_1023 (map (λ d. d - 48) ds)))
 a-binary_tag ds true e h = record { are_bits = tt; short = omega arith }
-a-binary_tag ds false e h = few-bits (map (λ d. d - 48) ds) (nat_le (length (map (λ d. d - 48) ds)) 1023) refl (digit-bits ds (all-bits ds h))
+a-binary_tag ds false e h = short-bits (map (λ d. d - 48) ds) (nat_le (length (map (λ d. d - 48) ds)) 1023) refl (digit-bits ds (all-bits ds h))
 
 -- ---- tokens
 
-meant : (kind : TokenKind) (text : List ℕ) → spells kind text ≡ true → (kind ≡ kinds.Name → length text ≤ longest_name) → IsOfText (meaning kind text)
+meant : (kind : TokenKind) (text : List ℕ) → spells kind text ≡ true
+    → (kind ≡ kinds.Name → length text ≤ longest_name) → IsOfText (meaning kind text)
 meant kinds.Name text h short = record { spelled = h; short = short refl }
 meant kinds.Blank text h short = tt
 meant kinds.Number text h short = a-number (decimal_onto 0 text) (nat_lt (decimal_onto 0 text) (2 ^ 32)) refl
@@ -113,7 +116,8 @@ meant kinds.HexTag [] h short = absurd (cc)
 meant kinds.HexTag (b ∷ bs) h short = a-hex_tag bs (is_underscore bs) (is_completed bs) refl (grind (arith, h))
 meant kinds.Symbol text h short = a-symbol signs text
 
-tokens-of_text : (text : List ℕ) (place : ℕ) (rest : List ℕ) (ts : List Token) → rest ≡ drop place text → TokenizesFrom place rest ts → AreOfText (lexemes text ts)
+tokens-of_text : (text : List ℕ) (place : ℕ) (rest : List ℕ) (ts : List Token) → rest ≡ drop place text
+    → TokenizesFrom place rest ts → AreOfText (lexemes text ts)
 tokens-of_text text place _ _ e ended = tt
 tokens-of_text text place rest ts e (gap {n = n} g c) = tokens-of_text text (place + n) (drop n rest) ts (ap (drop n) e ∙ drop-drop n place text) c
 tokens-of_text text place rest _ e (token {n = n} {kind = kind} {tokens = ts} l s c) =

@@ -1,10 +1,9 @@
 -- Texts written part by part.
-use Rattle.std.proofs.Common.{◌≡◌, ◌≢◌, ◌+◌, ◌-◌, ◌<◌, ◌≤◌, ◌∙◌, ℕ, suc, List, [], ◌∷◌, ◌++◌, length, map, take, drop, get_or, append_assoc, refl, ap, sym, arith, Result, Ok, Err}
-use Rattle.std.specs.Prelude.{codes, decimal, replicate, OnOk, if◌then◌else◌}
+use Rattle.std.proofs.Common.{◌≡◌, ◌≢◌, ◌+◌, ◌∙◌, ℕ, suc, List, [], ◌∷◌, ◌++◌, length, map, append_assoc, refl, ap, sym, arith, Result, Ok, Err}
+use Rattle.std.specs.Prelude.{codes, replicate, OnOk, if◌then◌else◌}
 use Rattle.std.specs.Result.{is_ok}
-use Rattle.std.proofs.lemmas.Fmt.{decimal_digit}
 use Rattle.std.proofs.lemmas.Grind.{replicate_next}
-use Rattle.std.proofs.lemmas.List.{append-nil, length-map, take_all, at_drop_all}
+use Rattle.std.proofs.lemmas.List.{append-nil, length-map}
 use Rattle.tlb_syntax.specs.declared.tree.Expr.{Expr}
 use Rattle.tlb_syntax.specs.Tree.{ExprView, named, plus, nested, sum_of}
 use Rattle.tlb_syntax.specs.View.{expr, exprs}
@@ -14,23 +13,27 @@ pub along : {a b c : List ℕ} → a ≡ b → b ≡ c → a ≡ c
 along p q = p ∙ q
 
 -- a part in prefix, and one that is written if it is
-pub joined : {E : Type 0} (r : Result (Unit {0}) E) (old mid new front back rest : List ℕ) → mid ≡ old ++ front → back ≡ rest
-    → OnOk r (new ≡ mid ++ back) → OnOk r (new ≡ old ++ (front ++ rest))
-joined (Ok u) old mid new front back rest f b h = h ∙ ap (λ x. x ++ back) f ∙ ap (λ x. old ++ front ++ x) b ∙ append_assoc old front rest
-joined (Err e) old mid new front back rest f b h = tt
+pub joined : {E : Type 0} (r : Result (Unit {0}) E) (old mid new prefix back rest : List ℕ) → mid ≡ old ++ prefix
+    → back ≡ rest
+    → OnOk r (new ≡ mid ++ back) → OnOk r (new ≡ old ++ (prefix ++ rest))
+joined (Ok u) old mid new prefix back rest f b h = h ∙ ap (λ x. x ++ back) f ∙ ap (λ x. old ++ prefix ++ x) b ∙ append_assoc old prefix rest
+joined (Err e) old mid new prefix back rest f b h = tt
 
 pub two : (t u v o a : List ℕ) → u ≡ t ++ o → v ≡ u ++ a → v ≡ t ++ (o ++ a)
 two t u v o a p q = rw (q, p) (append_assoc t o a)
 
-pub four : (t u v w x o a m b : List ℕ) → u ≡ t ++ o → v ≡ u ++ a → w ≡ v ++ m → x ≡ w ++ b → x ≡ t ++ (o ++ a ++ m ++ b)
+pub four : (t u v w x o a m b : List ℕ) → u ≡ t ++ o → v ≡ u ++ a → w ≡ v ++ m → x ≡ w ++ b
+    → x ≡ t ++ (o ++ a ++ m ++ b)
 four t u v w x o a m b p q r s = rw (s, r, q, p) (simp append_assoc refl)
 
-pub same-on_ok : {E : Type 0} (r : Result (Unit {0}) E) (new old back rest : List ℕ) → back ≡ rest → OnOk r (new ≡ old ++ back) → OnOk r (new ≡ old ++ rest)
+pub same-on_ok : {E : Type 0} (r : Result (Unit {0}) E) (new old back rest : List ℕ) → back ≡ rest
+    → OnOk r (new ≡ old ++ back) → OnOk r (new ≡ old ++ rest)
 same-on_ok (Ok u) new old back rest e h = h ∙ ap (λ x. old ++ x) e
 same-on_ok (Err e) new old back rest s h = tt
 
 -- a name with arguments
-pub named-text : (x : List ℕ) (es : List Expr) → es ≢ [] → codes "(" ++ x ++ spaced (exprs es) ++ codes ")" ≡ expr_text (named x (exprs es))
+pub named-text : (x : List ℕ) (es : List Expr) → es ≢ []
+    → codes "(" ++ x ++ spaced (exprs es) ++ codes ")" ≡ expr_text (named x (exprs es))
 named-text x [] n = absurd (n refl)
 named-text x (e ∷ es) n = refl
 
@@ -45,7 +48,8 @@ shifted opened t u later = simp append_assoc refl
 one-more : (n : ℕ) → replicate n 40 ++ codes "(" ≡ replicate (suc n) 40
 one-more n = let e : n + 1 ≡ suc n = omega arith in sym (replicate_next n 40) ∙ ap (λ k. replicate k 40) e
 
-pub nested-text : (t : ExprView) (ts : List ExprView) → expr_text (nested t ts) ≡ replicate (length ts) 40 ++ expr_text t ++ addends_text ts
+pub nested-text : (t : ExprView) (ts : List ExprView)
+    → expr_text (nested t ts) ≡ replicate (length ts) 40 ++ expr_text t ++ addends_text ts
 nested-text t [] = sym (append-nil (expr_text t))
 nested-text t (u ∷ us) =
     nested-text (plus t u) us
@@ -53,7 +57,8 @@ nested-text t (u ∷ us) =
     ∙ ap (λ x. x ++ expr_text t ++ addends_text (u ∷ us)) (one-more (length us))
 
 -- what `extend_from_slice` writes
-pub written : {E : Type 0} (r : Result (Unit {0}) E) (new old part : List ℕ) → new ≡ (if is_ok r then old ++ part else old) → OnOk r (new ≡ old ++ part)
+pub written : {E : Type 0} (r : Result (Unit {0}) E) (new old part : List ℕ)
+    → new ≡ (if is_ok r then old ++ part else old) → OnOk r (new ≡ old ++ part)
 written (Ok u) new old part h = h
 written (Err e) new old part h = tt
 
@@ -65,7 +70,8 @@ plus-text : (t u : ExprView) → codes "(" ++ expr_text t ++ addend_text u ≡ e
 plus-text t u = simp append_assoc refl
 
 -- the first term after the parentheses, and then each further one
-pub sum-written : {E : Type 0} (r : Result (Unit {0}) E) (old opened paren first second whole : List ℕ) (t u : Expr) (ts : List Expr)
+pub sum-written : {E : Type 0} (r : Result (Unit {0}) E) (old opened paren first second whole : List ℕ) (t u : Expr)
+    (ts : List Expr)
     → opened ≡ old ++ replicate (length ts) 40 → paren ≡ opened ++ codes "(" → first ≡ paren ++ expr_text (expr t)
     → second ≡ first ++ addend_text (expr u) → OnOk r (whole ≡ second ++ addends_text (map expr ts))
     → OnOk r (whole ≡ old ++ expr_text (sum_of (expr t) (expr u) (map expr ts)))

@@ -58,8 +58,15 @@ tag Computed = computed
 tag (Given b) = given b
 
 abbrev pub constructor : Constructor → ConstructorView
-constructor c = record { exotic = c.exotic; name = c.name; tag = tag c.tag; items = items c.items; result =
-    c.result; params = exprs c.params }
+constructor c = record {
+  exotic = c.exotic;
+  name = c.name;
+  tag = tag c.tag;
+  items = items c.items;
+  result =
+      c.result;
+  params = exprs c.params;
+}
 
 abbrev pub schema : Schema → SchemaView
 schema s = map constructor s.constructors

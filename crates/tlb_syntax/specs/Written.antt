@@ -169,7 +169,7 @@ pub record Writes (text : List ℕ) (s : SchemaView) : Type 0 where
   pub written : Declarations standard (lexemes text tokens) s
   pub counts : WithinCounts s
 
--- the text is cut into tokens, and the first refusal of these stands at the byte
+-- the text has tokens, and the first refusal of these stands at the byte
 pub record SchemaRefused (text : List ℕ) (cause : Cause) (byte : ℕ) : Type 0 where
   pub tokens : List Token
   pub tokenized : Tokenizes text tokens

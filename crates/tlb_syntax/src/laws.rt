@@ -8,13 +8,13 @@ ghost use Rattle.tlb_syntax.specs.Limits.{AreOfText, IsWithinLimits, IsWordWithi
 ghost use Rattle.tlb_syntax.specs.Tree.{ExprView, SchemaView};
 ghost use Rattle.tlb_syntax.specs.Written.{WithinCounts, Writes, WritesWord, standard};
 
-/// Lexemes of tokens write only schemas within the limits, where constructors are few.
+/// Lexemes of tokens write only schemas within the limits, where the counts of constructors are kept.
 pub fn productions_keep_limits()
     ensures { (ls : List Lexeme) (s : SchemaView) → Declarations standard ls s → AreOfText ls → WithinCounts s
         → IsWithinLimits s }
 {}
 
-/// The tokens of a cut are such lexemes.
+/// The tokens of a text are such lexemes.
 pub fn tokens_give_lexemes()
     ensures { (text : List ℕ) (tokens : List Token) → Tokenizes text tokens → AreOfText (lexemes text tokens) }
 {}

@@ -158,23 +158,23 @@ fn hex_len(digits: &[u8]) -> Option<usize>
     requires { IsTrue (ends_hex digits.now) }
     ensures { MatchOption result (hexadecimal_bits digits.now ≡ None) (λ n. HasBits digits.now n) }
 {
-    let Some(front) = before_underscore(digits) else {
+    let Some(prefix) = before_underscore(digits) else {
         return if digits.len() <= MOST_BITS / 4 {
             Some(4 * digits.len())
         } else {
             None
         };
     };
-    if front.is_empty() {
+    if prefix.is_empty() {
         Some(0)
     } else {
-        completed_len(front)
+        completed_len(prefix)
     }
 }
 
 fn before_underscore(digits: &[u8]) -> Option<&[u8]>
-    ensures { MatchOption result ((front : List ℕ)
-        → digits.entry.now ≢ front ++ codes "_") (λ front. digits.entry.now ≡ front.now ++ codes "_") }
+    ensures { MatchOption result ((prefix : List ℕ)
+        → digits.entry.now ≢ prefix ++ codes "_") (λ prefix. digits.entry.now ≡ prefix.now ++ codes "_") }
 {
     digits.strip_suffix(b"_")
 }

@@ -1,3 +1,6 @@
 mod CellSteps
 mod Orders
 mod Lists
+mod PathWalks
+mod PathStands
+mod PathUnique

@@ -10,7 +10,7 @@ step_text (named name) = name
 step_text (item i) = decimal i
 step_text (keyed key) = spelling (bits key)
 
--- each step behind a '/' (47)
+-- each step after a '/' (47)
 abbrev pub steps_text : List Stride → List ℕ
 steps_text [] = []
 steps_text (s ∷ steps) = 47 ∷ step_text s ++ steps_text steps

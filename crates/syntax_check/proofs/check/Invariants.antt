@@ -8,5 +8,6 @@ use Rattle.syntax_check.proofs.check.Given as goal
 abbrev pub invariant-loop-token : goal.invariant-loop-token
 invariant-loop-token l = record {
   place : l.judge.place ≡ l.token-index;
-  verdict : go (may_end l.whole) (position l.judge) (lexemes l.text (drop l.token-index l.tokens)) ≡ go (may_end l.whole) (position_at standard (start_of l.whole)) (lexemes l.text l.tokens);
+  verdict : go (may_end l.whole) (position l.judge) (lexemes l.text (drop l.token-index l.tokens))
+      ≡ go (may_end l.whole) (position_at standard (start_of l.whole)) (lexemes l.text l.tokens);
 }

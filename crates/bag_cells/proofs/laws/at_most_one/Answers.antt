@@ -1,4 +1,4 @@
-use Rattle.bag_cells.proofs.Answered.{holds_once}
+use Rattle.bag_cells.specs.BagLaws.{holds_once}
 use Rattle.bag_cells.proofs.laws.at_most_one.Goals as goal
 
 pub returns-clause-tree : goal.returns-clause-tree

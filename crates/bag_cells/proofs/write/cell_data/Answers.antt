@@ -1,4 +1,4 @@
-use Rattle.std.proofs.Common.{◌≡◌, ◌∙◌, ◌≤◌, List, length, ap, arith}
+use Rattle.std.proofs.Common.{◌∙◌, ◌≤◌, List, length, ap, arith}
 use Rattle.std.specs.List.{flat_map}
 use Rattle.std.proofs.lemmas.List.{take_all, length-map}
 use Rattle.cell_nodes.specs.declared.tree.Tree.{Tree}

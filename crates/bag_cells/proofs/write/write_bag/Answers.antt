@@ -1,14 +1,12 @@
-use Rattle.std.proofs.Common.{◌≡◌, ◌∙◌, ◌++◌, ◌<◌, List, ℕ, length, reverse, ap, sym, subst, arith}
-use Rattle.std.specs.List.{All}
+use Rattle.std.proofs.Common.{◌≡◌, ◌∙◌, ◌++◌, List, ℕ, length, ap, sym, subst, arith}
 use Rattle.std.proofs.lemmas.List.{length-map}
-use Rattle.cell_nodes.specs.declared.tree.Tree.{Tree}
-use Rattle.cell_pool.specs.Post.{post}
 use Rattle.cell_pool.specs.OnceLaws.{child-good}
 use Rattle.cell_pool.specs.Visited.{tree_at, trees_at}
 use Rattle.bag_cells.specs.Bag.{BagHolds}
 use Rattle.bag_cells.specs.Listed.{EachOnce, ArePlaces, IsListed}
+use Rattle.bag_cells.specs.Once.{ListsEachOnce}
 use Rattle.bag_cells.specs.Written.{bag_of, cell_data}
-use Rattle.bag_cells.proofs.Holds.{bag-holds}
+use Rattle.bag_cells.proofs.Holds.{bag-holds, bag-once}
 use Rattle.bag_cells.proofs.Ordered.{in-pool, order-once, listed, small-at}
 use Rattle.bag_cells.proofs.Pushed.{bag-pushed}
 use Rattle.bag_cells.proofs.write.write_bag.Goals as goal
@@ -62,3 +60,11 @@ returns-clause-holds c =
     rw at
     (subst (λ (l : List ℕ). BagHolds l (tree_at c.args.pool.now c.args.root)) (sym (written c))
     (bag-holds t (child-good c.args.pool.now c.args.root t c.good.ensures at) (small-at c.args.pool.now c.args.root t c.small.ensures at)))
+
+pub returns-clause-once : goal.returns-clause-once
+returns-clause-once c =
+    let at = in-pool c.args.pool.now c.args.root c.requires in
+    let t = tree_at c.args.pool.now c.args.root in
+    rw at
+    (subst (λ (l : List ℕ). ListsEachOnce l (tree_at c.args.pool.now c.args.root)) (sym (written c))
+    (bag-once t (child-good c.args.pool.now c.args.root t c.good.ensures at) (small-at c.args.pool.now c.args.root t c.small.ensures at)))

@@ -3,7 +3,7 @@ use Rattle.std.specs.Int.{trailing_zeros}
 use Rattle.std.proofs.lemmas.List.{take_all}
 use mir.Syntax.{w8}
 use Rattle.bit_slice.specs.HexLists.{digit_number, EndsByMark, IsSpelling}
-use Rattle.bit_slice.specs.HexTexts.{bad-byte, bad-mark, bad-behind, marked-spelling}
+use Rattle.bit_slice.specs.HexTexts.{bad-byte, bad-mark, bad-after, marked-spelling}
 use Rattle.bit_slice.proofs.HexDigits.{no-mark, a-mark}
 use Rattle.bit_slice.proofs.hex.spelling_of.Goals.{then-text-count-ne95-via-then-text-count-ne95, then-text-count-ne95-via-else-text-count-ne95+then-count-eq0}
 use Rattle.bit_slice.proofs.hex.spelling_of.Goals as goal
@@ -29,7 +29,7 @@ returns-then-count-text-2-clause-bad c =
     let n : c.digit_count-count.result < length c.args.text.now = omega arith in
     let m : EndsByMark (digit_number (slice_index c.args.text.now (c.digit_count-count.result - 1))) (trailing_zeros w8 c.digit_number.result + 1) =
     rw (← c.digit_number.ensures.number) (a-mark c.digit_number.result c.digit_number.ensures.small c.if-dropped-gt3.false) in
-    bad-behind c.args.text.now c.digit_count-count.result (trailing_zeros w8 c.digit_number.result + 1) c.if-count-text-2.true (omega arith)
+    bad-after c.args.text.now c.digit_count-count.result (trailing_zeros w8 c.digit_number.result + 1) c.if-count-text-2.true (omega arith)
     (marked-spelling c.args.text.now c.digit_count-count.result (trailing_zeros w8 c.digit_number.result + 1) n (omega arith) c.digit_count-count.ensures.digits (omega arith) (omega arith) (omega arith) m)
 
 pub returns-clause-good : goal.returns-clause-good

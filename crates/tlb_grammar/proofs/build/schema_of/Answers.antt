@@ -1,5 +1,5 @@
 use Rattle.tlb_grammar.proofs.TokenLoop.{placed-read}
 use Rattle.tlb_grammar.proofs.build.schema_of.Goals as goal
 
-pub behind-requires : goal.behind-requires
-behind-requires c = placed-read c.args.text.now 0 c.args.tokens.now c.requires
+pub after_tokens-requires : goal.after_tokens-requires
+after_tokens-requires c = placed-read c.args.text.now 0 c.args.tokens.now c.requires

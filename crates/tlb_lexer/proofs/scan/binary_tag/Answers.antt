@@ -2,7 +2,7 @@ use Rattle.std.proofs.Common.{arith, sym, ◌∙◌, ◌≡◌, ◌<◌}
 use Rattle.std.specs.List.{prefix_len}
 use Rattle.tlb_lexer.specs.Bytes.{is_bit}
 use Rattle.tlb_lexer.proofs.LongestTokens.{bits_longest, empty_binary_longest}
-use Rattle.tlb_lexer.proofs.StretchOf.{dollar_stands}
+use Rattle.tlb_lexer.proofs.StretchOf.{dollar_begins}
 use Rattle.tlb_lexer.proofs.scan.binary_tag.Goals as goal
 
 pub returns-then-bits-gt0 : goal.returns-then-bits-gt0
@@ -21,4 +21,4 @@ pub returns-else-starts_with : goal.returns-else-starts_with
 returns-else-starts_with c =
     let after = c.args.after.now in
     let none : prefix_len is_bit after ≡ 0 = omega (arith, c.run_len-bits.ensures.exact) in
-    λ first is. dollar_stands first after is none (sym c.starts_with.ensures.value ∙ c.if-starts_with.false)
+    λ first is. dollar_begins first after is none (sym c.starts_with.ensures.value ∙ c.if-starts_with.false)

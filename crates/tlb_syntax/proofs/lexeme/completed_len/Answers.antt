@@ -2,7 +2,7 @@ use Rattle.std.proofs.Common.{◌≡◌, ◌+◌, ◌-◌, ◌*◌, ◌∙◌, s
 use Rattle.std.specs.Int.Count.{count_trailing_zeros}
 use Rattle.std.specs.List.{flat_map}
 use Rattle.tlb_syntax.specs.Lexeme.{hex_value, hex_bits}
-use Rattle.tlb_syntax.proofs.TagBits.{no-completion, trailing-few, completion, long-completion}
+use Rattle.tlb_syntax.proofs.TagBits.{no-completion, trailing-short, completion, long-completion}
 use Rattle.tlb_syntax.specs.Lexeme.{and_at_most_1023}
 use Rattle.tlb_syntax.proofs.lexeme.completed_len.Goals as goal
 
@@ -16,9 +16,9 @@ returns-then-last c = long-completion c.args.digits.now c.in_ok-last.last c.in_o
 
 pub overflow_sub-result : goal.overflow_sub-result
 overflow_sub-result c =
-    let few = trailing-few c.args.digits.now c.in_ok-last.last c.in_ok-last.ensures c.requires in
+    let short = trailing-short c.args.digits.now c.in_ok-last.last c.in_ok-last.ensures c.requires in
     let same : count_trailing_zeros 8 c.hex_value.result ≡ count_trailing_zeros 8 (hex_value (get_or c.args.digits.now c.in_ok-last.last 0)) = ap (count_trailing_zeros 8) c.hex_value.ensures.value in
-    omega (arith, few, same)
+    omega (arith, short, same)
 
 pub returns : goal.returns
 returns c =

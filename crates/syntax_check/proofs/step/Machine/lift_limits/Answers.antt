@@ -9,7 +9,8 @@ use Rattle.syntax_check.specs.Judge.{free_mode, free_frame, free}
 use Rattle.syntax_check.proofs.Lists.{reverse_map}
 use Rattle.syntax_check.proofs.step.Machine.lift_limits.Goals as goal
 
-freed : (mode new_mode : ParserState) (lv : Count) (fs seen new : List Frame) → new_mode ≡ free_mode mode → new ≡ map free_frame seen → seen ≡ fs → at new_mode None (reverse new) ≡ free (at mode lv (reverse fs))
+freed : (mode new_mode : ParserState) (lv : Count) (fs seen new : List Frame) → new_mode ≡ free_mode mode
+    → new ≡ map free_frame seen → seen ≡ fs → at new_mode None (reverse new) ≡ free (at mode lv (reverse fs))
 freed mode new_mode lv fs seen new e f g = rw (e, f, g) (ap (at (free_mode mode) None) (reverse_map free_frame fs))
 
 pub returns-clause-freed : goal.returns-clause-freed

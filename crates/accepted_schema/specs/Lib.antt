@@ -1,0 +1,5 @@
+pub mod Accepted
+pub mod Refusals
+pub mod Laws
+pub mod GuardLaws
+pub mod SeparatedLaws

@@ -1,0 +1,4 @@
+pub mod Laws
+pub mod PlainLaws
+pub mod RangeLaws
+pub mod AcceptableLaws

@@ -1,0 +1,9 @@
+pub mod Kinded
+pub mod CleanLaws
+pub mod CoverLaws
+pub mod NumberLaws
+pub mod TypeLaws
+pub mod EndLaws
+pub mod HeadingLaws
+pub mod SchemaLaws
+pub mod Laws

@@ -1,0 +1,15 @@
+pub mod CompleteLaws
+pub mod CountLaws
+pub mod EnterLaws
+pub mod FitLaws
+pub mod Laws
+pub mod LeadsLaws
+pub mod MarkLaws
+pub mod OutcomeLaws
+pub mod ProperLaws
+pub mod RefusedLaws
+pub mod RowLaws
+pub mod SolvingLaws
+pub mod SoundLaws
+pub mod StandsLaws
+pub mod StepLaws
