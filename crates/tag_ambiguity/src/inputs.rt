@@ -1,8 +1,19 @@
 //! The patterns of inputs.
+ghost use Rattle.std.specs.Prelude.{◌≡◌, ◌++◌, ℕ, IfOk, Some, [], map, option_map};
+ghost use Rattle.tlb_syntax.specs.View.{constructor as constructor_view, expr as expr_view, item as item_view};
+ghost use Rattle.tlb_syntax.specs.View.{items as items_view};
+ghost use Rattle.schema_core.specs.Names.{declares, meaning};
+ghost use Rattle.schema_core.specs.CoreOf.{input_of as input_of_core, inputs_of as inputs_of_core, literal_of as literal_of_view};
+ghost use Rattle.schema_core.specs.CoreOf.{names_after, names_at_result, sum_input, variable_input};
+ghost use Rattle.schema_core.specs.Numbers.{named_number};
+ghost use Rattle.kind_terms.specs.Params.{bare_name};
+ghost use Rattle.schema_leads.specs.Separation.{excluding};
+ghost use Rattle.tag_ambiguity.specs.Inputs.{IsVerdict, inputs_by, one_input, plain_inputs, variable_by as variable_by_view};
+
 use bit_slice::Name;
 use kind_terms::is_field_of_numbers;
 use nat_solver::{Pattern, patterns_exclude};
-use sqlite_items::Items;
+use sqlite_items::{Items, at};
 use std::alloc::Global;
 use tlb_memory::NoMemory;
 use tlb_syntax::{Constructor, Expr, Item, ParamKind};
@@ -11,19 +22,21 @@ use tlb_syntax::{Constructor, Expr, Item, ParamKind};
 #[derive(Clone, Copy, Debug, PartialEq, Eq)]
 pub enum Input {
     Number(Pattern),
-    Type,
+    OfType,
 }
 
 /// What a name in scope of a result stands for.
 #[derive(Clone, Copy, Debug, PartialEq, Eq)]
 enum Variable {
     Number,
-    Type,
+    OfType,
     Other,
 }
 
 // What the item brings into scope, if it is of that name.
-fn variable_by(item: &Item, name: &Name) -> Option<Variable> {
+fn variable_by(item: &Item, name: &Name) -> Option<Variable>
+    ensures { (v : ℕ) → result ≡ option_map variable_by_view (meaning (declares (item_view item.now) v) name.now) }
+{
     match item {
         Item::Implicit(x, kind) => {
             if !x.same(name) {
@@ -31,7 +44,7 @@ fn variable_by(item: &Item, name: &Name) -> Option<Variable> {
             }
             match kind {
                 ParamKind::Nat => Some(Variable::Number),
-                ParamKind::Ty => Some(Variable::Type),
+                ParamKind::Ty => Some(Variable::OfType),
             }
         }
         Item::Explicit(Some(x), t) => {
@@ -49,7 +62,9 @@ fn variable_by(item: &Item, name: &Name) -> Option<Variable> {
 }
 
 // What the name stands for after these items.
-fn variable_of(items: &[Item], name: &Name) -> Option<Variable> {
+fn variable_of(items: &[Item], name: &Name) -> Option<Variable>
+    ensures { result ≡ option_map variable_by_view (meaning (names_after (items_view items.now) [] 0) name.now) }
+{
     for item in items {
         if let Some(variable) = variable_by(item, name) {
             return Some(variable);
@@ -58,23 +73,31 @@ fn variable_of(items: &[Item], name: &Name) -> Option<Variable> {
     None
 }
 
-fn literal_of(e: &Expr) -> u32 {
+fn literal_of(e: &Expr) -> u32
+    ensures { result ≡ literal_of_view (expr_view e.now) }
+{
     match e {
         Expr::Lit(n) => *n,
         _ => 0,
     }
 }
 
-fn input_by_name(items: &[Item], name: &Name) -> Option<Input> {
+fn input_by_name(items: &[Item], name: &Name) -> Option<Input>
+    ensures { one_input result
+        ≡ plain_inputs (variable_input (meaning (names_after (items_view items.now) [] 0) name.now)) }
+{
     match variable_of(items, name) {
         Some(Variable::Number) => Some(Input::Number(Pattern::Var(0))),
-        Some(Variable::Type) => Some(Input::Type),
+        Some(Variable::OfType) => Some(Input::OfType),
         Some(Variable::Other) | None => None,
     }
 }
 
 // The input of `v + k`.
-fn input_by_sum(items: &[Item], v: &Expr, k: &Expr) -> Option<Input> {
+fn input_by_sum(items: &[Item], v: &Expr, k: &Expr) -> Option<Input>
+    ensures { one_input result ≡ plain_inputs (sum_input
+        (named_number (names_after (items_view items.now) [] 0) (bare_name (expr_view v.now))) (literal_of_view (expr_view k.now))) }
+{
     match v {
         Expr::Named(name, args) => {
             if !args.is_empty() {
@@ -89,7 +112,9 @@ fn input_by_sum(items: &[Item], v: &Expr, k: &Expr) -> Option<Input> {
     }
 }
 
-fn input_of(items: &[Item], e: &Expr) -> Option<Input> {
+fn input_of(items: &[Item], e: &Expr) -> Option<Input>
+    ensures { one_input result ≡ plain_inputs (input_of_core (names_after (items_view items.now) [] 0) (expr_view e.now)) }
+{
     match e {
         Expr::Lit(n) => Some(Input::Number(Pattern::Lit(*n))),
         Expr::Named(name, args) => {
@@ -111,7 +136,11 @@ fn input_of(items: &[Item], e: &Expr) -> Option<Input> {
 }
 
 /// The inputs of a constructor's result.
-pub fn inputs_of(alloc: Global, constructor: &Constructor) -> Result<Items<Input>, NoMemory> {
+pub fn inputs_of(alloc: Global, constructor: &Constructor) -> Result<Items<Input>, NoMemory>
+    ensures { IfOk result (λ inputs. inputs_by inputs
+        ≡ plain_inputs (inputs_of_core (names_at_result (constructor_view constructor.now))
+        (constructor_view constructor.now).params)) }
+{
     let mut inputs = Items::new(alloc);
     for e in constructor.params.as_slice() {
         if let Some(input) = input_of(constructor.items.as_slice(), e) {
@@ -121,28 +150,30 @@ pub fn inputs_of(alloc: Global, constructor: &Constructor) -> Result<Items<Input
     Ok(inputs)
 }
 
-fn is_excluding(p: &Input, q: &Input) -> bool {
+// Whether two inputs settle the question: by numbers that exclude each other, or as they are of different kinds.
+fn verdict(p: &Input, q: Option<&Input>) -> Option<bool>
+    ensures { IsVerdict p.now (option_map (λ i. i.now) q.entry) result }
+{
     match (p, q) {
-        (Input::Number(p), Input::Number(q)) => patterns_exclude(p, q),
-        _ => false,
+        (Input::Number(p), Some(Input::Number(q))) => {
+            if patterns_exclude(p, q) {
+                Some(true)
+            } else {
+                None
+            }
+        }
+        (Input::OfType, Some(Input::OfType)) => None,
+        (_, _) => Some(false),
     }
 }
 
-fn is_same_sort(p: &Input, q: &Input) -> bool {
-    matches!(
-        (p, q),
-        (Input::Number(_), Input::Number(_)) | (Input::Type, Input::Type)
-    )
-}
-
 /// Whether at some number no number meets the patterns of both.
-pub fn are_excluding(ps: &[Input], qs: &[Input]) -> bool {
-    for (p, q) in ps.iter().zip(qs.iter()) {
-        if !is_same_sort(p, q) {
-            return false;
-        }
-        if is_excluding(p, q) {
-            return true;
+pub fn are_excluding(ps: &[Input], qs: &[Input]) -> bool
+    ensures { result ≡ excluding (inputs_by ps.now) (inputs_by qs.now) }
+{
+    for (place, p) in ps.iter().enumerate() {
+        if let Some(answer) = verdict(p, at(qs, place)) {
+            return answer;
         }
     }
     false
