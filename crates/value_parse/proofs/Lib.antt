@@ -1,0 +1,5 @@
+mod ShapeSteps
+mod ShapeRuns
+mod ShapeLeft
+mod Texts
+mod Adds
