@@ -16,7 +16,7 @@ use Rattle.hashmap_tree.specs.Exceeds.{full, deep, label_size, first_key, Exceed
 use Rattle.hashmap_tree.specs.Keys.{Shares}
 use Rattle.hashmap_tree.specs.Order.{Before, MayStand, AreInOrder}
 use Rattle.hashmap_tree.specs.OrderLaws.{under-nil}
-use Rattle.hashmap_tree.specs.OrderedLaws.{prefix-not_before, before-prefix, before-before, order-stand, order-rest, last_of, last_key, first-under, last-under, length-under, under-fork, Forks, fork-at, IsEnd}
+use Rattle.hashmap_tree.specs.OrderedLaws.{prefix-not_before, before-prefix, before-before, order-stand, order-rest, last_of, last_key, first-under, last-under, length-under, under-fork, Forks, fork-at}
 use Rattle.hashmap_tree.specs.Placed.{AllPlaced, IsFirstMisplaced}
 use Rattle.hashmap_tree.specs.PlacedLaws.{HasPlaces, fork-places, alone-misplaced}
 use Rattle.hashmap_tree.specs.Plants.{Plants, IsFormAt, AreBelowBits, Builds, BuildsBranch, BuildsLeaf, BuildsFork, Prunes, Hides, HidesAt, entries_of, entry_of, part_of, held_of, is_one, zeros_before}
@@ -179,10 +179,13 @@ leaf-builds start n p es label fk c (Err (errors.Full q)) a h =
 leaf-builds start n p es label fk c (Err errors.TooDeep) a h = absurd h
 leaf-builds start n p es label fk c (Err errors.NoMemory) a h = tt
 
-pub never-alone : (start n : ℕ) (p : List ℕ) (es : Entries) (label fk : List ℕ) (h : Hidden)
-    → Alone start n p es label fk (hidden h) → AllPlaced es → ⊥
-never-alone start n p es label fk h a all =
+pub never-alone : (start n : ℕ) (p : List ℕ) (es : Entries) (label fk : List ℕ) (h : Hidden) (e : PlantError)
+    → Alone start n p es label fk (hidden h) → AllPlaced es → IsFormAt fk e → Builds p n es (Err e)
+never-alone start n p es label fk h (errors.Form q) a all f =
     let P : Entries → Type 0 = AllPlaced in alone-misplaced label h (subst P a.entry all)
+never-alone start n p es label fk h errors.NoMemory a all f = tt
+never-alone start n p es label fk h (errors.Full q) a all f = absurd f
+never-alone start n p es label fk h errors.TooDeep a all f = absurd f
 
 -- ---- a fork
 

@@ -13,9 +13,9 @@ use Rattle.hashmap_tree.specs.First.{Edge, Fork, LeafEdge}
 use Rattle.hashmap_tree.specs.Halts.{Halts}
 use Rattle.hashmap_tree.specs.Merged.{merged}
 use Rattle.hashmap_tree.specs.Order.{InOrder, AreInOrder, leaves}
-use Rattle.hashmap_tree.specs.Placed.{AllPlaced}
+use Rattle.hashmap_tree.specs.Placed.{AllPlaced, IsHiddenAlone}
 use Rattle.hashmap_tree.specs.PlantedLaws.{AllCanHide, IsTreeOrMemory, SameOrMemory}
-use Rattle.hashmap_tree.specs.Plants.{IsHiddenAlone, Plants}
+use Rattle.hashmap_tree.specs.Plants.{Plants}
 use Rattle.hashmap_tree.specs.Top.{IsTop, HaltsTop}
 use Rattle.hashmap_tree.specs.Walk.{Fault}
 use Rattle.hashmap_tree.specs.declared.planting.PlantError.{PlantError}

@@ -7,7 +7,7 @@ use Rattle.hashmap_tree.specs.Entries.{Slice, Part, leaf, hidden, Entries, under
 use Rattle.hashmap_tree.specs.Exceeds.{first_key}
 use Rattle.hashmap_tree.specs.Order.{Before, MayStand, AreInOrder}
 use Rattle.hashmap_tree.specs.OrderLaws.{under-under, under-append}
-use Rattle.hashmap_tree.specs.Placed.{IsAmong}
+use Rattle.hashmap_tree.specs.Placed.{IsAmong, IsHiddenAlone}
 
 -- ---- one key before another
 
@@ -105,10 +105,6 @@ pub record Cuts (n : ℕ) (es : Entries) : Type 0 where
   pub zeros : AreInOrder n zs
   pub ones : AreInOrder n os
 
--- a hidden part alone, at the end of its prefix
-abbrev pub IsEnd : Entries → Type 0
-IsEnd es = (h : Hidden) × (es ≡ ([], hidden h) ∷ [])
-
 stand-less : (n b : ℕ) (k : List ℕ) (x : Part) → MayStand (suc n) (b ∷ k) x → MayStand n k x
 stand-less n b k (leaf c) s = omega (arith, s)
 stand-less n b k (hidden h) s = omega (arith, s)
@@ -170,26 +166,26 @@ one-first n t x es s b a c =
 
 -- a key that ends here is that of a hidden part, and stands before no other
 end-alone : (n : ℕ) (k : List ℕ) (x : Part) (es : Entries) → length k ≡ 0 → MayStand (suc n) k x → StartAfter k es
-    → IsEnd ((k, x) ∷ es)
+    → IsHiddenAlone ((k, x) ∷ es)
 end-alone n (b ∷ k) x es l s a = absurd (omega (arith, l))
 end-alone n [] (leaf c) es l s a = absurd (omega (arith, s))
 end-alone n [] (hidden h) (f ∷ es) l s a = absurd a
 end-alone n [] (hidden h) [] l s a = (h, refl)
 
-not-end : (k : List ℕ) (es : Entries) → StartAfter k es → IsEnd es → ⊥
+not-end : (k : List ℕ) (es : Entries) → StartAfter k es → IsHiddenAlone es → ⊥
 not-end k es a h = let P : Entries → Type 0 = λ l. StartAfter k l in never k (subst P h.1 a)
   where
     never : (k : List ℕ) → Before k [] → ⊥
     never [] b = b
     never (x ∷ k) b = b
 
-pub cut-bit : (n : ℕ) (es : Entries) → AreInOrder (suc n) es → (IsEnd es → ⊥) → Cuts n es
+pub cut-bit : (n : ℕ) (es : Entries) → AreInOrder (suc n) es → (IsHiddenAlone es → ⊥) → Cuts n es
 cut-bit n [] o e = record { zs = []; os = []; same = refl; zeros = tt; ones = tt }
 cut-bit n (f ∷ es) o e =
     let a : StartAfter f.0 es = order-after (suc n) f es o in
     go f.0 f.1 (order-stand (suc n) f es o) (order-bits (suc n) f es o) a e (cut-bit n es (order-rest (suc n) f es o) (not-end f.0 es a))
   where
-    go : (k : List ℕ) (x : Part) → MayStand (suc n) k x → AreBits k → StartAfter k es → (IsEnd ((k, x) ∷ es) → ⊥)
+    go : (k : List ℕ) (x : Part) → MayStand (suc n) k x → AreBits k → StartAfter k es → (IsHiddenAlone ((k, x) ∷ es) → ⊥)
         → Cuts n es → Cuts n ((k, x) ∷ es)
     go [] x s b a e c = absurd (e (end-alone n [] x es refl s a))
     go (zero ∷ t) x s b a e c = zero-first n t x es s b.1 a c
@@ -271,7 +267,7 @@ has-bit n (f ∷ es) x a o l e = go f.1 (let P : List ℕ → Type 0 = λ k. May
     go (leaf c) s = omega (arith, s)
     go (hidden h) s = omega (arith, s)
 
-no-end : (es : Entries) (x : ℕ) (a : List ℕ) → first_key es ≡ x ∷ a → IsEnd es → ⊥
+no-end : (es : Entries) (x : ℕ) (a : List ℕ) → first_key es ≡ x ∷ a → IsHiddenAlone es → ⊥
 no-end es x a e h = never (sym e ∙ ap first_key h.1)
   where
     never : x ∷ a ≡ [] → ⊥

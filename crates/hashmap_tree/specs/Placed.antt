@@ -1,5 +1,5 @@
--- Where a hidden part has a place in the tree of the entries: as one part of a fork. The label of an edge is the longest
--- common prefix of the keys below it, so there is a fork after a prefix where keys go on with 0 and with 1.
+-- Where a hidden part has a place in the tree of the entries: as one part of a fork. The label of an edge is the
+-- longest common prefix of the keys below it, so there is a fork after a prefix where keys go on with 0 and with 1.
 use Rattle.std.specs.Prelude.{◌≡◌, ◌⊎◌, ℕ, List, [], ◌∷◌, ◌++◌}
 use Rattle.cell_nodes.specs.declared.tree.Hidden.{Hidden}
 use Rattle.hashmap_tree.specs.Entries.{Part, hidden, Entries}
@@ -24,6 +24,10 @@ ArePlaced fs es = (q : List ℕ) (h : Hidden) → IsAmong q (hidden h) fs → Is
 
 abbrev pub AllPlaced : Entries → Type 0
 AllPlaced es = ArePlaced es es
+
+-- a hidden part alone, whose prefix ends here: it is the part of a fork
+abbrev pub IsHiddenAlone : Entries → Type 0
+IsHiddenAlone es = (h : Hidden) × (es ≡ ([], hidden h) ∷ [])
 
 -- the first hidden part that is no child of a fork stands at q
 abbrev pub IsFirstMisplaced : List ℕ → Entries → Type 0

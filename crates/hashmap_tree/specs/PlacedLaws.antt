@@ -9,8 +9,8 @@ use Rattle.hashmap_tree.specs.Entries.{Slice, Part, leaf, hidden, Entries, under
 use Rattle.hashmap_tree.specs.OnceLaws.{Some_entry, some_below}
 use Rattle.hashmap_tree.specs.Order.{Before, AreInOrder}
 use Rattle.hashmap_tree.specs.OrderLaws.{under-under, under-nil}
-use Rattle.hashmap_tree.specs.OrderedLaws.{IsEnd, StartAfter, order-after, first-before, under-fork}
-use Rattle.hashmap_tree.specs.Placed.{IsAmong, HasBelow, IsForkChild, AllPlaced, IsFirstMisplaced}
+use Rattle.hashmap_tree.specs.OrderedLaws.{StartAfter, order-after, first-before, under-fork}
+use Rattle.hashmap_tree.specs.Placed.{IsAmong, IsHiddenAlone, HasBelow, IsForkChild, AllPlaced, IsFirstMisplaced}
 
 -- ---- among entries
 
@@ -114,9 +114,9 @@ child-under p q es h = (p ++ h.0, go h.1)
 
 -- what is known of the hidden parts of a part: it is one alone, or each has its place
 abbrev pub HasPlaces : Entries → Type 0
-HasPlaces es = IsEnd es ⊎ AllPlaced es
+HasPlaces es = IsHiddenAlone es ⊎ AllPlaced es
 
-key-of-end : (q : List ℕ) (x : Part) (es : Entries) → IsEnd es → IsAmong q x es → q ≡ []
+key-of-end : (q : List ℕ) (x : Part) (es : Entries) → IsHiddenAlone es → IsAmong q x es → q ≡ []
 key-of-end q x es e h = let P : Entries → Type 0 = λ l. IsAmong q x l in go (subst P e.1 h)
   where
     go : (([] ≡ q) × (hidden e.0 ≡ x)) ⊎ ⊥ → q ≡ []

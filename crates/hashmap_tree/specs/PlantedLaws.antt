@@ -13,8 +13,8 @@ use Rattle.hashmap_tree.specs.ExceedsLaws.{tree-fits, excess-once}
 use Rattle.hashmap_tree.specs.OnceLaws.{tree_once}
 use Rattle.hashmap_tree.specs.Order.{Before, MayStand, AreInOrder}
 use Rattle.hashmap_tree.specs.OrderLaws.{Grows, along, fork_of, branch_of, grows, no_label}
-use Rattle.hashmap_tree.specs.OrderedLaws.{order-stand, length-under, Cuts, cut-bit, IsEnd}
-use Rattle.hashmap_tree.specs.Placed.{IsAmong, IsForkChild, ArePlaced, AllPlaced, IsFirstMisplaced}
+use Rattle.hashmap_tree.specs.OrderedLaws.{order-stand, length-under, Cuts, cut-bit}
+use Rattle.hashmap_tree.specs.Placed.{IsAmong, IsHiddenAlone, IsForkChild, ArePlaced, AllPlaced, IsFirstMisplaced}
 use Rattle.hashmap_tree.specs.PlacedLaws.{among-left, among-right, among-either, among-under, under-among, HasPlaces, placed-under, fork-places, alone-misplaced, tree-placed, misplaced-not_all}
 use Rattle.hashmap_tree.specs.Plants.{Plants, held_of}
 use Rattle.hashmap_tree.specs.PrunedLaws.{hides-stored}
@@ -36,7 +36,7 @@ can-left ds fs c q h a = c q h (among-left q (hidden h) ds fs a)
 can-right : (ds fs : Entries) → AllCanHide (ds ++ fs) → AllCanHide fs
 can-right ds fs c q h a = c q h (among-right q (hidden h) ds fs a)
 
-end-misplaced : (es : Entries) → IsEnd es → AllPlaced es → ⊥
+end-misplaced : (es : Entries) → IsHiddenAlone es → AllPlaced es → ⊥
 end-misplaced es e a = let P : Entries → Type 0 = AllPlaced in alone-misplaced [] e.0 (subst P e.1 a)
 
 -- the one entry of a key without bits

@@ -13,7 +13,7 @@ use Rattle.hashmap_tree.specs.Dict.{unseen, DictTree, Branch}
 use Rattle.hashmap_tree.specs.Entries.{Slice, Part, leaf, hidden, Entries, under}
 use Rattle.hashmap_tree.specs.Exceeds.{full, deep, label_size, Exceeds, ExceedsBranch, IsWithin}
 use Rattle.hashmap_tree.specs.Order.{AreInOrder}
-use Rattle.hashmap_tree.specs.Placed.{AllPlaced, IsFirstMisplaced, IsForkChild}
+use Rattle.hashmap_tree.specs.Placed.{AllPlaced, IsFirstMisplaced, IsForkChild, IsHiddenAlone}
 use Rattle.hashmap_tree.specs.declared.entries.Entry.{Entry}
 use Rattle.hashmap_tree.specs.declared.entries.Part as parts
 use Rattle.hashmap_tree.specs.declared.entries.Part.TheVariants as the
@@ -75,10 +75,7 @@ pub record AreBelowBits (start n : ℕ) (all : Entries) (p : List ℕ) (es : Ent
 abbrev pub IsReady : ℕ → ℕ → Entries → Type 0
 IsReady start n all = (p : List ℕ) × (es : Entries) × AreBelowBits start n all p es × AllPlaced es
 
--- or a part of a fork
-abbrev pub IsHiddenAlone : Entries → Type 0
-IsHiddenAlone es = (h : Hidden) × (es ≡ ([], hidden h) ∷ [])
-
+-- or those of a part of a fork
 abbrev pub IsReadyBelow : ℕ → ℕ → Entries → Type 0
 IsReadyBelow start n all =
     (p : List ℕ) × (es : Entries) × AreBelowBits start n all p es × (IsHiddenAlone es ⊎ AllPlaced es)

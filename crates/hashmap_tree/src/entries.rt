@@ -146,7 +146,7 @@ fn may_follow(before: &Option<BitSlice<'_>>, entry: &Entry<'_>, n: u32) -> bool
     }
 }
 
-/// Whether the entries are in strict order, none of which begins another, with keys of `n` bits and prefixes of such keys.
+/// Whether these are keys of `n` bits and prefixes of such keys, in strict order, and none begins another.
 pub(crate) fn in_order(entries: &[Entry<'_>], n: u32) -> bool
     ensures { IsTrue result ↔ AreInOrder n (entries_of entries.now) }
 {

@@ -57,7 +57,8 @@ fn is_placed(entries: &[Entry<'_>], i: usize) -> bool
 /// The prefix of the first hidden part that is no child of a fork.
 pub(crate) fn misplaced<'a>(entries: &[Entry<'a>]) -> Option<BitSlice<'a>>
     requires order { (n : ℕ) × AreInOrder n (entries_of entries.now) }
-    ensures { MatchOption result (AllPlaced (entries_of entries.now)) (λ q. IsFirstMisplaced q (entries_of entries.now)) }
+    ensures { MatchOption result (AllPlaced (entries_of entries.now))
+        (λ q. IsFirstMisplaced q (entries_of entries.now)) }
 {
     'entries: for i in 0..entries.len() {
         if !is_placed(entries, i) {

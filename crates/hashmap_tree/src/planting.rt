@@ -37,6 +37,16 @@ fn full_at(alloc: Global, key: &BitSlice<'_>) -> PlantError
     }
 }
 
+/// The hidden part at this prefix is no child of a fork.
+fn misplaced_at(alloc: Global, prefix: &BitSlice<'_>) -> PlantError
+    ensures { IsFormAt prefix.now result }
+{
+    match BitString::from_slice(alloc, prefix.again()) {
+        Ok(prefix) => PlantError::Form(prefix),
+        Err(_) => PlantError::NoMemory,
+    }
+}
+
 /// A builder that holds the label.
 fn labeled(
     alloc: Global,
@@ -225,7 +235,7 @@ fn edge(alloc: Global, entries: &[Entry<'_>], start: u32, n: u32) -> Result<Cell
     if end == first.key.len() {
         return match &first.part {
             Part::Leaf(content) => leaf(alloc, label, n, &first.key, content),
-            Part::Hidden(_) => Err(PlantError::NoMemory),
+            Part::Hidden(_) => Err(misplaced_at(alloc, &first.key)),
         };
     }
     let (zeros, ones) = entries.split_at(zeros(entries, end));
@@ -255,18 +265,8 @@ fn branch(alloc: Global, entries: &[Entry<'_>], start: u32, n: u32) -> Result<Ce
     }
 }
 
-/// The hidden part at this prefix has no place.
-fn misplaced_at(alloc: Global, prefix: &BitSlice<'_>) -> PlantError
-    ensures { IsFormAt prefix.now result }
-{
-    match BitString::from_slice(alloc, prefix.again()) {
-        Ok(prefix) => PlantError::Form(prefix),
-        Err(_) => PlantError::NoMemory,
-    }
-}
-
-/// The content of the first edge, whose hidden parts are judged before it is built.
-fn first_edge(alloc: Global, n: u32, entries: &[Entry<'_>]) -> Result<CellBuilder, PlantError>
+/// The content of the first edge. Where hidden parts stand is judged before anything is built.
+fn planted(alloc: Global, n: u32, entries: &[Entry<'_>]) -> Result<CellBuilder, PlantError>
     requires short { n ≤ 1023 }
     requires order { AreInOrder n (entries_of entries.now) }
     requires some { 0 < length entries.now }
@@ -312,7 +312,7 @@ pub fn plant(
     ensures { Plants n (merge (map leaf_of leaves.items) unknown.now) result }
 {
     match merged(alloc, leaves.as_slice(), unknown) {
-        Ok(entries) => first_edge(alloc, n, entries.as_slice()),
+        Ok(entries) => planted(alloc, n, entries.as_slice()),
         Err(_) => Err(PlantError::NoMemory),
     }
 }

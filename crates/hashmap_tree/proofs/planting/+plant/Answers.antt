@@ -39,6 +39,12 @@ edge-returns-in-Leaf t c = λ p es b all.
     (rw c.in-Leaf.is at (is-alone c.args.start c.args.n c.args.entries.now p es _ _ _ _ _ b c.index-entries-0.is refl c.index-entries-entries.is c.shared-end.ensures.shares (c.if-end-len.true ∙ c.len.ensures.value) c.part_of_key-label.ensures))
     c.leaf.ensures
 
+pub edge-returns-in-Hidden : goal.edge-returns-in-Hidden
+edge-returns-in-Hidden t c = λ p es b all.
+    never-alone c.args.start c.args.n p es _ _ _ c.misplaced_at.result
+    (rw c.in-Hidden.is at (is-alone c.args.start c.args.n c.args.entries.now p es _ _ _ _ _ b c.index-entries-0.is refl c.index-entries-entries.is c.shared-end.ensures.shares (c.if-end-len.true ∙ c.len.ensures.value) c.part_of_key-label.ensures))
+    all c.misplaced_at.ensures
+
 pub edge-overflow_sub-below : goal.edge-overflow_sub-below
 edge-overflow_sub-below t c =
     let r = c.requires.ready in

@@ -6,8 +6,8 @@ use Rattle.hashmap_tree.specs.MergedLaws.{length-merged}
 use Rattle.hashmap_tree.specs.Plants.{Plants, entries_of, entry_of, leaf_of}
 use Rattle.hashmap_tree.proofs.planting.plant.Goals as goal
 
-pub first_edge-requires-clause-some : goal.first_edge-requires-clause-some
-first_edge-requires-clause-some c =
+pub planted-requires-clause-some : goal.planted-requires-clause-some
+planted-requires-clause-some c =
     let a = length-map c.as_slice-in-Ok.result.now entry_of in
     let e : length (entries_of c.as_slice-in-Ok.result.now) ≡ length (merged (map leaf_of c.args.leaves.items) c.args.unknown.now) = ap length (ap entries_of c.as_slice-in-Ok.ensures.value ∙ rw c.as_slice.ensures.value at c.in-Ok.ensures) in
     let k = length-merged (map leaf_of c.args.leaves.items) c.args.unknown.now in
@@ -17,5 +17,5 @@ first_edge-requires-clause-some c =
 
 pub returns-in-Ok : goal.returns-in-Ok
 returns-in-Ok c =
-    let P : Entries → Type 0 = λ E. Plants c.args.n E c.first_edge.result in
-    subst P (ap entries_of c.as_slice-in-Ok.ensures.value ∙ rw c.as_slice.ensures.value at c.in-Ok.ensures) c.first_edge.ensures
+    let P : Entries → Type 0 = λ E. Plants c.args.n E c.planted.result in
+    subst P (ap entries_of c.as_slice-in-Ok.ensures.value ∙ rw c.as_slice.ensures.value at c.in-Ok.ensures) c.planted.ensures

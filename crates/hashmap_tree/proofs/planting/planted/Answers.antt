@@ -3,7 +3,7 @@ use Rattle.std.proofs.lemmas.List.{length-map}
 use Rattle.std.proofs.lemmas.Result.{err_from_is_err_and}
 use Rattle.hashmap_tree.specs.Plants.{entries_of, entry_of}
 use Rattle.hashmap_tree.proofs.Planted.{whole, plants, form-plants}
-use Rattle.hashmap_tree.proofs.planting.first_edge.Goals as goal
+use Rattle.hashmap_tree.proofs.planting.planted.Goals as goal
 
 pub returns-in-Some : goal.returns-in-Some
 returns-in-Some c =
