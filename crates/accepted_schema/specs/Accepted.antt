@@ -1,8 +1,7 @@
 -- Accepted schemas: within the limits of a text, without a refusal by kinds or guard, with tags of at most 63 bits,
--- and with
--- every two constructors of a type separated.
--- Source: the TON documentation on the TL-B language (tags of constructors); the limit of 63 bits and the rule by which
--- constructors are separated are this project's own.
+-- and with every two constructors of a type separated.
+-- Source: the TON documentation on the TL-B language (tags of constructors); the limit of 63 bits and the rule by
+-- which constructors are separated are this project's own.
 use Rattle.std.specs.Prelude.{ℕ, ◌≡◌, ◌<◌, ◌≤◌, length, Some, slice_get}
 use Rattle.tlb_syntax.specs.Limits.{IsWithinLimits}
 use Rattle.tlb_syntax.specs.Tree.{SchemaView}

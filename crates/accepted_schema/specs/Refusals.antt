@@ -7,8 +7,7 @@ use Rattle.core_form.specs.Core.{Word, Declaration, CoreSchema}
 use Rattle.schema_leads.specs.Separation.{are_separated}
 
 -- a tag that is too long, with the type and the constructor as it is shown; two constructors of a type that are not
--- told
--- apart, with the type and both of them
+-- separated, with the type and both of them
 pub data TagRefusal : Type 0 where
   tag_too_long : Word → Word → TagRefusal
   ambiguous : Word → Word → Word → TagRefusal
@@ -39,8 +38,7 @@ abbrev pub of_type_of : CoreSchema → Declaration → List TagRefusal
 of_type_of s d = of_pairs s d.of_type s
 
 -- Tags first, and then the pairs of each type, in the order of the types' first constructors. Those of a type stand
--- here
--- once for each of its constructors, which changes nothing in which is the first.
+-- here once for each of its constructors, which changes nothing in which is the first.
 unfoldable pub tag_refusals : CoreSchema → List TagRefusal
 tag_refusals s = of_tags s ++ flat_map (of_type_of s) s
 

@@ -1,6 +1,5 @@
 -- What the laws say, for every accepted schema: facts about the definitions alone. The schema stands in them by the
--- core forms
--- of its declarations without those that are passed over.
+-- core forms of its declarations without those that are passed over.
 use Rattle.std.specs.Prelude.{◌≡◌, ℕ, List, true}
 use Rattle.cell_nodes.specs.declared.tree.Mode.{Mode}
 use Rattle.cell_nodes.specs.declared.tree.Tree.{Tree}
