@@ -39,6 +39,7 @@ declared_then_variable = refl
 
 -- a field hides a type of its name, whatever the field is:
 -- u$_ = u; t$_ u:uint8 x:u = T;
+-- The schema is refused: KindMismatch T.t.x.
 abbrev hidden_type_text : ConstructorView
 hidden_type_text =
     (declaration (Some (codes "t")) (given []) (an_item (explicit (Some (codes "u")) (plain (named (codes "uint8")
@@ -135,6 +136,7 @@ outer_name_inside = refl
 
 -- a field is not in scope in its own type:
 -- n$_ = n; t$_ n:[ n:n ] = T;
+-- The schema is refused: TwiceNamed T.t.n.n.
 abbrev own_name_is_not_yet_text : ConstructorView
 own_name_is_not_yet_text =
     (declaration (Some (codes "t")) (given []) (an_item (explicit (Some (codes "n")) (plain (group (an_item
@@ -157,6 +159,7 @@ own_name_is_not_yet = refl
 
 -- an input that is declared late: the variable inside is another, and has a slot of its own:
 -- t$_ a:[ {n:#} x:(uint n) ] {n:#} = T n;
+-- The schema is refused: Undetermined T.t.a.x.
 abbrev late_input_text : ConstructorView
 late_input_text =
     (declaration (Some (codes "t")) (given []) (an_item (explicit (Some (codes "a")) (plain (group (an_item
@@ -180,6 +183,7 @@ late_input = refl
 
 -- an input is a number from the item after its own:
 -- t$_ x:(uint n) {n:#} y:(uint n) = T n;
+-- The schema is refused: UnknownName T.t.x.
 abbrev late_input_used_text : ConstructorView
 late_input_used_text =
     (declaration (Some (codes "t")) (given []) (an_item (explicit (Some (codes "x")) (plain (named (codes "uint")
@@ -231,6 +235,7 @@ unnamed_fields = refl
 
 -- a field of numbers with a condition is no variable:
 -- t$_ f:(## 1) n:f?# x:n = T;
+-- The schema is refused: KindMismatch T.t.x.
 abbrev conditional_number_text : ConstructorView
 conditional_number_text =
     (declaration (Some (codes "t")) (given []) (an_item (explicit (Some (codes "f")) (plain (bits (an_expr (lit 1)

@@ -44,6 +44,7 @@ products = refl
 
 -- a product of two variables has no meaning:
 -- t$_ n:# a:(uint (n * n)) = T;
+-- The schema is refused: NotLinear T.t.a.
 abbrev product_of_variables_text : ConstructorView
 product_of_variables_text =
     (declaration (Some (codes "t")) (given []) (an_item (explicit (Some (codes "n")) (plain nat32)) (an_item
@@ -138,6 +139,7 @@ unknown_in_multiple = refl
 
 -- an unknown under a factor 0 is none: the constraint is a check, where `~` has no meaning:
 -- t$_ {m:#} n:# {n = 0 * ~m} = T;
+-- The schema is refused: NotLinear T.t.{3}.
 abbrev unknown_under_zero_text : ConstructorView
 unknown_under_zero_text =
     (declaration (Some (codes "t")) (given []) (an_item (implicit (codes "m") Nat) (an_item (explicit (Some (codes
@@ -160,6 +162,7 @@ unknown_under_zero = refl
 
 -- of two unknowns none is sought, and a comparison seeks none:
 -- t$_ {m:#} {k:#} {~m = ~k} {3 < ~m} = T;
+-- The schema is refused: NotLinear T.t.{3}.
 abbrev two_unknowns_text : ConstructorView
 two_unknowns_text =
     (declaration (Some (codes "t")) (given []) (an_item (implicit (codes "m") Nat) (an_item (implicit (codes "k")

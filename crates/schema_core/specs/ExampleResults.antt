@@ -4,7 +4,7 @@ use Rattle.nat_solver.specs.Number as num
 use Rattle.nat_solver.specs.declared.compare.Op.TheVariants.{Eq, Le}
 use Rattle.nat_solver.specs.declared.pattern.Pattern.TheVariants as patterns
 use Rattle.tlb_syntax.specs.declared.tree.ParamKind.TheVariants.{Nat, Ty}
-use Rattle.tlb_syntax.specs.Tree.{ConstructorView, lit, named, nat32, up_to, plus, star, out}
+use Rattle.tlb_syntax.specs.Tree.{ConstructorView, bits, lit, named, nat32, up_to, plus, star, out}
 use Rattle.tlb_syntax.specs.Tree.{no_exprs, an_expr, plain, implicit, check, explicit, given}
 use Rattle.tlb_syntax.specs.Tree.{no_items, an_item}
 use Rattle.kind_terms.specs.Classes.{word_class}
@@ -62,7 +62,7 @@ unfolding word_class
 outputs = refl
 
 -- outputs and inputs in one result, and a field with both:
--- u$_ = Unary ~0; t$_ b:Bit = Bit; hml_short$0 {m:#} {n:#} len:(Unary ~n) {n <= m} s:(n * Bit) = HmLabel ~n m;
+-- u$_ = Unary ~0; t$_ b:(## 1) = Bit; hml_short$0 {m:#} {n:#} len:(Unary ~n) {n <= m} s:(n * Bit) = HmLabel ~n m;
 abbrev output_before_input_text : ConstructorView
 output_before_input_text =
     (declaration (Some (codes "hml_short")) (given (0 ∷ [])) (an_item (implicit (codes "m") Nat) (an_item (implicit
@@ -74,8 +74,8 @@ output_before_input_text =
 
 pub output_before_input : core_of
     ((declaration (Some (codes "u")) (given []) no_items (codes "Unary") (an_expr (out (lit 0)) no_exprs))
-    ∷ (declaration (Some (codes "t")) (given []) (an_item (explicit (Some (codes "b")) (plain (named (codes "Bit")
-    no_exprs))) no_items) (codes "Bit") no_exprs)
+    ∷ (declaration (Some (codes "t")) (given []) (an_item (explicit (Some (codes "b")) (plain (bits (an_expr (lit 1)
+    no_exprs)))) no_items) (codes "Bit") no_exprs)
     ∷ output_before_input_text ∷ [])
     (0 ∷ []) output_before_input_text ≡ record {
       tag = (0 ∷ []);
@@ -91,7 +91,7 @@ unfolding word_class
 output_before_input = refl
 
 -- a field of numbers as the output:
--- t$_ b:Bit = Bit; hml_long$10 {m:#} n:(#<= m) s:(n * Bit) = HmLabel ~n m;
+-- t$_ b:(## 1) = Bit; hml_long$10 {m:#} n:(#<= m) s:(n * Bit) = HmLabel ~n m;
 abbrev number_field_as_output_text : ConstructorView
 number_field_as_output_text =
     (declaration (Some (codes "hml_long")) (given (1 ∷ 0 ∷ [])) (an_item (implicit (codes "m") Nat) (an_item
@@ -100,8 +100,8 @@ number_field_as_output_text =
     (codes "HmLabel") (an_expr (out (named (codes "n") no_exprs)) (an_expr (named (codes "m") no_exprs) no_exprs)))
 
 pub number_field_as_output : core_of
-    ((declaration (Some (codes "t")) (given []) (an_item (explicit (Some (codes "b")) (plain (named (codes "Bit")
-    no_exprs))) no_items) (codes "Bit") no_exprs)
+    ((declaration (Some (codes "t")) (given []) (an_item (explicit (Some (codes "b")) (plain (bits (an_expr (lit 1)
+    no_exprs)))) no_items) (codes "Bit") no_exprs)
     ∷ number_field_as_output_text ∷ [])
     (1 ∷ 0 ∷ []) number_field_as_output_text ≡ record {
       tag = (1 ∷ 0 ∷ []);
@@ -149,8 +149,9 @@ pub dictionary_edge : core_of
 unfolding word_class
 dictionary_edge = refl
 
--- what is no parameter has a place, and is no input:
+-- what is no parameter has a place; a field of numbers in it stands as an input all the same:
 -- t$_ n:# = T n (3 + n) uint8;
+-- The schema is refused: KindMismatch T.t.=.
 abbrev no_parameters_text : ConstructorView
 no_parameters_text =
     (declaration (Some (codes "t")) (given []) (an_item (explicit (Some (codes "n")) (plain nat32)) no_items) (codes

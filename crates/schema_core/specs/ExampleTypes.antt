@@ -44,6 +44,7 @@ basic_types = refl
 
 -- basic types with their width in the name; one with leading zeros is an ordinary name:
 -- t$_ a:uint8 b:int257 c:bits0 d:uint00 = T;
+-- The schema is refused: UnknownType T.t.d.
 abbrev widths_in_names_text : ConstructorView
 widths_in_names_text =
     (declaration (Some (codes "t")) (given []) (an_item (explicit (Some (codes "a")) (plain (named (codes "uint8")
@@ -122,6 +123,7 @@ dictionaries = refl
 
 -- HashmapNode is no type:
 -- t$_ a:(HashmapNode 3 uint8) = T;
+-- The schema is refused: UnknownType T.t.a.
 abbrev dictionary_node_text : ConstructorView
 dictionary_node_text =
     (declaration (Some (codes "t")) (given []) (an_item (explicit (Some (codes "a")) (plain (named (codes
