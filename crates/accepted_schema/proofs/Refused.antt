@@ -9,17 +9,10 @@ use Rattle.core_form.specs.Core.{Word, Declaration, CoreSchema}
 use Rattle.schema_leads.specs.Laws.{SeparationIsDecided}
 use Rattle.schema_leads.specs.Separation.{are_separated}
 use Rattle.accepted_schema.specs.Accepted.{HasShortTags, AreAllSeparated}
+use Rattle.accepted_schema.specs.NoneLaws.{both_none}
 use Rattle.accepted_schema.specs.Refusals.{of_tag, of_tags, of_pair, of_later, of_pairs, of_type_of, tag_refusals}
 
 -- ---- lists without elements
-
-pub record BothNone {X : Type 0} (xs ys : List X) : Type 0 where
-  pub first : xs ≡ []
-  pub second : ys ≡ []
-
-pub both_none : {X : Type 0} (xs ys : List X) → xs ++ ys ≡ [] → BothNone xs ys
-both_none [] ys e = record { first = refl; second = e }
-both_none (x ∷ xs) ys e = absurd (omega (arith, ap length e))
 
 join_none : {X : Type 0} (xs ys : List X) → xs ≡ [] → ys ≡ [] → xs ++ ys ≡ []
 join_none xs ys e h = ap (λ zs. zs ++ ys) e ∙ h

@@ -21,7 +21,8 @@ HasShortTags s = (i : ℕ) (d : Declaration) → slice_get s i ≡ Some d → le
 -- every two constructors of a type are separated
 abbrev pub AreAllSeparated : CoreSchema → Type 0
 AreAllSeparated s =
-    (i j : ℕ) (d e : Declaration) → i < j → slice_get s i ≡ Some d → slice_get s j ≡ Some e → d.of_type ≡ e.of_type
+    (i j : ℕ) (d e : Declaration) → i < j → slice_get s i ≡ Some d → slice_get s j ≡ Some e
+    → d.of_type ≡ e.of_type
     → AreSeparated s d e
 
 pub record IsAccepted (s : SchemaView) : Type 0 where

@@ -5,14 +5,10 @@ use Rattle.std.specs.Prelude.{option_map}
 use Rattle.tlb_syntax.specs.Tree.{SchemaView}
 use Rattle.tlb_guard.specs.Cycles.{ItemIndex, item_index, or_else, first_from, first_unguarded, first_unguarded_item}
 use Rattle.tlb_guard.specs.Exposed.{Known, known}
-use Rattle.tlb_kinds.specs.declared.error.KindError.{KindError}
 use Rattle.tlb_kinds.specs.Refusals.{IsKinded, kept_of, ordinary, refusals, refusals_within, of_headings, of_contents}
 use Rattle.tlb_kinds.specs.Refusals.{of_guard, of_place, unguarded_at}
 use Rattle.schema_leads.specs.FirstFields.{IsGuarded}
-
-second_none : (xs ys : List KindError) → xs ++ ys ≡ [] → ys ≡ []
-second_none [] ys e = e
-second_none (x ∷ xs) ys e = absurd (omega (arith, ap length e))
+use Rattle.accepted_schema.specs.NoneLaws.{both_none}
 
 by_first : (k : Known) (n most : ℕ) (found : Option ℕ) (later : Option ItemIndex) (p : ItemIndex) → n < most
     → (later ≡ Some p → p.constructor < most) → or_else (option_map (item_index n) found) later ≡ Some p
@@ -50,6 +46,6 @@ found_none s (Some p) is none = absurd (refused_there [] s p.constructor p.item 
 pub kinded_is_guarded : (s : SchemaView) → IsKinded s → IsGuarded (kept_of s)
 unfolding refusals refusals_within
 kinded_is_guarded s e =
-    let within = second_none (of_headings [] (ordinary s)) (refusals_within (kept_of s)) e in
-    let guard = second_none (of_contents (kept_of s) [] (kept_of s)) (of_guard (kept_of s)) within in
-    found_none (kept_of s) (first_unguarded (kept_of s)) refl guard
+    let within = both_none (of_headings [] (ordinary s)) (refusals_within (kept_of s)) e in
+    let guard = both_none (of_contents (kept_of s) [] (kept_of s)) (of_guard (kept_of s)) within.second in
+    found_none (kept_of s) (first_unguarded (kept_of s)) refl guard.second

@@ -1,5 +1,6 @@
 -- What the laws say: facts about the definitions alone.
-use Rattle.std.specs.Prelude.{ℕ, ◌≡◌, ◌⊎◌, ◌↔◌, ◌^◌, ◌<◌, List, [], All, Some, None, slice_get}
+use Rattle.std.specs.Prelude.{ℕ, ◌≡◌, ◌⊎◌, ◌↔◌, ◌^◌, ◌<◌}
+use Rattle.std.specs.Prelude.{List, [], All, Some, None, slice_get}
 use Rattle.tlb_syntax.specs.Limits.{IsWithinLimits}
 use Rattle.tlb_syntax.specs.Tree.{SchemaView}
 use Rattle.tlb_kinds.specs.Refusals.{IsKinded, kept_of}
@@ -32,4 +33,5 @@ abbrev pub OneConstructor : Type 0
 OneConstructor =
     (s : SchemaView) → IsAccepted s → (i j : ℕ) (d e : Declaration) (ns bits : List ℕ)
     → slice_get (kept_cores s) i ≡ Some d → slice_get (kept_cores s) j ≡ Some e → d.of_type ≡ e.of_type
-    → All (λ n. n < 2 ^ 32) ns → CanEnter (kept_cores s) d ns bits → CanEnter (kept_cores s) e ns bits → i ≡ j
+    → All (λ n. n < 2 ^ 32) ns → CanEnter (kept_cores s) d ns bits
+    → CanEnter (kept_cores s) e ns bits → i ≡ j

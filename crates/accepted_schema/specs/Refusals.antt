@@ -1,7 +1,7 @@
 -- The refusals of a schema by its tags and leads, in their order. A schema stands here by its core forms.
 -- Source: this project's own.
-use Rattle.std.specs.Prelude.{List, [], ◌∷◌, ◌++◌, ◌&&◌, not, length, nat_lt, bytes_eq, Option, Some, None}
-use Rattle.std.specs.Prelude.{if◌then◌else◌}
+use Rattle.std.specs.Prelude.{List, [], ◌∷◌, ◌++◌, ◌&&◌, not, length, nat_lt, bytes_eq}
+use Rattle.std.specs.Prelude.{Option, Some, None, if◌then◌else◌}
 use Rattle.std.specs.List.{flat_map}
 use Rattle.core_form.specs.Core.{Word, Declaration, CoreSchema}
 use Rattle.schema_leads.specs.Separation.{are_separated}

@@ -1,5 +1,6 @@
 //! What follows from the definitions alone.
-ghost use Rattle.accepted_schema.specs.Laws.{AcceptedHasNoRefusal, AcceptedOrRefused, AcceptedStays, AcceptedWithoutCause, OneConstructor};
+ghost use Rattle.accepted_schema.specs.Laws.{AcceptedHasNoRefusal, AcceptedOrRefused, AcceptedStays};
+ghost use Rattle.accepted_schema.specs.Laws.{AcceptedWithoutCause, OneConstructor};
 
 use schema_leads::laws::{separated_enter_one, separation_is_decided};
 use tlb_kinds::laws::{kept_stays_within, kinded_stays, passed_over};
