@@ -37,7 +37,7 @@ fn the_shortest_form_is_required(rt: HostRuntime) {
 static READ: [(u32, &str, u32, &str); 8] = [
     (0, "2_", 2, ""),
     (1, "5", 4, "C_"),
-    (2, "D5", 5, "2_"),
+    (2, "D4A", 5, "2_"),
     (7, "62_", 6, "2_"),
     (7, "A54_", 9, "A"),
     (7, "EE_", 6, "F_"),

@@ -117,6 +117,13 @@ fn numbers_compare_to_variables(rt: HostRuntime) {
     }
 }
 
+#[test]
+fn numbers_are_copied(rt: HostRuntime) {
+    let env = numbers(&rt, rt.alloc());
+    let copied = env.copy(rt.alloc()).expect(&rt, "memory");
+    assert!(rt; copied.len() == 4 && copied.get(0) == Some(5) && copied.get(2).is_none());
+}
+
 /// The solution of an equation with one unknown.
 fn solved(left: &NatExpr, right: &NatExpr, env: &Env) -> Option<Result<u32, NatError>> {
     match sought(left, right) {

@@ -7,7 +7,7 @@ use sqlite_items::{Boxed, Items};
 use std::alloc::Global;
 use std::process::Abort;
 use typed_value::{Dict, Hidden, Name, Number, Path, Record, RestPart, Step, Value};
-use value_text::print;
+use value_text::{parse_path, print};
 
 fn name(rt: &impl Abort, alloc: Global, text: &str) -> Name {
     assert!(rt; is_name(text.as_bytes()));
@@ -131,4 +131,16 @@ fn values_of_each_form_are_copied_and_printed(rt: HostRuntime) {
     assert!(rt; copy.levels() == 6 && copy.parts() == 14);
     let text = print(rt.alloc(), &copy).expect(&rt, "memory");
     assert!(rt; text.as_slice() == TEXT.as_bytes());
+}
+
+// Paths, and how many steps they have.
+static PATHS: [(&str, usize); 3] = [("/", 0), ("/_2", 1), ("/inner/3/x{C_}", 3)];
+
+#[test]
+fn paths_are_parsed(rt: HostRuntime) {
+    for (text, count) in PATHS.iter() {
+        let path = parse_path(rt.alloc(), text).ok().expect(&rt, "a path");
+        assert!(rt; path.steps.len() == *count, "at {text}");
+    }
+    assert!(rt; parse_path(rt.alloc(), "/a/").is_err());
 }
