@@ -1,6 +1,6 @@
 -- The parts of sums, and of more expressions than one.
-use Rattle.std.proofs.Common.{◌≡◌, ◌≢◌, ◌<◌, ◌-◌, ◌^◌, ℕ, min, take, length, get_or, arith, ap, sym, ◌∙◌, List, [], ◌∷◌, ◌++◌, ◌+◌, map, refl, Bool, true, false, cond, ◌||◌, not, append_assoc}
-use Rattle.std.specs.Prelude.{Option, Some, None, filter}
+use Rattle.std.proofs.Common.{◌≡◌, ◌≢◌, ◌<◌, ◌-◌, ◌^◌, ℕ, min, take, length, get_or, arith, ap, sym, ◌∙◌, List, [], ◌∷◌, ◌++◌, ◌+◌, map, refl, Bool, true, false, cond, ◌||◌, append_assoc}
+use Rattle.std.specs.Prelude.{Option, None, filter}
 use Rattle.std.specs.List.{list_any}
 use Rattle.std.proofs.lemmas.List.{append-nil, take_more}
 use Rattle.std.proofs.lemmas.List.Folds.{list_any-append}
@@ -9,12 +9,12 @@ use Rattle.std.proofs.lemmas.List.Elements.{filter-append}
 use Rattle.tlb_syntax.specs.declared.tree.Expr.{Expr}
 use Rattle.tlb_syntax.specs.declared.tree.Expr.TheVariants.{Named, Star, Sum}
 use Rattle.tlb_syntax.specs.View.{expr, exprs}
-use Rattle.tlb_syntax.specs.Tree.{ExprView, ExprList, lit, named, plus, star, no_exprs, an_expr, exprs_of, nested, sum_of}
+use Rattle.tlb_syntax.specs.Tree.{ExprView, named, plus, star, exprs_of, nested, sum_of}
 use Rattle.kind_terms.specs.Words.{Word}
 use Rattle.kind_terms.specs.Params.{bare_name}
-use Rattle.kind_terms.specs.Forms.{is_out, out_name, parts, parts_of_all}
+use Rattle.kind_terms.specs.Forms.{is_out, parts, parts_of_all}
 use Rattle.kind_terms.specs.Outs.{Outs, nothing, one, several, joined, outs_of, summary}
-use Rattle.kind_terms.specs.Sought.{Sides, cancels, holds_out, is_named, only_out_name, sides, unknown_of, uses}
+use Rattle.kind_terms.specs.Sought.{cancels, holds_out, is_named, only_out_name, sides, unknown_of, uses}
 use Rattle.kind_terms.specs.SumLaws.{expr_of_name, expr_of_star, expr_of_sum}
 
 -- ---- sums

@@ -1,5 +1,5 @@
 -- One more declaration among those found by their types.
-use Rattle.std.proofs.Common.{◌≡◌, ℕ, ap, sym, ◌∙◌, List, [], ◌∷◌, ◌++◌, map, refl, Bool, true, false, cond, Some, None, Option, bytes_eq, filter}
+use Rattle.std.proofs.Common.{◌≡◌, ℕ, ap, sym, ◌∙◌, List, [], ◌∷◌, ◌++◌, map, refl, Bool, true, false, cond, Some, bytes_eq}
 use Rattle.std.specs.Borrow.{Bor}
 use Rattle.std.specs.HashMap.{HashMap}
 use Rattle.std.specs.Map.{update}

@@ -1,6 +1,6 @@
 -- The unknown of an equation.
 -- Source: the TON documentation on TL-B (constraints), and this project's rules.
-use Rattle.std.specs.Prelude.{ℕ, ◌&&◌, ◌||◌, not, ◌==◌, List, [], ◌∷◌, ◌++◌, filter, Bool, true, false, Option, Some}
+use Rattle.std.specs.Prelude.{ℕ, ◌&&◌, ◌||◌, not, ◌==◌, List, [], ◌∷◌, ◌++◌, filter, Bool, false, Option, Some}
 use Rattle.std.specs.Prelude.{None, count_by, bytes_eq, if◌then◌else◌}
 use Rattle.std.specs.List.{list_any}
 use Rattle.nat_solver.specs.declared.compare.Op.{Op}

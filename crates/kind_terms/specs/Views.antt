@@ -1,7 +1,6 @@
 -- What the program's values stand for.
 use Rattle.std.specs.Prelude.{◌+◌, List, [], map, Option, Some, None}
 use Rattle.std.specs.Borrow.{Bor}
-use Rattle.tlb_syntax.specs.declared.tree.Constructor.{Constructor}
 use Rattle.tlb_syntax.specs.Tree.{SchemaView}
 use Rattle.tlb_syntax.specs.View.{constructor}
 use Rattle.kind_terms.specs.declared.kind.TermKind.{TermKind}
@@ -17,7 +16,6 @@ use Rattle.kind_terms.specs.declared.types.TypeNamed.{TypeNamed as ProgramType}
 use Rattle.kind_terms.specs.Positions.{unnamed_name}
 use Rattle.kind_terms.specs.Scopes.{Binding}
 use Rattle.kind_terms.specs.Types.{TypeNamed, no_type, basic, declared}
-use Rattle.kind_terms.specs.Words.{Word}
 
 abbrev pub binding_of : ProgramBinding → Binding
 binding_of e = record { name = e.name.now; meaning = e.meaning }

@@ -102,6 +102,13 @@ impl Family {
         is_wide_in(self.word(), most, name)
     }
 
+    /// Whether the name is the word and then a width that is greater than the greatest.
+    pub fn is_too_wide(self, name: &[u8]) -> bool
+        ensures { result ≡ is_wide_of name.now self }
+    {
+        self.is_wider(self.widest(), name)
+    }
+
     /// Whether the name is the word and then a width of at least 1.
     pub fn has_some_width(self, name: &[u8]) -> bool
         ensures { result ≡ is_at_least 1 (width_in self name.now) }
@@ -184,9 +191,9 @@ pub fn word_class(name: &[u8]) -> WordClass
 pub fn is_wide(name: &[u8]) -> bool
     ensures { result ≡ list_any (is_wide_of name.now) families }
 {
-    Family::Uint.is_wider(256, name)
-        || Family::Int.is_wider(257, name)
-        || Family::Bits.is_wider(1023, name)
+    Family::Uint.is_too_wide(name)
+        || Family::Int.is_too_wide(name)
+        || Family::Bits.is_too_wide(name)
 }
 
 /// Type, Any, Cell, and the families without a width and with one.
