@@ -6,8 +6,8 @@ use Rattle.tlb_syntax.specs.declared.tree.Expr.{Expr, the_lemmas}
 use Rattle.tlb_syntax.specs.declared.tree.Expr.TheVariants.{Lit, Nat32, Sum}
 use Rattle.tlb_syntax.specs.declared.tree.Item.{Item}
 use Rattle.tlb_syntax.specs.Limits.{AreExprs, AreItems, IsExpr, IsItem, item_count}
-use Rattle.tlb_syntax.specs.Tree.{ExprView, TypeView, ItemView, SchemaView, lit, nat32, plus, nested, sum_of, exprs_of}
-use Rattle.tlb_syntax.specs.View.{expr, exprs, expr_step, type_step, item_step, item, items}
+use Rattle.tlb_syntax.specs.Tree.{ExprView, SchemaView, lit, nat32, plus, nested, exprs_of}
+use Rattle.tlb_syntax.specs.View.{expr, exprs, item, items}
 use Rattle.field_path.specs.declared.part.Part.{Part}
 use Rattle.kind_terms.specs.Words.{Word, is_among}
 use Rattle.kind_declarations.specs.declared.error.Cause.{Cause}

@@ -1,12 +1,11 @@
 -- The verdicts of sums of numbers.
-use Rattle.std.proofs.Common.{◌≡◌, ◌≤◌, ◌<◌, ap, sym, ◌∙◌, refl, arith, ℕ, List, [], ◌∷◌, ◌++◌, map, length, Bool, true, false, ◌||◌}
-use Rattle.std.specs.Prelude.{Option, Some, None, Result, Ok, Err, if◌then◌else◌, nat_lt}
-use Rattle.std.proofs.lemmas.Bool.{le-ltb}
+use Rattle.std.proofs.Common.{◌≡◌, ap, sym, ◌∙◌, refl, ℕ, List, [], ◌∷◌, ◌++◌, map, Bool, true, false, ◌||◌}
+use Rattle.std.specs.Prelude.{Option, Some, None, Result, Err, if◌then◌else◌}
 use Rattle.tlb_syntax.specs.declared.tree.Expr.{Expr}
 use Rattle.tlb_syntax.specs.declared.tree.Expr.TheVariants.{Sum}
 use Rattle.tlb_syntax.specs.View.{expr, exprs}
 use Rattle.kind_terms.specs.ViewLaws.{seen_sum}
-use Rattle.tlb_syntax.specs.Tree.{ExprView, lit, plus, exprs_of, nested, sum_of}
+use Rattle.tlb_syntax.specs.Tree.{ExprView, plus, exprs_of, nested}
 use Rattle.kind_terms.specs.Closed.{closed, exceeds}
 use Rattle.field_path.specs.declared.part.Part.{Part}
 use Rattle.kind_terms.specs.Params.{greatest}
@@ -14,7 +13,6 @@ use Rattle.kind_terms.specs.Scopes.{Scope}
 use Rattle.kind_terms.specs.Words.{Word}
 use Rattle.kind_declarations.specs.declared.error.Cause.TheVariants.{TooWide}
 use Rattle.kind_declarations.specs.declared.error.Fault.{Fault}
-use Rattle.kind_declarations.specs.declared.error.Fault.TheVariants.{Refused, NoMemory}
 use Rattle.kind_rules.specs.ExpectedKinds.{a_number}
 use Rattle.kind_declarations.specs.Nodes.{ItemContext, Judged, a_use, expr_nodes}
 use Rattle.kind_declarations.specs.Faults.{FaultAt, Judges, causes, fault_at, first, verdict}

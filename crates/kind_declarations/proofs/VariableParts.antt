@@ -2,7 +2,7 @@
 use Rattle.std.proofs.Common.{◌≡◌, ap, sym, ◌∙◌, List, [], ◌∷◌, ◌++◌, map, refl, Bool, true, false, ◌||◌}
 use Rattle.std.specs.List.{list_any}
 use Rattle.std.proofs.lemmas.List.Folds.{list_any-append}
-use Rattle.tlb_syntax.specs.Tree.{ExprView, ExprList, lit, plus, an_expr, exprs_of, nested, sum_of}
+use Rattle.tlb_syntax.specs.Tree.{ExprView, ExprList, plus, an_expr, exprs_of, nested}
 use Rattle.kind_terms.specs.Forms.{parts, parts_of_all}
 use Rattle.tlb_syntax.specs.declared.tree.Expr.{Expr}
 use Rattle.tlb_syntax.specs.declared.tree.Expr.TheVariants.{Sum}

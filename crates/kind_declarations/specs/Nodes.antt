@@ -1,6 +1,5 @@
 -- What is judged in a schema, in the order of the text, each with what it sees: a node comes before its parts.
-use Rattle.std.specs.Prelude.{ℕ, ◌+◌, ◌==◌, List, [], ◌∷◌, ◌++◌, Bool, true, false, Option, Some, None, codes, decimal}
-use Rattle.std.specs.Prelude.{if◌then◌else◌}
+use Rattle.std.specs.Prelude.{List, [], ◌∷◌, ◌++◌, Option, Some, None}
 use Rattle.tlb_syntax.specs.Tree.{ExprView, ExprList, ItemView, ItemList, TypeView, ConstructorView, SchemaView, lit}
 use Rattle.tlb_syntax.specs.Tree.{named, nat32, bits, below, up_to, plus, star, out, ref, group, no_exprs, an_expr}
 use Rattle.tlb_syntax.specs.Tree.{plain, when, when_bit, implicit, check, explicit, no_items, an_item}
@@ -14,8 +13,7 @@ use Rattle.kind_terms.specs.Params.{greatest, inputs}
 use Rattle.kind_terms.specs.Types.{type_named, parameters, has_exprs}
 use Rattle.kind_terms.specs.Sought.{sought}
 use Rattle.kind_terms.specs.Scopes.{Scope, field_names, given_out, after, at_end, inside, made_known}
-use Rattle.kind_rules.specs.declared.expected.TypePosition.{TypePosition}
-use Rattle.kind_rules.specs.declared.expected.TypePosition.TheVariants.{Whole, Conditional, FieldRef, UnderRef, Inner}
+use Rattle.kind_rules.specs.declared.expected.TypePosition.TheVariants.{Whole, Conditional, Inner}
 use Rattle.kind_rules.specs.ExpectedKinds.{Expected, Use, a_number, an_output, a_type, under}
 use Rattle.kind_declarations.specs.Headings.{Heading, Param}
 use Rattle.kind_rules.specs.Names.{Field}

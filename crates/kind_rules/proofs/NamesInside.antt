@@ -1,11 +1,11 @@
 -- The names of fields of records in expressions.
-use Rattle.std.proofs.Common.{◌≡◌, ap, sym, ◌∙◌, refl, ℕ, ◌+◌, ◌<◌, ◌≤◌, List, [], ◌∷◌, ◌++◌, map, drop, length, get_or, append_assoc}
+use Rattle.std.proofs.Common.{◌≡◌, ap, sym, ◌∙◌, ℕ, ◌+◌, ◌<◌, ◌≤◌, List, [], ◌∷◌, ◌++◌, map, drop, length, get_or, append_assoc}
 use Rattle.std.proofs.lemmas.List.{append-nil}
 use Rattle.tlb_syntax.specs.declared.tree.Expr.{Expr}
 use Rattle.tlb_syntax.specs.declared.tree.Item.{Item}
 use Rattle.tlb_syntax.specs.declared.tree.Expr.TheVariants.{Sum, Star}
 use Rattle.tlb_syntax.specs.View.{expr, exprs, item, items}
-use Rattle.tlb_syntax.specs.Tree.{ExprView, plus, exprs_of, nested, sum_of}
+use Rattle.tlb_syntax.specs.Tree.{ExprView, plus, exprs_of, nested}
 use Rattle.std.specs.Prelude.{Result, Ok, Err, OnOk}
 use Rattle.kind_terms.specs.Words.{Word}
 use Rattle.kind_terms.specs.Scopes.{field_names}

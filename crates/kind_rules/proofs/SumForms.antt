@@ -1,5 +1,5 @@
 -- Sums of two terms and more.
-use Rattle.std.proofs.Common.{◌≡◌, ◌<◌, ap, sym, ◌∙◌, arith, List, [], ◌∷◌, length, map, refl, not, inl, inr, ◌⊎◌}
+use Rattle.std.proofs.Common.{◌≡◌, ap, sym, ◌∙◌, List, [], ◌∷◌, map, refl, not, inl, inr, ◌⊎◌}
 use Rattle.std.specs.Prelude.{Option, ◌==◌}
 use Rattle.kind_terms.specs.Types.{TypeNamed, count}
 use Rattle.tlb_syntax.specs.declared.tree.Expr.{Expr}

@@ -1,5 +1,5 @@
 -- What the laws say: facts about the definitions alone.
-use Rattle.std.specs.Prelude.{◌≡◌, ◌&&◌, not, is_some}
+use Rattle.std.specs.Prelude.{◌≡◌, ◌&&◌, not}
 use Rattle.tlb_syntax.specs.Tree.{ExprList, named}
 use Rattle.kind_terms.specs.Words.{Word}
 use Rattle.kind_terms.specs.Types.{type_named, has_exprs}

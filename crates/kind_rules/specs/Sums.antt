@@ -1,5 +1,5 @@
 -- Sums without variables that are too large.
-use Rattle.std.specs.Prelude.{ℕ, ◌||◌, List, [], ◌∷◌, Bool, false, Option}
+use Rattle.std.specs.Prelude.{ℕ, ◌||◌, List, [], ◌∷◌, Bool, Option}
 use Rattle.nat_solver.specs.Number.{exact_sum}
 use Rattle.tlb_syntax.specs.Tree.{ExprView}
 use Rattle.kind_terms.specs.Closed.{closed, exceeds}
