@@ -3,8 +3,10 @@ use Rattle.std.specs.Prelude.{ℕ, ◌≡◌, ◌<◌, ◌⊎◌, Option, Some, 
 use Rattle.nat_solver.specs.Number.{Expr, lit, var, sought, plus, times}
 use Rattle.nat_solver.specs.declared.pattern.Pattern.{Pattern}
 use Rattle.nat_solver.specs.declared.pattern.Pattern.TheVariants.{Lit, Var, Plus}
-use Rattle.core_form.specs.Core.{Ty, Args, Item, Items, Condition, Input, Constructor, number, type, check, solve, field}
-use Rattle.core_form.specs.Core.{nat32, bits, below, up_to, uint, int, bit_str, whole, variable, ref, repeat, dict, dict_e}
+use Rattle.core_form.specs.Core.{Ty, Args, Item, Items, Condition, Input, Constructor, number, type, check, solve}
+use Rattle.core_form.specs.Core.{field}
+use Rattle.core_form.specs.Core.{nat32, bits, below, up_to, uint, int, bit_str, whole, variable, ref, repeat, dict}
+use Rattle.core_form.specs.Core.{dict_e}
 use Rattle.core_form.specs.Core.{named, group, no_args, nat_arg, ty_arg, out_arg, no_items, an_item, no_slot}
 
 -- a slot that is read: one of so many, or that of what has no meaning

@@ -65,7 +65,8 @@ abbrev pub AreInputsOf : Option (List Parameter) → ClosedArgs → Type 0
 AreInputsOf None args = ⊥
 AreInputsOf (Some ps) args = AreInputs ps args
 
--- Every type named in it is one of the schema, without outputs and with arguments of the right number and kinds, and each
+-- Every type named in it is one of the schema, without outputs and with arguments of the right number and kinds, and
+-- each
 -- number is one of 32 bits.
 abbrev mutual
   pub ClosedOf : CoreSchema → Closed → Type 0

@@ -1,7 +1,9 @@
 -- A type with numbers and closed types put for its variables.
--- Source: the TON documentation on the TL-B language (parametrized types); the limit of 4,096 nodes is this project's own.
+-- Source: the TON documentation on the TL-B language (parametrized types); the limit of 4,096 nodes is this project's
+-- own.
 use Rattle.std.specs.Prelude.{ℕ, Option, Some, None, Result, Ok, Err, nat_lt, if◌then◌else◌}
-use Rattle.core_form.specs.Core.{Word, Ty, Args, nat32, bits, below, up_to, uint, int, bit_str, whole, variable, ref, repeat}
+use Rattle.core_form.specs.Core.{Word, Ty, Args, nat32, bits, below, up_to, uint, int, bit_str, whole, variable, ref}
+use Rattle.core_form.specs.Core.{repeat}
 use Rattle.core_form.specs.Core.{dict, dict_e, named, group, no_args, nat_arg, ty_arg, out_arg}
 use Rattle.core_form.specs.Closed.{Closed, ClosedArgs, nodes}
 use Rattle.core_form.specs.Closed as closed

@@ -1,4 +1,5 @@
--- The core form of a constructor: its items with every name looked up. A variable is a slot of the constructor, a type is
+-- The core form of a constructor: its items with every name looked up. A variable is a slot of the constructor, a
+-- type is
 -- one of the forms that spell something, and implicit fields have gone.
 -- Source: the TON documentation on the TL-B language (constructors, fields, parametrized types, built-in types).
 use Rattle.std.specs.Prelude.{ℕ, List, [], ◌∷◌, ◌++◌, Option, Some, None}
@@ -48,7 +49,8 @@ mutual
     out_arg : ℕ → Args → Args
 
   -- The last number of a check and of an equation is its place among all items of its record, from 1. An equation has
-  -- the slot of its unknown. A field has the name that it is shown by, the slot that its number sets, and its condition.
+  -- the slot of its unknown. A field has the name that it is shown by, the slot that its number sets, and its
+  -- condition.
   pub data Item : Type 0 where
     check : Expr → Op → Expr → ℕ → Item
     solve : ℕ → Expr → Expr → ℕ → Item

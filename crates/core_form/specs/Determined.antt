@@ -1,4 +1,5 @@
--- In which core forms each variable is set before it is used, so that a number of it has no value only where it, or a part
+-- In which core forms each variable is set before it is used, so that a number of it has no value only where it, or a
+-- part
 -- of it, exceeds 2^32 - 1.
 -- Source: the TON documentation on the TL-B language (implicit and explicit fields), and this project's rules.
 use Rattle.std.specs.Prelude.{ℕ, ◌≡◌, ◌&&◌, Bool, true, false, List, [], ◌∷◌, ◌++◌, Option, Some, None, nat_eq}
@@ -6,8 +7,10 @@ use Rattle.std.specs.List.{list_any, list_all}
 use Rattle.nat_solver.specs.Number.{Expr, lit, var, sought, plus, times, number_at}
 use Rattle.nat_solver.specs.declared.pattern.Pattern.{Pattern}
 use Rattle.nat_solver.specs.declared.pattern.Pattern.TheVariants.{Lit, Var, Plus}
-use Rattle.core_form.specs.Core.{Ty, Args, Item, Items, Condition, Input, Constructor, number, type, check, solve, field}
-use Rattle.core_form.specs.Core.{nat32, bits, below, up_to, uint, int, bit_str, whole, variable, ref, repeat, dict, dict_e}
+use Rattle.core_form.specs.Core.{Ty, Args, Item, Items, Condition, Input, Constructor, number, type, check, solve}
+use Rattle.core_form.specs.Core.{field}
+use Rattle.core_form.specs.Core.{nat32, bits, below, up_to, uint, int, bit_str, whole, variable, ref, repeat, dict}
+use Rattle.core_form.specs.Core.{dict_e}
 use Rattle.core_form.specs.Core.{named, group, no_args, nat_arg, ty_arg, out_arg, no_items, an_item, sets}
 use Rattle.core_form.specs.Closed.{Closed}
 use Rattle.core_form.specs.Scope.{Scope, type_at}

@@ -33,7 +33,8 @@ meets (Plus v k) n scope next e =
     elim (cases_lt n k) [
       | inl h ↦ let none : meet (Plus v k) n scope ≡ None = cond-true (nat_lt n k) _ _ (lt-ltb n k h) in
           let bad : None ≡ Some next = sym none ∙ e in cc
-      | inr h ↦ let some : meet (Plus v k) n scope ≡ Some (with_number v (n - k) scope) = cond-false (nat_lt n k) _ _ (le-ltb n k h) in
+      | inr h ↦ let some : meet (Plus v k) n scope ≡ Some (with_number v (n - k) scope) = cond-false (nat_lt n k) _ _
+          (le-ltb n k h) in
           let both : Some (with_number v (n - k) scope) ≡ Some next = sym some ∙ e in
           let s : with_number v (n - k) scope ≡ next = cc in (n - k, omega (arith, h), sym s)
     ]

@@ -3,7 +3,8 @@ use Rattle.std.proofs.Common.{◌≡◌, ℕ, ◌+◌, ◌*◌, ◌^◌, List, [
 use Rattle.std.proofs.Common.{refl, sym, ap, ◌∙◌, subst, inl, inr}
 use Rattle.std.proofs.lemmas.Bool.{cases_lt}
 use Rattle.nat_solver.specs.Number.{Expr, lit, var, sought, plus, times, Numbers, within, within_any, sum_within}
-use Rattle.nat_solver.specs.Number.{times_within, value, exact_sum, exact_times, number, parts, unknowns, Exceeds, first_lacking}
+use Rattle.nat_solver.specs.Number.{times_within, value, exact_sum, exact_times, number, parts, unknowns, Exceeds}
+use Rattle.nat_solver.specs.Number.{first_lacking}
 use Rattle.nat_solver.specs.ValueLaws.{within_fits, number_from_value, or_else, first_append, none_append, alone_lacks}
 use Rattle.nat_solver.specs.ValueLaws.{known_lacks, none_from_value}
 use Rattle.nat_solver.specs.SolutionLaws.{nil_left, nil_right}
@@ -36,7 +37,8 @@ valued_is_plain k (plus a b) h =
 valued_is_plain k (times n a) h = valued_is_plain k a h
 
 -- a number without a value whose parts have values is too large
-large_itself : (e : Expr) (env : Numbers) (n : ℕ) → unknowns e ≡ [] → number e env ≡ Some n → value e env ≡ within n → value e env ≡ None
+large_itself : (e : Expr) (env : Numbers) (n : ℕ) → unknowns e ≡ [] → number e env ≡ Some n → value e env ≡ within n
+    → value e env ≡ None
     → first_lacking (parts e) env ≡ first_lacking (e ∷ []) env → Exceeds (first_lacking (parts e) env) env
 large_itself e env n u i w none alone =
     let first : first_lacking (parts e) env ≡ Some e = alone ∙ alone_lacks e env (known_lacks e env u none) in
@@ -46,7 +48,8 @@ large_itself e env n u i w none alone =
       | inr h ↦ (n, i, h)
     ])
 
-exceeds_left : (xs ys : List Expr) (env : Numbers) → Exceeds (first_lacking xs env) env → Exceeds (first_lacking (xs ++ ys) env) env
+exceeds_left : (xs ys : List Expr) (env : Numbers) → Exceeds (first_lacking xs env) env
+    → Exceeds (first_lacking (xs ++ ys) env) env
 exceeds_left xs ys env h = cases (first_lacking xs env) refl h
   where
     cases : (o : Option Expr) → first_lacking xs env ≡ o → Exceeds o env → Exceeds (first_lacking (xs ++ ys) env) env
@@ -70,7 +73,8 @@ none_exceeds (plus a b) env n u i v =
     (λ l p q. none_exceeds a env l (nil_left (unknowns a) (unknowns b) u) p q)
     (λ r p q. none_exceeds b env r (nil_right (unknowns a) (unknowns b) u) p q)
   where
-    cases : (x y : Option ℕ) → number a env ≡ x → number b env ≡ y → (l r : Option ℕ) → value a env ≡ l → value b env ≡ r
+    cases : (x y : Option ℕ) → number a env ≡ x → number b env ≡ y → (l r : Option ℕ) → value a env ≡ l
+        → value b env ≡ r
         → exact_sum x y ≡ Some n
         → ((l : ℕ) → number a env ≡ Some l → value a env ≡ None → Exceeds (first_lacking (parts a) env) env)
         → ((r : ℕ) → number b env ≡ Some r → value b env ≡ None → Exceeds (first_lacking (parts b) env) env)
@@ -85,7 +89,8 @@ none_exceeds (plus a b) env n u i v =
         let rs : Some r ≡ Some y = sym (number_from_value b env r t) ∙ q in
         large_itself (plus a b) env (x + y) u (λ j. exact_sum (p j) (q j))
         ((λ j. sum_within (s j) (t j)) ∙ (λ j. sum_within (ls j) (rs j))) v
-        (none_append (parts a) _ env (none_from_value a env l s) ∙ none_append (parts b) _ env (none_from_value b env r t))
+        (none_append (parts a) _ env (none_from_value a env l s)
+            ∙ none_append (parts b) _ env (none_from_value b env r t))
 none_exceeds (times k a) env n u i v =
     cases (number a env) refl (value a env) refl i (λ l p q. none_exceeds a env l u p q)
   where

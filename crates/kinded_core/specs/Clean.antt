@@ -21,5 +21,6 @@ AreClean (j ∷ js) = IsClean j.node × AreClean js
 pub record Agrees (s : Scope) (names : Names) (k : Known) : Type 0 where
   pub same : AreSameNames (s.around ++ s.own) names
   pub bound : (x : Word) → is_known s x ≡ true → (v : Variable) × (meaning names x ≡ Some v)
-  pub numbers : (x : Word) (v : ℕ) → is_known s x ≡ true → meaning names x ≡ Some (a_number v) → is_in k.numbers v ≡ true
+  pub numbers : (x : Word) (v : ℕ) → is_known s x ≡ true → meaning names x ≡ Some (a_number v)
+      → is_in k.numbers v ≡ true
   pub types : (x : Word) (v : ℕ) → is_known s x ≡ true → meaning names x ≡ Some (a_type v) → is_in k.types v ≡ true

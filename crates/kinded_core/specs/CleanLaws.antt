@@ -11,7 +11,8 @@ use Rattle.kind_declarations.specs.Faults.{has, causes, in_order, fault_at, faul
 use Rattle.kind_declarations.specs.Nodes.{Node, Judged, a_use}
 use Rattle.kind_rules.specs.ExpectedKinds.{Use}
 use Rattle.kind_rules.specs.Names.{is_unknown_type, is_unknown_name, is_other_arity, is_other_field_used}
-use Rattle.kind_rules.specs.Numbers.{is_product_of_variables, is_type_for_number, is_number_for_type, is_other_basic_arity}
+use Rattle.kind_rules.specs.Numbers.{is_product_of_variables, is_type_for_number, is_number_for_type}
+use Rattle.kind_rules.specs.Numbers.{is_other_basic_arity}
 use Rattle.kind_rules.specs.Known.{is_used_unknown, is_other_out, is_known_twice}
 use Rattle.kind_rules.specs.Outputs.{is_output_inside, is_no_output}
 use Rattle.kind_rules.specs.Records.{is_misplaced_record}
@@ -36,7 +37,8 @@ filter_none : {X : Type 0} (test : X → Bool) (x : X) (xs : List X) → filter 
     → (test x ≡ false) × (filter test xs ≡ [])
 filter_none test x xs e = cases (test x) refl e
   where
-    cases : (b : Bool) → test x ≡ b → cond b (x ∷ filter test xs) (filter test xs) ≡ [] → (test x ≡ false) × (filter test xs ≡ [])
+    cases : (b : Bool) → test x ≡ b → cond b (x ∷ filter test xs) (filter test xs) ≡ [] → (test x ≡ false)
+        × (filter test xs ≡ [])
     cases true is h = cc
     cases false is h = (is, h)
 

@@ -1,4 +1,5 @@
--- Constraints of which no cause holds: an equation that seeks a variable has its slot as the one unknown of its sides, and
+-- Constraints of which no cause holds: an equation that seeks a variable has its slot as the one unknown of its
+-- sides, and
 -- the sides of any other constraint are numbers.
 use Rattle.std.proofs.Common.{◌≡◌, ℕ, List, [], ◌∷◌, ◌++◌, map, Option, Some, None, Bool, true, false, not, ◌&&◌, ◌==◌}
 use Rattle.std.proofs.Common.{refl, sym, ap, ◌∙◌, subst, inl, inr, ◌⊎◌, cond}
@@ -18,19 +19,22 @@ use Rattle.kind_terms.specs.Closed.{closed, exact_product, is_zero}
 use Rattle.kind_terms.specs.Forms.{parts, is_out}
 use Rattle.kind_terms.specs.Params.{bare_name, greatest}
 use Rattle.kind_terms.specs.Scopes.{meaning_of, is_number_meaning}
-use Rattle.kind_terms.specs.Sought.{sides, only_out_name, unknown_of, holds_out, cancels, occurrences, can_be_sought, sought_if}
+use Rattle.kind_terms.specs.Sought.{sides, only_out_name, unknown_of, holds_out, cancels, occurrences, can_be_sought}
+use Rattle.kind_terms.specs.Sought.{sought_if}
 use Rattle.kind_terms.specs.Sought.{sought}
 use Rattle.kind_rules.specs.ExpectedKinds.{a_number}
 use Rattle.kind_declarations.specs.Nodes.{ItemContext, expr_nodes}
 use Rattle.core_form.specs.Determined.{Known, is_valued_side}
 use Rattle.schema_core.specs.Names.{Names, a_number as numbered, meaning, number_called, number_slot}
-use Rattle.schema_core.specs.Numbers.{number_of, side_of, variable_or_none, sought_or_none, product, named_number, only_one}
+use Rattle.schema_core.specs.Numbers.{number_of, side_of, variable_or_none, sought_or_none, product, named_number}
+use Rattle.schema_core.specs.Numbers.{only_one}
 use Rattle.schema_core.specs.Numbers.{unknown_by}
 use Rattle.schema_core.specs.Numbers as core
 use Rattle.schema_core.specs.PlainLaws.{plain_number}
 use Rattle.kinded_core.specs.Clean.{AreClean, Agrees}
 use Rattle.kinded_core.specs.CleanLaws.{CleanUse, clean_use, clean_both}
-use Rattle.kinded_core.specs.NumberLaws.{use_of, out_sought, out_meaning, number_variable, number_args, name_set, factor_closed}
+use Rattle.kinded_core.specs.NumberLaws.{use_of, out_sought, out_meaning, number_variable, number_args, name_set}
+use Rattle.kinded_core.specs.NumberLaws.{factor_closed}
 use Rattle.kinded_core.specs.NumberLaws.{both_true}
 
 -- ---- the sides have values
@@ -42,7 +46,8 @@ product_side k None (Some n) a b p q h = p
 product_side k None None a b p q h = absurd (h refl refl)
 
 -- the slot of the x of `~x`
-out_slot : (e : ExprView) (a : ItemContext) (names : Names) (k : Known) → Agrees a.scope names k → (most : ℕ) (q : Option Word)
+out_slot : (e : ExprView) (a : ItemContext) (names : Names) (k : Known) → Agrees a.scope names k → (most : ℕ)
+    (q : Option Word)
     → CleanUse (use_of a.scope (a_number most q) (out e)) → (v : ℕ) × (named_number names (bare_name e) ≡ Some v)
 out_slot e a names k g most q c =
     let w = out_sought a.scope most q e c in
@@ -50,7 +55,8 @@ out_slot e a names k g most q c =
     let v = number_variable a.scope names k g w.name (out_meaning a.scope most q w.name (subst P w.is c)) in
     (v.0, ap (λ f. named_number names (bare_name f)) w.is ∙ ap number_slot v.1)
 
-pub side_set : (e : ExprView) (a : ItemContext) (names : Names) (k : Known) → Agrees a.scope names k → (most : ℕ) (q : Option Word)
+pub side_set : (e : ExprView) (a : ItemContext) (names : Names) (k : Known) → Agrees a.scope names k → (most : ℕ)
+    (q : Option Word)
     → AreClean (expr_nodes e a (Some (a_number most q))) → is_valued_side k (side_of names e) ≡ true
 side_set (lit n) a names k g most q h = refl
 side_set (named x no_exprs) a names k g most q h =
@@ -62,7 +68,8 @@ side_set (plus e f) a names k g most q h =
     both_true _ _ (side_set e a names k g greatest q p.0) (side_set f a names k g greatest q p.1)
 side_set (star e f) a names k g most q h =
     let p = clean_both (expr_nodes e a (Some (a_number greatest q))) _ h.1 in
-    product_side k (closed e) (closed f) _ _ (side_set e a names k g greatest q p.0) (side_set f a names k g greatest q p.1)
+    product_side k (closed e) (closed f) _ _ (side_set e a names k g greatest q p.0)
+        (side_set f a names k g greatest q p.1)
     (factor_closed e f a most q h)
 side_set (out e) a names k g most q h =
     let w = out_slot e a names k g most q (clean_use _ h.0) in ap (λ o. is_valued_side k (sought_or_none o)) w.1
@@ -88,7 +95,8 @@ side_is_number (plus e f) a names most h =
     λ i. num.plus (side_is_number e a names greatest p.0 i) (side_is_number f a names greatest p.1 i)
 side_is_number (star e f) a names most h =
     let p = clean_both (expr_nodes e a (Some (a_number greatest None))) _ h.1 in
-    product_same (closed e) (closed f) _ _ _ _ (side_is_number e a names greatest p.0) (side_is_number f a names greatest p.1)
+    product_same (closed e) (closed f) _ _ _ _ (side_is_number e a names greatest p.0)
+        (side_is_number f a names greatest p.1)
 side_is_number (out e) a names most h =
     let w = out_sought a.scope most None e (clean_use _ h.0) in let b : None ≡ Some w.name = w.sought in cc
 side_is_number nat32 a names most h = refl
@@ -109,7 +117,8 @@ none_sought l r i j =
 
 -- a constraint whose sides are judged as numbers is no equation
 pub no_unknown : (x : ExprView) (op : Op) (y : ExprView) (a : ItemContext) (names : Names)
-    → AreClean (expr_nodes x a (Some (a_number greatest None))) → AreClean (expr_nodes y a (Some (a_number greatest None)))
+    → AreClean (expr_nodes x a (Some (a_number greatest None)))
+    → AreClean (expr_nodes y a (Some (a_number greatest None)))
     → unknown_by op (side_of names x) (side_of names y) ≡ None
 no_unknown x Eq y a names h i =
     none_sought (side_of names x) (side_of names y)
@@ -130,7 +139,8 @@ filter_both [] ys = refl
 filter_both (x ∷ xs) ys = cases (is_out x) (filter_both xs ys)
   where
     cases : (b : Bool) → filter is_out (xs ++ ys) ≡ filter is_out xs ++ filter is_out ys
-        → cond b (x ∷ filter is_out (xs ++ ys)) (filter is_out (xs ++ ys)) ≡ cond b (x ∷ filter is_out xs) (filter is_out xs) ++ filter is_out ys
+        → cond b (x ∷ filter is_out (xs ++ ys)) (filter is_out (xs ++ ys)) ≡ cond b (x ∷ filter is_out xs)
+        (filter is_out xs) ++ filter is_out ys
     cases true h = ap (λ zs. x ∷ zs) h
     cases false h = h
 
@@ -138,12 +148,14 @@ filter_both (x ∷ xs) ys = cases (is_out x) (filter_both xs ys)
 abbrev each_out : ℕ → List ExprView → List ℕ
 each_out v es = map (λ (p : ExprView). v) (filter is_out es)
 
-map_both : (v : ℕ) (xs ys : List ExprView) → map (λ (p : ExprView). v) (xs ++ ys) ≡ map (λ (p : ExprView). v) xs ++ map (λ (p : ExprView). v) ys
+map_both : (v : ℕ) (xs ys : List ExprView) → map (λ (p : ExprView). v)
+    (xs ++ ys) ≡ map (λ (p : ExprView). v) xs ++ map (λ (p : ExprView). v) ys
 map_both v [] ys = refl
 map_both v (x ∷ xs) ys = ap (λ zs. v ∷ zs) (map_both v xs ys)
 
 each_both : (v : ℕ) (xs ys : List ExprView) → each_out v (xs ++ ys) ≡ each_out v xs ++ each_out v ys
-each_both v xs ys = ap (map (λ (p : ExprView). v)) (filter_both xs ys) ∙ map_both v (filter is_out xs) (filter is_out ys)
+each_both v xs ys = ap (map (λ (p : ExprView). v)) (filter_both xs ys) ∙ map_both v (filter is_out xs)
+    (filter is_out ys)
 
 closed_has_no_out : (e : ExprView) (n : ℕ) → closed e ≡ Some n → (v : ℕ) → each_out v (parts e) ≡ []
 closed_has_no_out (lit m) n h v = refl
@@ -181,18 +193,21 @@ variable_has_none None = refl
 variable_has_none (Some v) = refl
 
 -- of a side that seeks x, whose slot is v
-pub unknowns_are_outs : (e : ExprView) (a : ItemContext) (names : Names) (most : ℕ) (x : Word) (v : ℕ) → number_called names x ≡ Some v
+pub unknowns_are_outs : (e : ExprView) (a : ItemContext) (names : Names) (most : ℕ) (x : Word) (v : ℕ)
+    → number_called names x ≡ Some v
     → AreClean (expr_nodes e a (Some (a_number most (Some x)))) → unknowns (side_of names e) ≡ each_out v (parts e)
 unknowns_are_outs (lit n) a names most x v c h = refl
 unknowns_are_outs (named y no_exprs) a names most x v c h = variable_has_none (number_called names y)
-unknowns_are_outs (named y (an_expr e es)) a names most x v c h = absurd (number_args a.scope most (Some x) y e es (clean_use _ h.0))
+unknowns_are_outs (named y (an_expr e es)) a names most x v c h = absurd
+    (number_args a.scope most (Some x) y e es (clean_use _ h.0))
 unknowns_are_outs (plus e f) a names most x v c h =
     let p = clean_both (expr_nodes e a (Some (a_number greatest (Some x)))) _ h.1 in
     (λ i. unknowns_are_outs e a names greatest x v c p.0 i ++ unknowns_are_outs f a names greatest x v c p.1 i)
     ∙ sym (each_both v (parts e) (parts f))
 unknowns_are_outs (star e f) a names most x v c h =
     let p = clean_both (expr_nodes e a (Some (a_number greatest (Some x)))) _ h.1 in
-    cases (closed e) (closed f) refl refl (unknowns_are_outs e a names greatest x v c p.0) (unknowns_are_outs f a names greatest x v c p.1)
+    cases (closed e) (closed f) refl refl (unknowns_are_outs e a names greatest x v c p.0)
+        (unknowns_are_outs f a names greatest x v c p.1)
     (factor_closed e f a most (Some x) h)
     ∙ sym (each_both v (parts e) (parts f))
   where
@@ -201,12 +216,14 @@ unknowns_are_outs (star e f) a names most x v c h =
         → unknowns (product m n (side_of names e) (side_of names f)) ≡ each_out v (parts e) ++ each_out v (parts f)
     cases (Some m) n i j p q one = q ∙ ap (λ us. us ++ each_out v (parts f)) (sym (closed_has_no_out e m i v))
     cases None (Some n) i j p q one =
-        p ∙ sym (append_nil (each_out v (parts e))) ∙ ap (λ us. each_out v (parts e) ++ us) (sym (closed_has_no_out f n j v))
+        p ∙ sym (append_nil (each_out v (parts e))) ∙ ap (λ us. each_out v (parts e) ++ us)
+            (sym (closed_has_no_out f n j v))
     cases None None i j p q one = absurd (one i j)
 unknowns_are_outs (out e) a names most x v c h =
     let w = out_sought a.scope most (Some x) e (clean_use _ h.0) in
     let same : x ≡ w.name = some_same w.sought in
-    let slot : named_number names (bare_name e) ≡ Some v = ap (λ f. named_number names (bare_name f)) w.is ∙ ap (number_called names) (sym same) ∙ c in
+    let slot : named_number names (bare_name e) ≡ Some v = ap (λ f. named_number names (bare_name f)) w.is
+        ∙ ap (number_called names) (sym same) ∙ c in
     ap (λ o. unknowns (sought_or_none o)) slot ∙ sym (ap (λ f. each_out v (parts (out f))) w.is)
   where
     some_same : {z : Word} → ◌≡◌ {A = Option Word} (Some x) (Some z) → x ≡ z
@@ -226,7 +243,8 @@ none_passes (e ∷ es) h v =
     let p = or_parts (is_out e) (list_any is_out es) h in
     ap (λ b. map (λ (p : ExprView). v) (cond b (e ∷ filter is_out es) (filter is_out es))) p.0 ∙ none_passes es p.1 v
 
-times_kept : (k : ℕ) (s : Expr) → ((k == 0) ≡ true → unknowns s ≡ []) → cancelled s ≡ [] → cancelled (num.times k s) ≡ []
+times_kept : (k : ℕ) (s : Expr) → ((k == 0) ≡ true → unknowns s ≡ []) → cancelled s ≡ []
+    → cancelled (num.times k s) ≡ []
 times_kept k s zero kept = cases (nat_eq k 0) refl
   where
     cases : (b : Bool) → nat_eq k 0 ≡ b → cond b (unknowns s) (cancelled s) ≡ []
@@ -238,8 +256,10 @@ other_has_none : (z o : Bool) → (z && o) ≡ false → z ≡ true → o ≡ fa
 other_has_none true o h i = h
 other_has_none false o h i = cc
 
-pub none_cancelled : (e : ExprView) (a : ItemContext) (names : Names) (most : ℕ) (x : Word) (v : ℕ) → number_called names x ≡ Some v
-    → AreClean (expr_nodes e a (Some (a_number most (Some x)))) → list_any cancels (parts e) ≡ false → cancelled (side_of names e) ≡ []
+pub none_cancelled : (e : ExprView) (a : ItemContext) (names : Names) (most : ℕ) (x : Word) (v : ℕ)
+    → number_called names x ≡ Some v
+    → AreClean (expr_nodes e a (Some (a_number most (Some x)))) → list_any cancels (parts e) ≡ false
+    → cancelled (side_of names e) ≡ []
 none_cancelled (lit n) a names most x v c h i = refl
 none_cancelled (named y no_exprs) a names most x v c h i = kept (number_called names y)
   where
@@ -249,18 +269,22 @@ none_cancelled (named y no_exprs) a names most x v c h i = kept (number_called n
 none_cancelled (named y (an_expr e es)) a names most x v c h i = refl
 none_cancelled (plus e f) a names most x v c h i =
     let p = clean_both (expr_nodes e a (Some (a_number greatest (Some x)))) _ h.1 in
-    let j = or_parts (list_any cancels (parts e)) (list_any cancels (parts f)) (sym (list_any-append cancels (parts e) (parts f)) ∙ i) in
+    let j = or_parts (list_any cancels (parts e)) (list_any cancels (parts f))
+        (sym (list_any-append cancels (parts e) (parts f)) ∙ i) in
     λ t. none_cancelled e a names greatest x v c p.0 j.0 t ++ none_cancelled f a names greatest x v c p.1 j.1 t
 none_cancelled (star e f) a names most x v c h i =
     let p = clean_both (expr_nodes e a (Some (a_number greatest (Some x)))) _ h.1 in
     let o = or_parts (cancels (star e f)) (list_any cancels (parts e ++ parts f)) i in
-    let j = or_parts (list_any cancels (parts e)) (list_any cancels (parts f)) (sym (list_any-append cancels (parts e) (parts f)) ∙ o.1) in
+    let j = or_parts (list_any cancels (parts e)) (list_any cancels (parts f))
+        (sym (list_any-append cancels (parts e) (parts f)) ∙ o.1) in
     let z = or_parts (is_zero (closed e) && holds_out f) (is_zero (closed f) && holds_out e) o.0 in
-    cases (closed e) (closed f) refl refl (unknowns_are_outs e a names greatest x v c p.0) (unknowns_are_outs f a names greatest x v c p.1)
+    cases (closed e) (closed f) refl refl (unknowns_are_outs e a names greatest x v c p.0)
+        (unknowns_are_outs f a names greatest x v c p.1)
     (none_cancelled e a names greatest x v c p.0 j.0) (none_cancelled f a names greatest x v c p.1 j.1) z.0 z.1
   where
     cases : (m n : Option ℕ) → closed e ≡ m → closed f ≡ n → unknowns (side_of names e) ≡ each_out v (parts e)
-        → unknowns (side_of names f) ≡ each_out v (parts f) → cancelled (side_of names e) ≡ [] → cancelled (side_of names f) ≡ []
+        → unknowns (side_of names f) ≡ each_out v (parts f) → cancelled (side_of names e) ≡ []
+        → cancelled (side_of names f) ≡ []
         → (is_zero (closed e) && holds_out f) ≡ false → (is_zero (closed f) && holds_out e) ≡ false
         → cancelled (product m n (side_of names e) (side_of names f)) ≡ []
     cases (Some m) n i j p q r s y z =
@@ -285,7 +309,8 @@ none_cancelled (group is) a names most x v c h i = refl
 -- ---- an equation that seeks a variable
 
 -- no `~` stands in a side, or the variable that it seeks is one of numbers
-out_or_none : (e : ExprView) (a : ItemContext) (most : ℕ) (x : Word) → AreClean (expr_nodes e a (Some (a_number most (Some x))))
+out_or_none : (e : ExprView) (a : ItemContext) (most : ℕ) (x : Word)
+    → AreClean (expr_nodes e a (Some (a_number most (Some x))))
     → (filter is_out (parts e) ≡ []) ⊎ (is_number_meaning (meaning_of a.scope x) ≡ true)
 out_or_none (lit n) a most x h = inl refl
 out_or_none (named y no_exprs) a most x h = inl refl
@@ -343,7 +368,8 @@ sought_sides x a b h = cases (unknown_of (sides a b)) refl h
     second true true i = cc
     second false n i = cc
 
-    tested : (y : Word) → unknown_of (sides a b) ≡ Some y → (t : Bool) → can_be_sought (sides a b) y ≡ t → cond t (Some y) None ≡ Some x → SoughtIn x a b
+    tested : (y : Word) → unknown_of (sides a b) ≡ Some y → (t : Bool) → can_be_sought (sides a b) y ≡ t
+        → cond t (Some y) None ≡ Some x → SoughtIn x a b
     tested y i false j h = cc
     tested y i true j h = record {
       outs = only_out_is (filter is_out (parts a ++ parts b)) y i;
@@ -354,27 +380,32 @@ sought_sides x a b h = cases (unknown_of (sides a b)) refl h
     cases None i h = cc
     cases (Some y) i h = tested y i (can_be_sought (sides a b) y) refl h
 
-equation_sought : (x : Word) (a : ExprView) (op : Op) (b : ExprView) → sought a op b ≡ Some x → (op ≡ Eq) × SoughtIn x a b
+equation_sought : (x : Word) (a : ExprView) (op : Op) (b : ExprView) → sought a op b ≡ Some x → (op ≡ Eq)
+    × SoughtIn x a b
 equation_sought x a Eq b h = (refl, sought_sides x a b h)
 equation_sought x a Lt b h = cc
 equation_sought x a Le b h = cc
 equation_sought x a Gt b h = cc
 equation_sought x a Ge b h = cc
 
-found : (l r : Expr) (v : ℕ) → unknowns l ++ unknowns r ≡ v ∷ [] → cancelled l ≡ [] → cancelled r ≡ [] → core.unknown_of l r ≡ Some v
+found : (l r : Expr) (v : ℕ) → unknowns l ++ unknowns r ≡ v ∷ [] → cancelled l ≡ [] → cancelled r ≡ []
+    → core.unknown_of l r ≡ Some v
 found l r v i j k =
     (λ t. cond (is_empty (j t ++ k t)) (only_one (unknowns l ++ unknowns r)) None) ∙ ap only_one i
 
 -- An equation that seeks x has the slot of x as the one unknown of its sides.
-pub unknown_found : (x : Word) (l : ExprView) (op : Op) (r : ExprView) (a : ItemContext) (names : Names) (k : Known) → Agrees a.scope names k
+pub unknown_found : (x : Word) (l : ExprView) (op : Op) (r : ExprView) (a : ItemContext) (names : Names) (k : Known)
+    → Agrees a.scope names k
     → sought l op r ≡ Some x → AreClean (expr_nodes l a (Some (a_number greatest (Some x))))
     → AreClean (expr_nodes r a (Some (a_number greatest (Some x))))
     → (v : ℕ) × (meaning names x ≡ Some (numbered v)) × (unknown_by op (side_of names l) (side_of names r) ≡ Some v)
 unknown_found x l op r a names k g s h i =
     let e = equation_sought x l op r s in
-    let w = number_variable a.scope names k g x (number (out_or_none l a greatest x h) (out_or_none r a greatest x i) e.1) in
+    let w = number_variable a.scope names k g x (number (out_or_none l a greatest x h)
+        (out_or_none r a greatest x i) e.1) in
     let c : number_called names x ≡ Some w.0 = ap number_slot w.1 in
-    let kept = or_parts (list_any cancels (parts l)) (list_any cancels (parts r)) (sym (list_any-append cancels (parts l) (parts r)) ∙ e.1.kept) in
+    let kept = or_parts (list_any cancels (parts l)) (list_any cancels (parts r))
+        (sym (list_any-append cancels (parts l) (parts r)) ∙ e.1.kept) in
     let all : unknowns (side_of names l) ++ unknowns (side_of names r) ≡ w.0 ∷ [] =
     (λ t. unknowns_are_outs l a names greatest x w.0 c h t ++ unknowns_are_outs r a names greatest x w.0 c i t)
     ∙ sym (each_both w.0 (parts l) (parts r)) ∙ ap (map (λ (p : ExprView). w.0)) e.1.outs.1 in (

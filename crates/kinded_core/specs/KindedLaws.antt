@@ -16,7 +16,8 @@ use Rattle.kind_declarations.specs.Faults.{faults}
 use Rattle.kind_declarations.specs.Nodes.{heading_nodes, constructor_nodes, param_nodes}
 use Rattle.tlb_guard.specs.Empty.{found}
 use Rattle.tlb_guard.specs.DeclaredTypes.{is_declared_class, distinct, result_of}
-use Rattle.tlb_kinds.specs.Refusals.{IsKinded, kept_of, ordinary, refusals, refusals_within, of_headings, of_contents, of_guard}
+use Rattle.tlb_kinds.specs.Refusals.{IsKinded, kept_of, ordinary, refusals, refusals_within, of_headings, of_contents}
+use Rattle.tlb_kinds.specs.Refusals.{of_guard}
 use Rattle.tlb_kinds.specs.Spots.{heading, refusal_at, refusals_at}
 use Rattle.core_form.specs.Core.{Declaration}
 use Rattle.schema_core.specs.Names.{Names, meaning, type_by, declared_by}
@@ -42,35 +43,44 @@ IsJudgedClean types c = AreClean (constructor_nodes types c)
 headed : (before s : SchemaView) → of_headings before s ≡ [] → All IsHeaded s
 headed before [] h = All-nil IsHeaded
 headed before (c ∷ cs) h =
-    let p = append_none (refusals_at (heading before c) (heading_nodes (heading before c))) (of_headings (before ++ c ∷ []) cs) h in
+    let p = append_none (refusals_at (heading before c) (heading_nodes (heading before c)))
+        (of_headings (before ++ c ∷ []) cs) h in
     let js = clean_nodes (heading_nodes (heading before c))
     (map_none (refusal_at (heading before c)) (faults (heading_nodes (heading before c))) p.0) in
-    All-cons IsHeaded c cs (have_kinds (heading before c) no_exprs c.params (clean_both (param_nodes (heading before c) no_exprs c.params) _ js.1).0)
+    All-cons IsHeaded c cs (have_kinds (heading before c) no_exprs c.params
+        (clean_both (param_nodes (heading before c) no_exprs c.params) _ js.1).0)
     (headed (before ++ c ∷ []) cs p.1)
 
 judged : (types before s : SchemaView) → of_contents types before s ≡ [] → All (IsJudgedClean types) s
 judged types before [] h = All-nil (IsJudgedClean types)
 judged types before (c ∷ cs) h =
-    let p = append_none (refusals_at (heading before c) (constructor_nodes types c)) (of_contents types (before ++ c ∷ []) cs) h in
+    let p = append_none (refusals_at (heading before c) (constructor_nodes types c))
+        (of_contents types (before ++ c ∷ []) cs) h in
     All-cons (IsJudgedClean types) c cs
-    (clean_nodes (constructor_nodes types c) (map_none (refusal_at (heading before c)) (faults (constructor_nodes types c)) p.0))
+    (clean_nodes (constructor_nodes types c)
+        (map_none (refusal_at (heading before c)) (faults (constructor_nodes types c)) p.0))
     (judged types (before ++ c ∷ []) cs p.1)
 
-resolved : (types : SchemaView) (tag : ConstructorView → List ℕ) (before s : SchemaView) → All IsHeaded s → All (IsJudgedClean types) s
+resolved : (types : SchemaView) (tag : ConstructorView → List ℕ) (before s : SchemaView) → All IsHeaded s
+    → All (IsJudgedClean types) s
     → All (λ (d : Declaration). IsResolved d.core) (cores_after types tag before s)
 resolved types tag before [] h j = All-nil (λ (d : Declaration). IsResolved d.core)
 resolved types tag before (c ∷ cs) h j =
-    All-cons (λ (d : Declaration). IsResolved d.core) (declaration_of types (tag c) before c) (cores_after types tag (before ++ c ∷ []) cs)
+    All-cons (λ (d : Declaration). IsResolved d.core) (declaration_of types (tag c) before c)
+        (cores_after types tag (before ++ c ∷ []) cs)
     (record {
       plain = core_is_plain types (tag c) c;
       within = core_is_within types (tag c) c;
-      determined = constructor_determined types (tag c) c (All-head (IsJudgedClean types) c cs j) (All-head IsHeaded c cs h);
-      parameters = constructor_parameters types (tag c) c (All-head (IsJudgedClean types) c cs j) (All-head IsHeaded c cs h);
+      determined = constructor_determined types (tag c) c (All-head (IsJudgedClean types) c cs j)
+          (All-head IsHeaded c cs h);
+      parameters = constructor_parameters types (tag c) c (All-head (IsJudgedClean types) c cs j)
+          (All-head IsHeaded c cs h);
     })
     (resolved types tag (before ++ c ∷ []) cs (All-tail IsHeaded c cs h) (All-tail (IsJudgedClean types) c cs j))
 
 -- the two parts of what is refused
-both_none : (s : SchemaView) → IsKinded s → (of_headings [] (ordinary s) ≡ []) × (of_contents (kept_of s) [] (kept_of s) ≡ [])
+both_none : (s : SchemaView) → IsKinded s → (of_headings [] (ordinary s) ≡ [])
+    × (of_contents (kept_of s) [] (kept_of s) ≡ [])
 unfolding refusals refusals_within
 both_none s k =
     let p = append_none (of_headings [] (ordinary s)) _ k in
@@ -80,7 +90,8 @@ pub kinded_is_resolved : KindedIsResolved
 kinded_is_resolved s tag k =
     let p = both_none s k in
     resolved (kept_of s) tag [] (kept_of s)
-    (All-filter (λ (c : ConstructorView). not (is_dictionary c.result)) IsHeaded (ordinary s) (headed [] (ordinary s) p.0))
+    (All-filter (λ (c : ConstructorView). not (is_dictionary c.result)) IsHeaded (ordinary s)
+        (headed [] (ordinary s) p.0))
     (judged (kept_of s) [] (kept_of s) p.1)
 
 -- ---- names, as the guard reads them
@@ -127,7 +138,8 @@ among_distinct (y ∷ ys) x = cases (is_among ys y) refl (among_distinct ys x)
 -- a type is declared where there is a declaration of it
 declared_there : (s : SchemaView) (x : Word) → is_among (map result_of s) x ≡ is_declared (declared_by (of_type s x))
 declared_there [] x = refl
-declared_there (c ∷ cs) x = cases (bytes_eq x c.result) (bytes_eq c.result x) (bytes_eq_turned x c.result) (declared_there cs x)
+declared_there (c ∷ cs) x = cases (bytes_eq x c.result) (bytes_eq c.result x) (bytes_eq_turned x c.result)
+    (declared_there cs x)
   where
     cases : (a b : Bool) → a ≡ b → is_among (map result_of cs) x ≡ is_declared (declared_by (of_type cs x))
         → (a || is_among (map result_of cs) x) ≡ is_declared (declared_by (cond b (c ∷ of_type cs x) (of_type cs x)))

@@ -8,7 +8,8 @@ use Rattle.tlb_guard.specs.Empty.{class_in}
 use Rattle.tlb_guard.specs.DeclaredTypes.{is_declared_type}
 use Rattle.tlb_kinds.specs.Refusals.{IsKinded, kept_of}
 use Rattle.core_form.specs.Core.{Declaration}
-use Rattle.schema_core.specs.Names.{Names, TypeName, no_type, type_word, anything, family, family_of, hashmap_type, hashmap_e_type}
+use Rattle.schema_core.specs.Names.{Names, TypeName, no_type, type_word, anything, family, family_of, hashmap_type}
+use Rattle.schema_core.specs.Names.{hashmap_e_type}
 use Rattle.schema_core.specs.Names.{declared, meaning, type_called}
 use Rattle.schema_core.specs.Cores.{cores_of}
 use Rattle.kinded_core.specs.Resolved.{IsResolved}

@@ -7,7 +7,8 @@ use Rattle.std.proofs.lemmas.Bool.{or_parts, lt-ltb}
 use Rattle.std.proofs.lemmas.List.Folds.{list_any-append}
 use Rattle.std.proofs.lemmas.Slice.Eq.{bytes_eq-Decides}
 use Rattle.nat_solver.specs.Number.{Expr, exact_sum}
-use Rattle.tlb_syntax.specs.Tree.{ExprView, ExprList, SchemaView, lit, named, nat32, bits, below, up_to, plus, star, out, ref}
+use Rattle.tlb_syntax.specs.Tree.{ExprView, ExprList, SchemaView, lit, named, nat32, bits, below, up_to, plus, star}
+use Rattle.tlb_syntax.specs.Tree.{out, ref}
 use Rattle.tlb_syntax.specs.Tree.{group, no_exprs, an_expr}
 use Rattle.kind_terms.specs.declared.scope.Meaning.{Meaning}
 use Rattle.kind_terms.specs.declared.scope.Meaning.TheVariants.{ImplicitNumber, FieldNumber, TypeVariable, OtherField}
@@ -66,7 +67,8 @@ number_meaning s most q x e is c =
         let b = or_parts false _ a.0 in
         variable_meaning s.types x (meaning_of s x) d.unknown_name b.1 a.1 d.other_field
 
-pub out_meaning : (s : Scope) (most : ℕ) (q : Option Word) (x : Word) → CleanUse (use_of s (a_number most q) (out (named x no_exprs)))
+pub out_meaning : (s : Scope) (most : ℕ) (q : Option Word) (x : Word)
+    → CleanUse (use_of s (a_number most q) (out (named x no_exprs)))
     → is_number_meaning (meaning_of s x) ≡ true
 out_meaning s most q x d =
     let a = or_parts _ (is_type_meaning (meaning_of s x)) d.type_for_number in
@@ -74,10 +76,12 @@ out_meaning s most q x d =
     variable_meaning s.types x (meaning_of s x) d.unknown_name b.1 a.1 d.other_field
 
 -- the variable is known
-pub number_known : (s : Scope) (most : ℕ) (q : Option Word) (x : Word) → CleanUse (use_of s (a_number most q) (named x no_exprs))
+pub number_known : (s : Scope) (most : ℕ) (q : Option Word) (x : Word)
+    → CleanUse (use_of s (a_number most q) (named x no_exprs))
     → is_known s x ≡ true
 number_known s most q x c =
-    cases (is_number_meaning (meaning_of s x)) (is_known s x) (number_meaning s most q x (named x no_exprs) refl c) c.unknown
+    cases (is_number_meaning (meaning_of s x)) (is_known s x)
+        (number_meaning s most q x (named x no_exprs) refl c) c.unknown
   where
     cases : (n k : Bool) → n ≡ true → (n && not k) ≡ false → k ≡ true
     cases true true n h = refl
@@ -91,17 +95,20 @@ number_args s most q x e es c =
     let low : nat_lt 0 (count (an_expr e es)) ≡ true = lt-ltb 0 (count (an_expr e es)) (omega arith) in
     cases (meaning_of s x) low c.unknown_type (or_parts false _ (or_parts _ _ c.type_for_number).0).1
   where
-    types : (t : TypeNamed) (b : Bool) → b ≡ true → (names_none (Some t) && (false || b)) ≡ false → is_some_type (Some t) ≡ false → ⊥
+    types : (t : TypeNamed) (b : Bool) → b ≡ true → (names_none (Some t) && (false || b)) ≡ false
+        → is_some_type (Some t) ≡ false → ⊥
     types no_type true i u t = cc
     types no_type false i u t = cc
     types (basic ks) b i u t = cc
     types (declared ks) b i u t = cc
 
     cases : (m : Option Meaning) → nat_lt 0 (count (an_expr e es)) ≡ true
-        → (names_none (type_in_class s.types x true (name_class m x true)) && (false || nat_lt 0 (count (an_expr e es)))) ≡ false
+        → (names_none (type_in_class s.types x true (name_class m x true)) &&
+        (false || nat_lt 0 (count (an_expr e es)))) ≡ false
         → is_some_type (type_in_class s.types x true (name_class m x true)) ≡ false → ⊥
     cases None low u t = types (type_of_class s.types x true (word_class x)) (nat_lt 0 (count (an_expr e es))) low u t
-    cases (Some m) low u t = types (type_of_class s.types x true (word_class x)) (nat_lt 0 (count (an_expr e es))) low u t
+    cases (Some m) low u t = types (type_of_class s.types x true (word_class x))
+        (nat_lt 0 (count (an_expr e es))) low u t
 
 -- the x of a `~` that is sought
 bare_is : (e : ExprView) (x : Word) → bare_name e ≡ Some x → e ≡ named x no_exprs
@@ -123,7 +130,8 @@ pub record Sought (q : Option Word) (e : ExprView) : Type 0 where
   pub sought : q ≡ Some name
   pub is : e ≡ named name no_exprs
 
-pub out_sought : (s : Scope) (most : ℕ) (q : Option Word) (e : ExprView) → CleanUse (use_of s (a_number most q) (out e)) → Sought q e
+pub out_sought : (s : Scope) (most : ℕ) (q : Option Word) (e : ExprView)
+    → CleanUse (use_of s (a_number most q) (out e)) → Sought q e
 out_sought s most q e c = cases q (bare_name e) refl refl c.other_out
   where
     cases : (p o : Option Word) → q ≡ p → bare_name e ≡ o → (true && not (seeks p o)) ≡ false → Sought q e
@@ -139,12 +147,14 @@ out_sought s most q e c = cases q (bare_name e) refl refl c.other_out
 
 -- ---- the slots of variables
 
-pub number_variable : (s : Scope) (names : Names) (k : Known) → Agrees s names k → (x : Word) → is_number_meaning (meaning_of s x) ≡ true
+pub number_variable : (s : Scope) (names : Names) (k : Known) → Agrees s names k → (x : Word)
+    → is_number_meaning (meaning_of s x) ≡ true
     → (v : ℕ) × (meaning names x ≡ Some (a_number v))
 number_variable s names k g x n =
     cases (meaning_of s x) (meaning names x) (meanings_agree (s.around ++ s.own) names x g.same) n
   where
-    cases : (m : Option Meaning) (o : Option Variable) → IsSameMeaning m o → is_number_meaning m ≡ true → (v : ℕ) × (o ≡ Some (a_number v))
+    cases : (m : Option Meaning) (o : Option Variable) → IsSameMeaning m o → is_number_meaning m ≡ true → (v : ℕ)
+        × (o ≡ Some (a_number v))
     cases None o i n = cc
     cases (Some m) None i n = absurd i
     cases (Some ImplicitNumber) (Some (a_number v)) i n = (v, refl)
@@ -186,7 +196,8 @@ or_true false = refl
 pub any_right : {X : Type 0} (p : X → Bool) (xs ys : List X) → list_any p ys ≡ true → list_any p (xs ++ ys) ≡ true
 any_right p xs ys h = list_any-append p xs ys ∙ ap (λ b. list_any p xs || b) h ∙ or_true (list_any p xs)
 
-of_either : (s : Scope) (a b : ExprView) → (closed a ≡ None → holds_variable s a ≡ true) → (closed b ≡ None → holds_variable s b ≡ true)
+of_either : (s : Scope) (a b : ExprView) → (closed a ≡ None → holds_variable s a ≡ true)
+    → (closed b ≡ None → holds_variable s b ≡ true)
     → (closed a ≡ None) ⊎ (closed b ≡ None) → list_any (is_variable_in s) (parts a ++ parts b) ≡ true
 of_either s a b f g h =
     elim h [
@@ -194,11 +205,13 @@ of_either s a b f g h =
       | inr i ↦ any_right (is_variable_in s) (parts a) (parts b) (g i)
     ]
 
-named_held : (s : Scope) (x : Word) → is_number_meaning (meaning_of s x) ≡ true → holds_variable s (named x no_exprs) ≡ true
+named_held : (s : Scope) (x : Word) → is_number_meaning (meaning_of s x) ≡ true
+    → holds_variable s (named x no_exprs) ≡ true
 named_held s x n = ap (λ b. b || false) n
 
 -- a number of which no cause holds has no variables, or a variable of numbers stands in it
-pub closed_or_held : (e : ExprView) (a : ItemContext) (most : ℕ) (q : Option Word) → AreClean (expr_nodes e a (Some (a_number most q)))
+pub closed_or_held : (e : ExprView) (a : ItemContext) (most : ℕ) (q : Option Word)
+    → AreClean (expr_nodes e a (Some (a_number most q)))
     → closed e ≡ None → holds_variable a.scope e ≡ true
 closed_or_held (lit n) a most q h i = cc
 closed_or_held (named x no_exprs) a most q h i =
@@ -206,10 +219,12 @@ closed_or_held (named x no_exprs) a most q h i =
 closed_or_held (named x (an_expr e es)) a most q h i = absurd (number_args a.scope most q x e es (clean_use _ h.0))
 closed_or_held (plus e f) a most q h i =
     let p = clean_both (expr_nodes e a (Some (a_number greatest q))) _ h.1 in
-    of_either a.scope e f (closed_or_held e a greatest q p.0) (closed_or_held f a greatest q p.1) (none_of_sum (closed e) (closed f) i)
+    of_either a.scope e f (closed_or_held e a greatest q p.0) (closed_or_held f a greatest q p.1)
+        (none_of_sum (closed e) (closed f) i)
 closed_or_held (star e f) a most q h i =
     let p = clean_both (expr_nodes e a (Some (a_number greatest q))) _ h.1 in
-    of_either a.scope e f (closed_or_held e a greatest q p.0) (closed_or_held f a greatest q p.1) (none_of_product (closed e) (closed f) i)
+    of_either a.scope e f (closed_or_held e a greatest q p.0) (closed_or_held f a greatest q p.1)
+        (none_of_product (closed e) (closed f) i)
 closed_or_held (out e) a most q h i =
     let w = out_sought a.scope most q e (clean_use _ h.0) in
     let P : ExprView → Type 0 = λ f. CleanUse (use_of a.scope (a_number most q) (out f)) in
@@ -228,7 +243,8 @@ both_held true false i j h = cc
 both_held false n i j h = cc
 
 -- one factor of a product is without variables
-pub factor_closed : (e f : ExprView) (a : ItemContext) (most : ℕ) (q : Option Word) → AreClean (expr_nodes (star e f) a (Some (a_number most q)))
+pub factor_closed : (e f : ExprView) (a : ItemContext) (most : ℕ) (q : Option Word)
+    → AreClean (expr_nodes (star e f) a (Some (a_number most q)))
     → closed e ≡ None → closed f ≡ None → ⊥
 factor_closed e f a most q h i j =
     let p = clean_both (expr_nodes e a (Some (a_number greatest q))) _ h.1 in
@@ -240,7 +256,8 @@ pub both_true : (m n : Bool) → m ≡ true → n ≡ true → (m && n) ≡ true
 both_true true n i j = j
 both_true false n i j = cc
 
-product_set : (k : Known) (m n : Option ℕ) (a b : Expr) → is_valued k a ≡ true → is_valued k b ≡ true → (m ≡ None → n ≡ None → ⊥)
+product_set : (k : Known) (m n : Option ℕ) (a b : Expr) → is_valued k a ≡ true → is_valued k b ≡ true
+    → (m ≡ None → n ≡ None → ⊥)
     → is_valued k (product m n a b) ≡ true
 product_set k (Some m) n a b p q h = q
 product_set k None (Some n) a b p q h = p
@@ -258,7 +275,8 @@ number_set (plus e f) a names k g most h =
     both_true _ _ (number_set e a names k g greatest p.0) (number_set f a names k g greatest p.1)
 number_set (star e f) a names k g most h =
     let p = clean_both (expr_nodes e a (Some (a_number greatest None))) _ h.1 in
-    product_set k (closed e) (closed f) _ _ (number_set e a names k g greatest p.0) (number_set f a names k g greatest p.1)
+    product_set k (closed e) (closed f) _ _ (number_set e a names k g greatest p.0)
+        (number_set f a names k g greatest p.1)
     (factor_closed e f a most None h)
 number_set (out e) a names k g most h =
     let w = out_sought a.scope most None e (clean_use _ h.0) in let b : None ≡ Some w.name = w.sought in cc

@@ -1,5 +1,6 @@
 -- Types of which no cause holds: their names are types, and their variables are in scope and set.
-use Rattle.std.proofs.Common.{◌≡◌, ℕ, suc, List, [], ◌∷◌, ◌++◌, Option, Some, None, Bool, true, false, not, ◌&&◌, ◌||◌, ◌==◌}
+use Rattle.std.proofs.Common.{◌≡◌, ℕ, suc, List, [], ◌∷◌, ◌++◌, Option, Some, None, Bool, true, false, not, ◌&&◌}
+use Rattle.std.proofs.Common.{◌||◌, ◌==◌}
 use Rattle.std.proofs.Common.{refl, sym, ap, ◌∙◌, subst, arith}
 use Rattle.std.specs.Prelude.{nat_lt, nat_eq, bytes_eq}
 use Rattle.std.proofs.lemmas.Bool.{or_parts, eqb-true, eq-eqb}
@@ -36,7 +37,8 @@ use Rattle.kind_declarations.specs.Nodes.{ItemContext, expr_nodes, arg_nodes}
 use Rattle.core_form.specs.Core.{Ty, Args, outs, type_outs}
 use Rattle.core_form.specs.Core as core
 use Rattle.core_form.specs.Determined.{Known, is_in, is_valued, is_set_type, are_set_args}
-use Rattle.schema_core.specs.Names.{Names, Variable, other, meaning, number_called, number_slot, type_called, type_by, declared_by}
+use Rattle.schema_core.specs.Names.{Names, Variable, other, meaning, number_called, number_slot, type_called, type_by}
+use Rattle.schema_core.specs.Names.{declared_by}
 use Rattle.schema_core.specs.Names.{declared_kinds, width_or_0}
 use Rattle.schema_core.specs.Names as slots
 use Rattle.schema_core.specs.Numbers.{number_of, first_number, no_number, named_number}
@@ -91,7 +93,8 @@ class_alone types x k Free u o b = cases (of_type types x) refl u
     cases (c ∷ cs) is u = ap (λ s. is_set_type k (applied (declared_by s) x no_number no_meaning core.no_args)) is
 
 pub alone_set : (s : Scope) (names : Names) (k : Known) → Agrees s names k → (w : TypePosition) (x : Word)
-    → CleanUse (use_of s (a_type w) (named x no_exprs)) → is_set_type k (type_of s.types names (named x no_exprs)) ≡ true
+    → CleanUse (use_of s (a_type w) (named x no_exprs))
+    → is_set_type k (type_of s.types names (named x no_exprs)) ≡ true
 alone_set s names k g w x c =
     cases (meaning_of s x) (meaning names x) (meanings_agree (s.around ++ s.own) names x g.same) refl
     c.unknown_type c.arity c.basic_arity c.number_for_type c.other_field c.unknown
@@ -120,14 +123,17 @@ alone_set s names k g w x c =
 -- ---- names with arguments
 
 -- what is to be shown of the arguments of a name
-pub record ArgsSet (types : SchemaView) (a : ItemContext) (names : Names) (k : Known) (e : ExprView) (es : ExprList) : Type 0 where
-  pub first : (most : ℕ) → AreClean (expr_nodes e a (Some (a_number most None))) → is_valued k (number_of names e) ≡ true
+pub record ArgsSet (types : SchemaView) (a : ItemContext) (names : Names) (k : Known) (e : ExprView)
+    (es : ExprList) : Type 0 where
+  pub first : (most : ℕ) → AreClean (expr_nodes e a (Some (a_number most None)))
+      → is_valued k (number_of names e) ≡ true
   pub second : (before : List Word) → count es ≡ 1 → AreClean (arg_nodes es a (TypeIn ∷ []) before)
       → is_set_type k (first_type types names es) ≡ true
   pub all : (ks : List TermKind) (before : List Word) → AreClean (arg_nodes (an_expr e es) a ks before)
       → are_set_args k (args_of types names ks (an_expr e es)) ≡ true
 
-class_applied : (types : SchemaView) (a : ItemContext) (names : Names) (k : Known) (x : Word) (e : ExprView) (es : ExprList)
+class_applied : (types : SchemaView) (a : ItemContext) (names : Names) (k : Known) (x : Word) (e : ExprView)
+    (es : ExprList)
     → ArgsSet types a names k e es → (w : WordClass)
     → (names_none (Some (type_of_class types x true w)) && (true || nat_lt 0 (count (an_expr e es)))) ≡ false
     → takes_others (Some (type_of_class types x true w)) (count (an_expr e es)) ≡ false
@@ -160,14 +166,16 @@ class_applied types a names k x e es r Free u o b h = cases (of_type types x) re
         → is_set_type k (applied (declared_by (of_type types x)) x (number_of names e) (first_type types names es)
         (args_of types names (declared_kinds (declared_by (of_type types x))) (an_expr e es))) ≡ true
     cases [] is u h =
-        let b : true ≡ false = sym (ap (λ s. names_none (Some (declared_as s)) && (true || nat_lt 0 (count (an_expr e es)))) is) ∙ u in cc
+        let b : true ≡ false = sym (ap (λ s. names_none (Some (declared_as s)) &&
+            (true || nat_lt 0 (count (an_expr e es)))) is) ∙ u in cc
     cases (c ∷ cs) is u h =
         let P : SchemaView → Type 0 = λ s. AreClean (arg_nodes (an_expr e es) a (parameters (declared_as s)) []) in
         ap (λ s. is_set_type k (applied (declared_by s) x (number_of names e) (first_type types names es)
         (args_of types names (declared_kinds (declared_by s)) (an_expr e es)))) is
         ∙ r.all (kinds c) [] (subst P is h)
 
-pub applied_set : (a : ItemContext) (names : Names) (k : Known) (w : TypePosition) (x : Word) (e : ExprView) (es : ExprList)
+pub applied_set : (a : ItemContext) (names : Names) (k : Known) (w : TypePosition) (x : Word) (e : ExprView)
+    (es : ExprList)
     → ArgsSet a.scope.types a names k e es → CleanUse (use_of a.scope (a_type w) (named x (an_expr e es)))
     → AreClean (arg_nodes (an_expr e es) a (parameters (type_named a.scope.types x true)) [])
     → is_set_type k (type_of a.scope.types names (named x (an_expr e es))) ≡ true
@@ -175,7 +183,8 @@ unfolding type_named
 applied_set a names k w x e es r c h = cases (meaning_of a.scope x) c.unknown_type c.arity c.basic_arity
   where
     cases : (m : Option Meaning)
-        → (names_none (type_in_class a.scope.types x true (name_class m x true)) && (true || nat_lt 0 (count (an_expr e es)))) ≡ false
+        → (names_none (type_in_class a.scope.types x true (name_class m x true)) &&
+        (true || nat_lt 0 (count (an_expr e es)))) ≡ false
         → takes_others (type_in_class a.scope.types x true (name_class m x true)) (count (an_expr e es)) ≡ false
         → takes_other_basic (type_in_class a.scope.types x true (name_class m x true)) (count (an_expr e es)) ≡ false
         → is_set_type k (type_of a.scope.types names (named x (an_expr e es))) ≡ true
@@ -184,7 +193,8 @@ applied_set a names k w x e es r c h = cases (meaning_of a.scope x) c.unknown_ty
 
 -- ---- basic types
 
-basic_set : (a : ItemContext) (names : Names) (k : Known) → Agrees a.scope names k → (most : ℕ) (es : ExprList) → not (count es == 1) ≡ false
+basic_set : (a : ItemContext) (names : Names) (k : Known) → Agrees a.scope names k → (most : ℕ) (es : ExprList)
+    → not (count es == 1) ≡ false
     → AreClean (arg_nodes es a (NumberIn most ∷ []) []) → is_valued k (first_number names es) ≡ true
 basic_set a names k g most no_exprs n h = cc
 basic_set a names k g most (an_expr e es) n h =
@@ -206,7 +216,8 @@ Placed w (plus a b) = Unit {0}
 Placed w (star a b) = Unit {0}
 Placed w (out e) = Unit {0}
 
-placed_where : (w : TypePosition) → takes_no_record w ≡ true → takes_no_record (under w) ≡ true → (e : ExprView) → Placed w e
+placed_where : (w : TypePosition) → takes_no_record w ≡ true → takes_no_record (under w) ≡ true → (e : ExprView)
+    → Placed w e
 placed_where w h i (group is) = h
 placed_where w h i (ref e) = i
 placed_where w h i (lit n) = tt
@@ -226,12 +237,14 @@ under_under FieldRef h = refl
 under_under UnderRef h = refl
 under_under Inner h = refl
 
-onto_out_set : (k : Known) (v : Option ℕ) (args : Args) → are_set_args k args ≡ true → are_set_args k (onto_out v args) ≡ true
+onto_out_set : (k : Known) (v : Option ℕ) (args : Args) → are_set_args k args ≡ true
+    → are_set_args k (onto_out v args) ≡ true
 onto_out_set k None args h = h
 onto_out_set k (Some v) args h = h
 
 mutual
-  pub type_set : (e : ExprView) (a : ItemContext) (names : Names) (k : Known) → Agrees a.scope names k → (w : TypePosition) → Placed w e
+  pub type_set : (e : ExprView) (a : ItemContext) (names : Names) (k : Known) → Agrees a.scope names k
+      → (w : TypePosition) → Placed w e
       → AreClean (expr_nodes e a (Some (a_type w))) → is_set_type k (type_of a.scope.types names e) ≡ true
   type_set nat32 a names k g w p h = refl
   type_set (bits es) a names k g w p h = basic_set a names k g 32 es (clean_use _ h.0).basic_arity h.1
@@ -239,8 +252,10 @@ mutual
   type_set (up_to es) a names k g w p h = basic_set a names k g greatest es (clean_use _ h.0).basic_arity h.1
   type_set (star e f) a names k g w p h =
       let q = clean_both (expr_nodes e a (Some (a_number greatest None))) _ h.1 in
-      both_true _ _ (number_set e a names k g greatest q.0) (type_set f a names k g Inner (placed_where Inner refl refl f) q.1)
-  type_set (ref e) a names k g w p h = type_set e a names k g (under w) (placed_where (under w) p (under_under w p) e) h.1
+      both_true _ _ (number_set e a names k g greatest q.0)
+          (type_set f a names k g Inner (placed_where Inner refl refl f) q.1)
+  type_set (ref e) a names k g w p h = type_set e a names k g (under w)
+      (placed_where (under w) p (under_under w p) e) h.1
   type_set (named x no_exprs) a names k g w p h = alone_set a.scope names k g w x (clean_use _ h.0)
   type_set (named x (an_expr e es)) a names k g w p h =
       applied_set a names k w x e es
@@ -256,14 +271,17 @@ mutual
   type_set (group is) a names k g w p h =
       let b : takes_no_record w ≡ false = (clean_use _ h.0).no_record in let c : true ≡ false = sym p ∙ b in cc
 
-  second_set : (es : ExprList) (a : ItemContext) (names : Names) (k : Known) → Agrees a.scope names k → (before : List Word)
-      → count es ≡ 1 → AreClean (arg_nodes es a (TypeIn ∷ []) before) → is_set_type k (first_type a.scope.types names es) ≡ true
+  second_set : (es : ExprList) (a : ItemContext) (names : Names) (k : Known) → Agrees a.scope names k
+      → (before : List Word)
+      → count es ≡ 1 → AreClean (arg_nodes es a (TypeIn ∷ []) before)
+      → is_set_type k (first_type a.scope.types names es) ≡ true
   second_set no_exprs a names k g before n h = absurd (omega (arith, n))
   second_set (an_expr e es) a names k g before n h =
       let q = clean_both (expr_nodes e a (Some (a_type Inner))) _ h in
       type_set e a names k g Inner (placed_where Inner refl refl e) q.0
 
-  args_set : (es : ExprList) (a : ItemContext) (names : Names) (k : Known) → Agrees a.scope names k → (ks : List TermKind) (before : List Word)
+  args_set : (es : ExprList) (a : ItemContext) (names : Names) (k : Known) → Agrees a.scope names k
+      → (ks : List TermKind) (before : List Word)
       → AreClean (arg_nodes es a ks before) → are_set_args k (args_of a.scope.types names ks es) ≡ true
   args_set no_exprs a names k g ks before h = refl
   args_set (an_expr e es) a names k g [] before h = refl
@@ -272,7 +290,8 @@ mutual
       both_true _ _ (number_set e a names k g most q.0) (args_set es a names k g ks _ q.1)
   args_set (an_expr e es) a names k g (TypeIn ∷ ks) before h =
       let q = clean_both (expr_nodes e a (Some (a_type Inner))) _ h in
-      both_true _ _ (type_set e a names k g Inner (placed_where Inner refl refl e) q.0) (args_set es a names k g ks _ q.1)
+      both_true _ _ (type_set e a names k g Inner (placed_where Inner refl refl e) q.0)
+          (args_set es a names k g ks _ q.1)
   args_set (an_expr e es) a names k g (NumberOut ∷ ks) before h =
       let q = clean_both (expr_nodes e a (Some (an_output before))) _ h in
       onto_out_set k (named_number names (out_name e)) _ (args_set es a names k g ks _ q.1)
@@ -331,14 +350,17 @@ use_first (out e) a before h = clean_use _ h.0
 use_first (ref e) a before h = clean_use _ h.0
 use_first (group is) a before h = clean_use _ h.0
 
-among_either : (xs ys : List Word) (y : Word) → is_among (xs ++ ys) y ≡ true → (b : Bool) × (is_among xs y ≡ b) × ((b ≡ false) → is_among ys y ≡ true)
+among_either : (xs ys : List Word) (y : Word) → is_among (xs ++ ys) y ≡ true → (b : Bool) × (is_among xs y ≡ b)
+    × ((b ≡ false) → is_among ys y ≡ true)
 among_either xs ys y h = cases (is_among xs y) refl (sym (list_any-append (bytes_eq y) xs ys) ∙ h)
   where
-    cases : (b : Bool) → is_among xs y ≡ b → (b || is_among ys y) ≡ true → (b : Bool) × (is_among xs y ≡ b) × ((b ≡ false) → is_among ys y ≡ true)
+    cases : (b : Bool) → is_among xs y ≡ b → (b || is_among ys y) ≡ true → (b : Bool) × (is_among xs y ≡ b)
+        × ((b ≡ false) → is_among ys y ≡ true)
     cases true is h = (true, is, λ f. cc)
     cases false is h = (false, is, λ f. h)
 
-args_out : (es : ExprList) (a : ItemContext) (names : Names) (k : Known) → Agrees a.scope names k → (ks : List TermKind) (before : List Word)
+args_out : (es : ExprList) (a : ItemContext) (names : Names) (k : Known) → Agrees a.scope names k
+    → (ks : List TermKind) (before : List Word)
     → AreClean (arg_nodes es a ks before) → (y : Word) → is_among (all_given_out ks es) y ≡ true
     → IsSetBy names (outs (args_of a.scope.types names ks es)) y
 args_out no_exprs a names k g ks before h y m = cc
@@ -367,7 +389,8 @@ args_out (an_expr e es) a names k g (NumberOut ∷ ks) before h y m =
     there_too : (u v : ℕ) (vs : List ℕ) → is_in vs u ≡ true → is_in (v ∷ vs) u ≡ true
     there_too u v vs h = ap (λ b. nat_eq u v || b) h ∙ or_true (nat_eq u v)
 
-    cases : (b : Bool) → is_among (option_list (out_name e)) y ≡ b → (b ≡ false → IsSetBy names (outs (args_of a.scope.types names ks es)) y)
+    cases : (b : Bool) → is_among (option_list (out_name e)) y ≡ b
+        → (b ≡ false → IsSetBy names (outs (args_of a.scope.types names ks es)) y)
         → (x : Word) → out_name e ≡ Some x → (v : ℕ) → meaning names x ≡ Some (slots.a_number v)
         → IsSetBy names (v ∷ outs (args_of a.scope.types names ks es)) y
     cases false i rest x o v w =
@@ -379,7 +402,8 @@ args_out (an_expr e es) a names k g (NumberOut ∷ ks) before h y m =
 
 -- at a name of a class, with arguments
 class_outs : (a : ItemContext) (types : SchemaView) (names : Names) (x : Word) (e : ExprView) (es : ExprList) (y : Word)
-    → ((ks : List TermKind) → AreClean (arg_nodes (an_expr e es) a ks []) → is_among (all_given_out ks (an_expr e es)) y ≡ true
+    → ((ks : List TermKind) → AreClean (arg_nodes (an_expr e es) a ks [])
+    → is_among (all_given_out ks (an_expr e es)) y ≡ true
     → IsSetBy names (outs (args_of types names ks (an_expr e es))) y)
     → (w : WordClass) → AreClean (arg_nodes (an_expr e es) a (parameters (type_of_class types x true w)) [])
     → is_among (all_given_out (parameters (type_of_class types x true w)) (an_expr e es)) y ≡ true
@@ -400,29 +424,36 @@ class_outs a types names x e (an_expr d (an_expr c cs)) y r HashmapE h m = cc
 class_outs a types names x e es y r HashmapNode h m = cc
 class_outs a types names x e es y r Free h m = cases (of_type types x) refl h m
   where
-    cases : (s : SchemaView) → of_type types x ≡ s → AreClean (arg_nodes (an_expr e es) a (parameters (declared_as (of_type types x))) [])
+    cases : (s : SchemaView) → of_type types x ≡ s → AreClean
+        (arg_nodes (an_expr e es) a (parameters (declared_as (of_type types x))) [])
         → is_among (all_given_out (parameters (declared_as (of_type types x))) (an_expr e es)) y ≡ true
-        → IsSetBy names (type_outs (applied (declared_by (of_type types x)) x (number_of names e) (first_type types names es)
+        → IsSetBy names (type_outs (applied (declared_by (of_type types x)) x (number_of names e)
+        (first_type types names es)
         (args_of types names (declared_kinds (declared_by (of_type types x))) (an_expr e es)))) y
     cases [] is h m =
-        let b : false ≡ true = sym (ap (λ s. is_among (all_given_out (parameters (declared_as s)) (an_expr e es)) y) is) ∙ m in cc
+        let b : false ≡ true = sym (ap (λ s. is_among (all_given_out (parameters (declared_as s)) (an_expr e es)) y)
+            is) ∙ m in cc
     cases (c ∷ cs) is h m =
         let n = sym (ap (λ s. is_among (all_given_out (parameters (declared_as s)) (an_expr e es)) y) is) ∙ m in
-        let P : SchemaView → Type 0 = λ s. IsSetBy names (type_outs (applied (declared_by s) x (number_of names e) (first_type types names es)
+        let P : SchemaView → Type 0 = λ s. IsSetBy names (type_outs
+            (applied (declared_by s) x (number_of names e) (first_type types names es)
         (args_of types names (declared_kinds (declared_by s)) (an_expr e es)))) y in
         let Q : SchemaView → Type 0 = λ s. AreClean (arg_nodes (an_expr e es) a (parameters (declared_as s)) []) in
         subst P (sym is) (r (kinds c) (subst Q is h) n)
 
-args_of_type : (x : Word) (e : ExprView) (es : ExprList) (a : ItemContext) (names : Names) (k : Known) → Agrees a.scope names k
+args_of_type : (x : Word) (e : ExprView) (es : ExprList) (a : ItemContext) (names : Names) (k : Known)
+    → Agrees a.scope names k
     → AreClean (arg_nodes (an_expr e es) a (parameters (type_named a.scope.types x true)) []) → (y : Word)
     → is_among (all_given_out (parameters (type_named a.scope.types x true)) (an_expr e es)) y ≡ true
     → IsSetBy names (type_outs (type_of a.scope.types names (named x (an_expr e es)))) y
 unfolding type_named
 args_of_type x e es a names k g h y m =
-    class_outs a a.scope.types names x e es y (λ ks c n. args_out (an_expr e es) a names k g ks [] c y n) (word_class x) h m
+    class_outs a a.scope.types names x e es y (λ ks c n. args_out (an_expr e es) a names k g ks [] c y n)
+        (word_class x) h m
 
 -- the outputs of a field's type are set by it
-pub outputs_set : (e : ExprView) (a : ItemContext) (names : Names) (k : Known) → Agrees a.scope names k → (w : TypePosition)
+pub outputs_set : (e : ExprView) (a : ItemContext) (names : Names) (k : Known) → Agrees a.scope names k
+    → (w : TypePosition)
     → AreClean (expr_nodes e a (Some (a_type w))) → (y : Word) → is_among (outputs_of a.scope.types e) y ≡ true
     → IsSetBy names (type_outs (type_of a.scope.types names e)) y
 outputs_set (named x no_exprs) a names k g w h y m = cc

@@ -2,14 +2,19 @@
 use Rattle.std.proofs.Common.{◌≡◌, ℕ, ◌+◌, ◌-◌, ◌*◌, ◌/◌, ◌<◌, List, [], ◌∷◌, ◌++◌, Option, Some, None, Result, Ok, Err}
 use Rattle.std.proofs.Common.{Bool, true, false, refl, sym, ap, ◌∙◌, subst, arith, nat_eq, cond}
 use Rattle.std.proofs.lemmas.Bool.{cond-true, cond-false, eq-eqb, eqb-true, ne_eqb}
-use Rattle.std.proofs.Math.Nat.{mul-div_cancel_left, mul_assoc, add-mul, mul-add, zero-mul, mul-zero, le-mul_of_pos_right}
-use Rattle.nat_solver.specs.Number.{Expr, lit, var, sought, plus, times, Numbers, number_at, exact_sum, exact_times, value}
-use Rattle.nat_solver.specs.Number.{number, parts, unknowns, cancelled, is_empty, lacks, first_lacking, put, Solves, OneUnknown}
-use Rattle.nat_solver.specs.Number.{factor, others, proposed, is_same_value, is_solved_by, solved_by, solved_unless, solution}
+use Rattle.std.proofs.Math.Nat.{mul-div_cancel_left, mul_assoc, add-mul, mul-add, zero-mul, mul-zero}
+use Rattle.std.proofs.Math.Nat.{le-mul_of_pos_right}
+use Rattle.nat_solver.specs.Number.{Expr, lit, var, sought, plus, times, Numbers, number_at, exact_sum, exact_times}
+use Rattle.nat_solver.specs.Number.{value}
+use Rattle.nat_solver.specs.Number.{number, parts, unknowns, cancelled, is_empty, lacks, first_lacking, put, Solves}
+use Rattle.nat_solver.specs.Number.{OneUnknown}
+use Rattle.nat_solver.specs.Number.{factor, others, proposed, is_same_value, is_solved_by, solved_by, solved_unless}
+use Rattle.nat_solver.specs.Number.{solution}
 use Rattle.nat_solver.specs.Number.{refusal, number_or_0}
 use Rattle.nat_solver.specs.declared.evaluate.NatError.{NatError}
 use Rattle.nat_solver.specs.declared.evaluate.NatError.TheVariants.{NoSolution}
-use Rattle.nat_solver.specs.ValueLaws.{sum_parts, times_parts, none_append, alone_has, valued_has, unknown_has, number_from_value}
+use Rattle.nat_solver.specs.ValueLaws.{sum_parts, times_parts, none_append, alone_has, valued_has, unknown_has}
+use Rattle.nat_solver.specs.ValueLaws.{number_from_value}
 
 -- ---- lists of one
 
@@ -45,7 +50,8 @@ pub put_known : (x : ℕ) (e : Expr) → unknowns e ≡ [] → put x e ≡ e
 put_known x (lit n) u = refl
 put_known x (var v) u = refl
 put_known x (sought v) u = cc
-put_known x (plus a b) u = λ i. plus (put_known x a (nil_left (unknowns a) (unknowns b) u) i) (put_known x b (nil_right (unknowns a) (unknowns b) u) i)
+put_known x (plus a b) u = λ i. plus (put_known x a (nil_left (unknowns a) (unknowns b) u) i)
+    (put_known x b (nil_right (unknowns a) (unknowns b) u) i)
 put_known x (times k a) u = ap (times k) (put_known x a u)
 
 -- the unknown of a multiple
@@ -61,7 +67,8 @@ part_has x e env n v = cases (is_empty (unknowns e)) refl
     cases true is = valued_has e env n (sym (ap (λ f. value f env) (put_known x e (empty_is (unknowns e) is))) ∙ v)
     cases false is = unknown_has e env is
 
-pub none_from_put : (x : ℕ) (e : Expr) (env : Numbers) (n : ℕ) → value (put x e) env ≡ Some n → first_lacking (parts e) env ≡ None
+pub none_from_put : (x : ℕ) (e : Expr) (env : Numbers) (n : ℕ) → value (put x e) env ≡ Some n
+    → first_lacking (parts e) env ≡ None
 none_from_put x (lit m) env n v = alone_has (lit m) env (part_has x (lit m) env n v)
 none_from_put x (var w) env n v = alone_has (var w) env (part_has x (var w) env n v)
 none_from_put x (sought w) env n v = alone_has (sought w) env (part_has x (sought w) env n v)
@@ -75,7 +82,8 @@ none_from_put x (times k a) env n v =
     none_append (parts a) (times k a ∷ []) env (none_from_put x a env p.factor p.factor_is)
     ∙ alone_has (times k a) env (part_has x (times k a) env n v)
 
-pub none_from_solved : (left right : Expr) (env : Numbers) (x : ℕ) → Solves left right env x → first_lacking (parts left ++ parts right) env ≡ None
+pub none_from_solved : (left right : Expr) (env : Numbers) (x : ℕ) → Solves left right env x
+    → first_lacking (parts left ++ parts right) env ≡ None
 none_from_solved left right env x s =
     none_append (parts left) (parts right) env (none_from_put x left env s.0 s.1) ∙ none_from_put x right env s.0 s.2
 
@@ -103,7 +111,8 @@ number_is : (o : Option ℕ) (n : ℕ) → o ≡ Some n → n ≡ number_or_0 o
 number_is o n e = sym (ap number_or_0 e)
 
 -- an expression with one unknown is linear in it
-pub linear : (x : ℕ) (e : Expr) (env : Numbers) (n : ℕ) → number (put x e) env ≡ Some n → n ≡ others e env + factor e * x
+pub linear : (x : ℕ) (e : Expr) (env : Numbers) (n : ℕ) → number (put x e) env ≡ Some n
+    → n ≡ others e env + factor e * x
 linear x (lit m) env n is = let s : m ≡ n = cc in omega (arith, s)
 linear x (var v) env n is = let s = number_is (number_at env v) n is in omega (arith, s)
 linear x (sought v) env n is = let s : x ≡ n = cc in omega (arith, s)
@@ -156,7 +165,8 @@ factor_some (times k a) v u c =
     let big = le-mul_of_pos_right k h in omega (arith, low, big)
 
 -- what solves the equation is what is proposed
-pub solved_is_proposed : (left right : Expr) (env : Numbers) (v x : ℕ) → OneUnknown left right v → Solves left right env x
+pub solved_is_proposed : (left right : Expr) (env : Numbers) (v x : ℕ) → OneUnknown left right v
+    → Solves left right env x
     → proposed left right env ≡ x
 solved_is_proposed left right env v x one s = cases (is_empty (unknowns left)) refl
   where
@@ -174,14 +184,16 @@ solved_is_proposed left right env v x one s = cases (is_empty (unknowns left)) r
         → cond (nat_eq f 0) ((a - b) / g) ((b - a) / f) ≡ x
     at_right f g a b n x none low l r =
         let z : f * x ≡ 0 = ap (λ w. w * x) none ∙ zero-mul x in
-        let e : a ≡ b + g * x = omega (arith, l, r, z) in cond-true (nat_eq f 0) _ _ (eq-eqb f 0 none) ∙ quotient g a b x low e
+        let e : a ≡ b + g * x = omega (arith, l, r, z) in cond-true (nat_eq f 0) _ _ (eq-eqb f 0 none)
+            ∙ quotient g a b x low e
 
     at_left : (f g a b n x : ℕ) → g ≡ 0 → 0 < f → n ≡ a + f * x → n ≡ b + g * x
         → cond (nat_eq f 0) ((a - b) / g) ((b - a) / f) ≡ x
     at_left f g a b n x none low l r =
         let z : g * x ≡ 0 = ap (λ w. w * x) none ∙ zero-mul x in
         let e : b ≡ a + f * x = omega (arith, l, r, z) in
-        let p : nat_eq f 0 ≡ false = ne_eqb f 0 (λ h. omega (arith, h, low)) in cond-false (nat_eq f 0) _ _ p ∙ quotient f b a x low e
+        let p : nat_eq f 0 ≡ false = ne_eqb f 0 (λ h. omega (arith, h, low)) in cond-false (nat_eq f 0) _ _ p
+            ∙ quotient f b a x low e
 
     cases : (z : Bool) → is_empty (unknowns left) ≡ z → proposed left right env ≡ x
     cases true is =
@@ -204,16 +216,19 @@ same_is (Some m) (Some n) e = let s = eqb-true m n e in (m, refl, ap Some (sym s
 is_same : (o p : Option ℕ) (n : ℕ) → o ≡ Some n → p ≡ Some n → is_same_value o p ≡ true
 is_same o p n a b = (λ i. is_same_value (a i) (b i)) ∙ eq-eqb n n refl
 
-pub solves_tested : (left right : Expr) (env : Numbers) (x : ℕ) → is_solved_by left right env x ≡ true → Solves left right env x
+pub solves_tested : (left right : Expr) (env : Numbers) (x : ℕ) → is_solved_by left right env x ≡ true
+    → Solves left right env x
 solves_tested left right env x e = same_is (value (put x left) env) (value (put x right) env) e
 
-pub tested_solves : (left right : Expr) (env : Numbers) (x : ℕ) → Solves left right env x → is_solved_by left right env x ≡ true
+pub tested_solves : (left right : Expr) (env : Numbers) (x : ℕ) → Solves left right env x
+    → is_solved_by left right env x ≡ true
 tested_solves left right env x s = is_same (value (put x left) env) (value (put x right) env) s.0 s.1 s.2
 
 -- ---- the solution
 
 -- where a part has neither the unknown nor a value, that is reported
-pub solution_first : (left right : Expr) (env : Numbers) (e : Expr) → first_lacking (parts left ++ parts right) env ≡ Some e
+pub solution_first : (left right : Expr) (env : Numbers) (e : Expr)
+    → first_lacking (parts left ++ parts right) env ≡ Some e
     → solution left right env ≡ Err (refusal (Some e) env)
 solution_first left right env e is = ap (λ o. solved_unless o left right env) is
 
@@ -222,7 +237,8 @@ solution_tested : (left right : Expr) (env : Numbers) → first_lacking (parts l
 solution_tested left right env none = ap (λ o. solved_unless o left right env) none
 
 -- what solves an equation with one unknown is its solution
-pub solution_complete : (left right : Expr) (env : Numbers) (v x : ℕ) → OneUnknown left right v → Solves left right env x
+pub solution_complete : (left right : Expr) (env : Numbers) (v x : ℕ) → OneUnknown left right v
+    → Solves left right env x
     → solution left right env ≡ Ok x
 solution_complete left right env v x one s =
     solution_tested left right env (none_from_solved left right env x s)
@@ -230,10 +246,12 @@ solution_complete left right env v x one s =
     ∙ cond-true (is_solved_by left right env x) _ _ (tested_solves left right env x s)
 
 -- a solution solves
-pub solution_solves : (left right : Expr) (env : Numbers) (x : ℕ) → solution left right env ≡ Ok x → Solves left right env x
+pub solution_solves : (left right : Expr) (env : Numbers) (x : ℕ) → solution left right env ≡ Ok x
+    → Solves left right env x
 solution_solves left right env x e = by_first (first_lacking (parts left ++ parts right) env) e
   where
-    by_test : (b : Bool) (y : ℕ) → is_solved_by left right env y ≡ b → cond b (Ok y) (Err NoSolution) ≡ Ok x → Solves left right env x
+    by_test : (b : Bool) (y : ℕ) → is_solved_by left right env y ≡ b → cond b (Ok y) (Err NoSolution) ≡ Ok x
+        → Solves left right env x
     by_test false y t h = cc
     by_test true y t h =
         let s : y ≡ x = cc in
@@ -246,7 +264,8 @@ solution_solves left right env x e = by_first (first_lacking (parts left ++ part
 -- where there is none, and each part without the unknown has a value, there is no solution
 pub solution_none : (left right : Expr) (env : Numbers) → first_lacking (parts left ++ parts right) env ≡ None
     → ((x : ℕ) → Solves left right env x → ⊥) → solution left right env ≡ Err NoSolution
-solution_none left right env none not_solved = solution_tested left right env none ∙ by_test (is_solved_by left right env p) refl
+solution_none left right env none not_solved = solution_tested left right env none
+    ∙ by_test (is_solved_by left right env p) refl
   where
     p : ℕ
     p = proposed left right env
@@ -254,7 +273,8 @@ solution_none left right env none not_solved = solution_tested left right env no
     by_test : (b : Bool) → is_solved_by left right env (proposed left right env) ≡ b
         → cond b (Ok (proposed left right env)) (Err NoSolution) ≡ Err NoSolution
     by_test false t = refl
-    by_test true t = absurd (not_solved (proposed left right env) (solves_tested left right env (proposed left right env) t))
+    by_test true t = absurd (not_solved (proposed left right env)
+        (solves_tested left right env (proposed left right env) t))
 
 -- where it is refused, nothing solves an equation with one unknown
 pub refused_unsolved : (left right : Expr) (env : Numbers) (v x : ℕ) (f : NatError) → OneUnknown left right v

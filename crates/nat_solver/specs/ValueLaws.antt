@@ -1,8 +1,11 @@
 -- Values, and first parts without one.
-use Rattle.std.proofs.Common.{◌≡◌, ℕ, ◌+◌, ◌*◌, ◌^◌, ◌<◌, ◌≤◌, List, [], ◌∷◌, ◌++◌, Option, Some, None, Bool, true, false, ◌&&◌, refl, sym, ap, ◌∙◌, arith, nat_lt, cond}
+use Rattle.std.proofs.Common.{◌≡◌, ℕ, ◌+◌, ◌*◌, ◌^◌, ◌<◌, ◌≤◌, List, [], ◌∷◌, ◌++◌, Option, Some, None, Bool, true}
+use Rattle.std.proofs.Common.{false, ◌&&◌, refl, sym, ap, ◌∙◌, arith, nat_lt, cond}
 use Rattle.std.proofs.lemmas.Bool.{cond-true, cond-false, lt-ltb, le-ltb, ltb-true}
 use Rattle.std.proofs.lemmas.Option.{cond_some}
-use Rattle.nat_solver.specs.Number.{Expr, lit, var, sought, plus, times, Numbers, number_at, within, within_any, sum_within, times_within, value, exact_sum, exact_times, number, parts, unknowns, is_empty, is_none, lacks, first_that, first_lacking}
+use Rattle.nat_solver.specs.Number.{Expr, lit, var, sought, plus, times, Numbers, number_at, within, within_any}
+use Rattle.nat_solver.specs.Number.{sum_within, times_within, value, exact_sum, exact_times, number, parts, unknowns}
+use Rattle.nat_solver.specs.Number.{is_empty, is_none, lacks, first_that, first_lacking}
 
 pub within_fits : (n : ℕ) → n < 2 ^ 32 → within n ≡ Some n
 within_fits n h = cond-true (nat_lt n (2 ^ 32)) _ _ (lt-ltb n (2 ^ 32) h)
@@ -52,7 +55,8 @@ number_from_value (var x) env n v = any_parts (number_at env x) n v
 number_from_value (sought x) env n v = cc
 number_from_value (plus a b) env n v =
     let p = sum_parts (value a env) (value b env) n v in
-    (λ i. exact_sum (number_from_value a env p.left p.left_is i) (number_from_value b env p.right p.right_is i)) ∙ ap Some (sym p.is)
+    (λ i. exact_sum (number_from_value a env p.left p.left_is i) (number_from_value b env p.right p.right_is i))
+        ∙ ap Some (sym p.is)
 number_from_value (times k a) env n v =
     let p = times_parts k (value a env) n v in
     ap (exact_times k) (number_from_value a env p.factor p.factor_is) ∙ ap Some (sym p.is)
@@ -73,15 +77,19 @@ abbrev pub or_else : Option Expr → Option Expr → Option Expr
 or_else None second = second
 or_else (Some e) second = Some e
 
-pub first_append : (test : Expr → Bool) (xs ys : List Expr) → first_that test (xs ++ ys) ≡ or_else (first_that test xs) (first_that test ys)
+pub first_append : (test : Expr → Bool) (xs ys : List Expr)
+    → first_that test (xs ++ ys) ≡ or_else (first_that test xs) (first_that test ys)
 first_append test [] ys = refl
 first_append test (x ∷ xs) ys = step (test x) (first_append test xs ys)
   where
-    step : (b : Bool) → first_that test (xs ++ ys) ≡ or_else (first_that test xs) (first_that test ys) → cond b (Some x) (first_that test (xs ++ ys)) ≡ or_else (cond b (Some x) (first_that test xs)) (first_that test ys)
+    step : (b : Bool) → first_that test (xs ++ ys) ≡ or_else (first_that test xs) (first_that test ys)
+        → cond b (Some x) (first_that test (xs ++ ys)) ≡ or_else (cond b (Some x) (first_that test xs))
+        (first_that test ys)
     step true e = refl
     step false e = e
 
-pub none_append : (xs ys : List Expr) (env : Numbers) → first_lacking xs env ≡ None → first_lacking (xs ++ ys) env ≡ first_lacking ys env
+pub none_append : (xs ys : List Expr) (env : Numbers) → first_lacking xs env ≡ None
+    → first_lacking (xs ++ ys) env ≡ first_lacking ys env
 none_append xs ys env e = first_append (lacks env) xs ys ∙ ap (λ o. or_else o (first_lacking ys env)) e
 
 pub alone_has : (e : Expr) (env : Numbers) → lacks env e ≡ false → first_lacking (e ∷ []) env ≡ None

@@ -9,7 +9,8 @@ use Rattle.nat_solver.specs.declared.compare.Op.{Op}
 use Rattle.tlb_syntax.specs.declared.tree.ParamKind.{ParamKind}
 use Rattle.tlb_syntax.specs.declared.tree.ParamKind.TheVariants as params
 use Rattle.tlb_syntax.specs.Tree.{ExprView, ExprList, ItemView, ItemList, TypeView, SchemaView, lit, named}
-use Rattle.tlb_syntax.specs.Tree.{nat32, bits, below, up_to, plus, star, out, ref, group, no_exprs, an_expr, plain, when}
+use Rattle.tlb_syntax.specs.Tree.{nat32, bits, below, up_to, plus, star, out, ref, group, no_exprs, an_expr, plain}
+use Rattle.tlb_syntax.specs.Tree.{when}
 use Rattle.tlb_syntax.specs.Tree.{when_bit, implicit, check, explicit, no_items, an_item}
 use Rattle.kind_terms.specs.declared.kind.TermKind.{TermKind}
 use Rattle.kind_terms.specs.declared.kind.TermKind.TheVariants.{NumberIn, TypeIn, NumberOut, NoKind}
@@ -24,13 +25,15 @@ use Rattle.core_form.specs.Core.{Ty, Args, Item, Items, Input, no_slot}
 use Rattle.core_form.specs.Core as core
 use Rattle.core_form.specs.Bounds.{IsSlotWithin, IsNumberWithin, IsTypeWithin, AreArgsWithin, IsItemWithin}
 use Rattle.core_form.specs.Bounds.{AreItemsWithin, IsInputWithin}
-use Rattle.schema_core.specs.Names.{Names, Variable, a_number, a_type, other, TypeName, no_type, type_word, anything, family}
+use Rattle.schema_core.specs.Names.{Names, Variable, a_number, a_type, other, TypeName, no_type, type_word, anything}
+use Rattle.schema_core.specs.Names.{family}
 use Rattle.schema_core.specs.Names.{family_of, hashmap_type, hashmap_e_type, declared, declares, meaning, type_called}
 use Rattle.schema_core.specs.Names.{declared_kinds, number_called, number_slot, implicit_variable, field_variable}
 use Rattle.schema_core.specs.Slots.{field_slots, own_slots, slots_in, slots_at, slots_under, type_slots, next_slot}
 use Rattle.schema_core.specs.Numbers.{number_of, side_of, first_number, product, variable_or_none, sought_or_none}
 use Rattle.schema_core.specs.Numbers.{unknown_by, no_number, named_number}
-use Rattle.schema_core.specs.CoreOf.{of_family, applied, alone, no_meaning, onto_out, type_of, first_type, args_of, own_slot}
+use Rattle.schema_core.specs.CoreOf.{of_family, applied, alone, no_meaning, onto_out, type_of, first_type, args_of}
+use Rattle.schema_core.specs.CoreOf.{own_slot}
 use Rattle.schema_core.specs.CoreOf.{constraint_by, constraint_of, items_of, field_of, body_of, under_ref, output_of}
 use Rattle.schema_core.specs.CoreOf.{outputs_of, names_after, names_at_result, variable_input, sum_input, literal_of}
 use Rattle.schema_core.specs.CoreOf.{input_of, inputs_of}
@@ -79,7 +82,8 @@ slot_within n (Some other) p = tt
 called_within : (n : ℕ) (names : Names) (x : Word) → AreNamesWithin n names → IsOptionWithin n (number_called names x)
 called_within n names x p = slot_within n (meaning names x) (meaning_within n names x p)
 
-named_within : (n : ℕ) (names : Names) (x : Option Word) → AreNamesWithin n names → IsOptionWithin n (named_number names x)
+named_within : (n : ℕ) (names : Names) (x : Option Word) → AreNamesWithin n names
+    → IsOptionWithin n (named_number names x)
 named_within n names None p = tt
 named_within n names (Some x) p = called_within n names x p
 
@@ -111,7 +115,8 @@ declares_within n v (explicit (Some x) t) h =
 
 -- ---- numbers
 
-product_within : (n : ℕ) (k m : Option ℕ) (a b : Expr) → IsNumberWithin n a → IsNumberWithin n b → IsNumberWithin n (product k m a b)
+product_within : (n : ℕ) (k m : Option ℕ) (a b : Expr) → IsNumberWithin n a → IsNumberWithin n b
+    → IsNumberWithin n (product k m a b)
 product_within n (Some k) m a b p q = q
 product_within n None (Some k) a b p q = p
 product_within n None None a b p q = inr refl
@@ -124,13 +129,15 @@ sought_within : (n : ℕ) (v : Option ℕ) → IsOptionWithin n v → IsNumberWi
 sought_within n None p = inr refl
 sought_within n (Some v) p = p
 
-pub number_within : (n : ℕ) (names : Names) (e : ExprView) → AreNamesWithin n names → IsNumberWithin n (number_of names e)
+pub number_within : (n : ℕ) (names : Names) (e : ExprView) → AreNamesWithin n names
+    → IsNumberWithin n (number_of names e)
 number_within n names (lit m) p = tt
 number_within n names (named x no_exprs) p = variable_within n (number_called names x) (called_within n names x p)
 number_within n names (named x (an_expr e es)) p = inr refl
 number_within n names (plus a b) p = (number_within n names a p, number_within n names b p)
 number_within n names (star a b) p =
-    product_within n (closed a) (closed b) (number_of names a) (number_of names b) (number_within n names a p) (number_within n names b p)
+    product_within n (closed a) (closed b) (number_of names a) (number_of names b) (number_within n names a p)
+        (number_within n names b p)
 number_within n names (out e) p = inr refl
 number_within n names nat32 p = inr refl
 number_within n names (bits es) p = inr refl
@@ -145,8 +152,10 @@ side_within n names (named x no_exprs) p = variable_within n (number_called name
 side_within n names (named x (an_expr e es)) p = inr refl
 side_within n names (plus a b) p = (side_within n names a p, side_within n names b p)
 side_within n names (star a b) p =
-    product_within n (closed a) (closed b) (side_of names a) (side_of names b) (side_within n names a p) (side_within n names b p)
-side_within n names (out e) p = sought_within n (named_number names (bare_name e)) (named_within n names (bare_name e) p)
+    product_within n (closed a) (closed b) (side_of names a) (side_of names b) (side_within n names a p)
+        (side_within n names b p)
+side_within n names (out e) p = sought_within n (named_number names (bare_name e))
+    (named_within n names (bare_name e) p)
 side_within n names nat32 p = inr refl
 side_within n names (bits es) p = inr refl
 side_within n names (below es) p = inr refl
@@ -154,7 +163,8 @@ side_within n names (up_to es) p = inr refl
 side_within n names (ref e) p = inr refl
 side_within n names (group is) p = inr refl
 
-first_within : (n : ℕ) (names : Names) (es : ExprList) → AreNamesWithin n names → IsNumberWithin n (first_number names es)
+first_within : (n : ℕ) (names : Names) (es : ExprList) → AreNamesWithin n names
+    → IsNumberWithin n (first_number names es)
 first_within n names no_exprs p = inr refl
 first_within n names (an_expr e es) p = number_within n names e p
 
@@ -181,7 +191,8 @@ family_within n Uint e p = p
 family_within n Int e p = p
 family_within n Bits e p = p
 
-applied_within : (n : ℕ) (t : TypeName) (x : Word) (e : Expr) (y : Ty) (args : Args) → IsNumberWithin n e → IsTypeWithin n y
+applied_within : (n : ℕ) (t : TypeName) (x : Word) (e : Expr) (y : Ty) (args : Args) → IsNumberWithin n e
+    → IsTypeWithin n y
     → AreArgsWithin n args → IsTypeWithin n (applied t x e y args)
 applied_within n no_type x e y args p q r = inr refl
 applied_within n type_word x e y args p q r = inr refl
@@ -192,13 +203,15 @@ applied_within n hashmap_type x e y args p q r = (p, q)
 applied_within n hashmap_e_type x e y args p q r = (p, q)
 applied_within n (declared ks) x e y args p q r = r
 
-alone_within : (n : ℕ) (v : Option Variable) (t : Ty) → IsMeaningWithin n v → IsTypeWithin n t → IsTypeWithin n (alone v t)
+alone_within : (n : ℕ) (v : Option Variable) (t : Ty) → IsMeaningWithin n v → IsTypeWithin n t
+    → IsTypeWithin n (alone v t)
 alone_within n None t m p = p
 alone_within n (Some (a_type v)) t m p = inl m
 alone_within n (Some (a_number v)) t m p = inr refl
 alone_within n (Some other) t m p = inr refl
 
-onto_out_within : (n : ℕ) (v : Option ℕ) (args : Args) → IsOptionWithin n v → AreArgsWithin n args → AreArgsWithin n (onto_out v args)
+onto_out_within : (n : ℕ) (v : Option ℕ) (args : Args) → IsOptionWithin n v → AreArgsWithin n args
+    → AreArgsWithin n (onto_out v args)
 onto_out_within n None args q p = p
 onto_out_within n (Some v) args q p = (q, p)
 
@@ -215,7 +228,8 @@ mutual
       alone_within n (meaning names x) _ (meaning_within n names x p)
       (applied_within n (type_called types x) x no_number no_meaning core.no_args (inr refl) (inr refl) tt)
   type_within n types names (named x (an_expr e es)) p =
-      applied_within n (type_called types x) x (number_of names e) (first_type types names es) _ (number_within n names e p)
+      applied_within n (type_called types x) x (number_of names e)
+          (first_type types names es) _ (number_within n names e p)
       (first_type_within n types names es p)
       (args_within n types names (declared_kinds (type_called types x)) (an_expr e es) p)
   type_within n types names (lit m) p = inr refl
@@ -228,7 +242,8 @@ mutual
   first_type_within n types names no_exprs p = inr refl
   first_type_within n types names (an_expr e es) p = type_within n types names e p
 
-  args_within : (n : ℕ) (types : SchemaView) (names : Names) (ks : List TermKind) (es : ExprList) → AreNamesWithin n names
+  args_within : (n : ℕ) (types : SchemaView) (names : Names) (ks : List TermKind) (es : ExprList)
+      → AreNamesWithin n names
       → AreArgsWithin n (args_of types names ks es)
   args_within n types names ks no_exprs p = tt
   args_within n types names [] (an_expr e es) p = tt
@@ -237,7 +252,8 @@ mutual
   args_within n types names (TypeIn ∷ ks) (an_expr e es) p =
       (type_within n types names e p, args_within n types names ks es p)
   args_within n types names (NumberOut ∷ ks) (an_expr e es) p =
-      onto_out_within n (named_number names (out_name e)) _ (named_within n names (out_name e) p) (args_within n types names ks es p)
+      onto_out_within n (named_number names (out_name e)) _ (named_within n names (out_name e) p)
+          (args_within n types names ks es p)
   args_within n types names (NoKind ∷ ks) (an_expr e es) p = args_within n types names ks es p
 
 -- ---- items
@@ -260,24 +276,29 @@ mutual
       → next + slots_in is ≤ n → AreNamesWithin n names → AreItemsWithin n (items_of types names next place unnamed is)
   items_within n types names next place unnamed no_items h p = tt
   items_within n types names next place unnamed (an_item (implicit x k) is) h p =
-      items_within n types (names ++ declares (implicit x k) next) (next_slot next (implicit x k)) _ _ is (omega (arith, h))
+      items_within n types (names ++ declares (implicit x k) next)
+          (next_slot next (implicit x k)) _ _ is (omega (arith, h))
       (names_append n names _ p (declares_within n next (implicit x k) (omega (arith, h))))
   items_within n types names next place unnamed (an_item (check a op b) is) h p = (
     constraint_within n names a op b place p,
-    items_within n types (names ++ declares (check a op b) next) (next_slot next (check a op b)) _ _ is (omega (arith, h))
+    items_within n types (names ++ declares (check a op b) next)
+        (next_slot next (check a op b)) _ _ is (omega (arith, h))
         (names_append n names _ p tt),
   )
   items_within n types names next place unnamed (an_item (explicit x t) is) h p = (
     typed_within n types names (shown x unnamed) (own_slot x (is_field_of_numbers t) next) _ t (omega (arith, h)) p
         (own_within n next x (is_field_of_numbers t) (omega (arith, h))),
-    items_within n types (names ++ declares (explicit x t) next) (next_slot next (explicit x t)) _ _ is (omega (arith, h))
+    items_within n types (names ++ declares (explicit x t) next)
+        (next_slot next (explicit x t)) _ _ is (omega (arith, h))
         (names_append n names _ p (declares_within n next (explicit x t) (omega (arith, h)))),
   )
 
   typed_within : (n : ℕ) (types : SchemaView) (names : Names) (x : Word) (own : Option ℕ) (next : ℕ) (t : TypeView)
-      → next + type_slots t ≤ n → AreNamesWithin n names → IsSlotWithin n own → IsItemWithin n (field_of types names x own next t)
+      → next + type_slots t ≤ n → AreNamesWithin n names → IsSlotWithin n own
+      → IsItemWithin n (field_of types names x own next t)
   typed_within n types names x own next (plain e) h p q = (q, tt, body_within n types names next e h p)
-  typed_within n types names x own next (when c e) h p q = (q, number_within n names c p, body_within n types names next e h p)
+  typed_within n types names x own next (when c e) h p q
+      = (q, number_within n names c p, body_within n types names next e h p)
   typed_within n types names x own next (when_bit c k e) h p q =
       (q, number_within n names c p, body_within n types names next e h p)
 
@@ -311,15 +332,18 @@ mutual
 
 -- ---- results
 
-pub names_after_within : (n : ℕ) (is : ItemList) (names : Names) (next : ℕ) → next + slots_in is ≤ n → AreNamesWithin n names
+pub names_after_within : (n : ℕ) (is : ItemList) (names : Names) (next : ℕ) → next + slots_in is ≤ n
+    → AreNamesWithin n names
     → AreNamesWithin n (names_after is names next)
 names_after_within n no_items names next h p = p
 names_after_within n (an_item i is) names next h p =
     names_after_within n is (names ++ declares i next) (next_slot next i) (omega (arith, h))
     (names_append n names _ p (declares_within n next i (omega (arith, h))))
 
-output_within : (n : ℕ) (names : Names) (e : ExprView) → AreNamesWithin n names → All (IsNumberWithin n) (output_of names e)
-output_within n names (out e) p = All-cons (IsNumberWithin n) _ [] (number_within n names e p) (All-nil (IsNumberWithin n))
+output_within : (n : ℕ) (names : Names) (e : ExprView) → AreNamesWithin n names → All (IsNumberWithin n)
+    (output_of names e)
+output_within n names (out e) p = All-cons (IsNumberWithin n) _ [] (number_within n names e p)
+    (All-nil (IsNumberWithin n))
 output_within n names (lit m) p = All-nil (IsNumberWithin n)
 output_within n names (named x es) p = All-nil (IsNumberWithin n)
 output_within n names nat32 p = All-nil (IsNumberWithin n)
@@ -331,10 +355,12 @@ output_within n names (star a b) p = All-nil (IsNumberWithin n)
 output_within n names (ref e) p = All-nil (IsNumberWithin n)
 output_within n names (group is) p = All-nil (IsNumberWithin n)
 
-outputs_within : (n : ℕ) (names : Names) (es : ExprList) → AreNamesWithin n names → All (IsNumberWithin n) (outputs_of names es)
+outputs_within : (n : ℕ) (names : Names) (es : ExprList) → AreNamesWithin n names → All (IsNumberWithin n)
+    (outputs_of names es)
 outputs_within n names no_exprs p = All-nil (IsNumberWithin n)
 outputs_within n names (an_expr e es) p =
-    All-append (IsNumberWithin n) (output_of names e) (outputs_of names es) (output_within n names e p) (outputs_within n names es p)
+    All-append (IsNumberWithin n) (output_of names e) (outputs_of names es) (output_within n names e p)
+        (outputs_within n names es p)
 
 variable_input_within : (n : ℕ) (v : Option Variable) → IsMeaningWithin n v → All (IsInputWithin n) (variable_input v)
 variable_input_within n None p = All-nil (IsInputWithin n)
@@ -346,7 +372,8 @@ sum_input_within : (n : ℕ) (v : Option ℕ) (k : ℕ) → IsOptionWithin n v �
 sum_input_within n None k p = All-nil (IsInputWithin n)
 sum_input_within n (Some v) k p = All-cons (IsInputWithin n) _ [] p (All-nil (IsInputWithin n))
 
-input_within : (n : ℕ) (names : Names) (e : ExprView) → AreNamesWithin n names → All (IsInputWithin n) (input_of names e)
+input_within : (n : ℕ) (names : Names) (e : ExprView) → AreNamesWithin n names → All (IsInputWithin n)
+    (input_of names e)
 input_within n names (lit m) p = All-cons (IsInputWithin n) _ [] tt (All-nil (IsInputWithin n))
 input_within n names (named x no_exprs) p = variable_input_within n (meaning names x) (meaning_within n names x p)
 input_within n names (named x (an_expr e es)) p = All-nil (IsInputWithin n)
@@ -361,10 +388,12 @@ input_within n names (out e) p = All-nil (IsInputWithin n)
 input_within n names (ref e) p = All-nil (IsInputWithin n)
 input_within n names (group is) p = All-nil (IsInputWithin n)
 
-inputs_within : (n : ℕ) (names : Names) (es : ExprList) → AreNamesWithin n names → All (IsInputWithin n) (inputs_of names es)
+inputs_within : (n : ℕ) (names : Names) (es : ExprList) → AreNamesWithin n names → All (IsInputWithin n)
+    (inputs_of names es)
 inputs_within n names no_exprs p = All-nil (IsInputWithin n)
 inputs_within n names (an_expr e es) p =
-    All-append (IsInputWithin n) (input_of names e) (inputs_of names es) (input_within n names e p) (inputs_within n names es p)
+    All-append (IsInputWithin n) (input_of names e) (inputs_of names es) (input_within n names e p)
+        (inputs_within n names es p)
 
 pub core_is_within : CoreIsWithin
 core_is_within types tag c =

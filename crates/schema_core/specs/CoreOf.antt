@@ -1,4 +1,5 @@
--- The core form of a declaration. It is total: of a schema without a refusal it is the form that the rules give, of others
+-- The core form of a declaration. It is total: of a schema without a refusal it is the form that the rules give, of
+-- others
 -- it is some form.
 -- Source: the TON documentation on the TL-B language (constructors, implicit and explicit fields, parametrized types).
 use Rattle.std.specs.Prelude.{ℕ, ◌+◌, Bool, true, false, List, [], ◌∷◌, ◌++◌, Option, Some, None}
@@ -6,8 +7,10 @@ use Rattle.nat_solver.specs.Number.{Expr}
 use Rattle.nat_solver.specs.declared.compare.Op.{Op}
 use Rattle.nat_solver.specs.Number as num
 use Rattle.nat_solver.specs.declared.pattern.Pattern.TheVariants as patterns
-use Rattle.tlb_syntax.specs.Tree.{ExprView, ExprList, ItemView, ItemList, TypeView, ConstructorView, SchemaView, lit, named}
-use Rattle.tlb_syntax.specs.Tree.{nat32, bits, below, up_to, plus, star, out, ref, group, no_exprs, an_expr, plain, when}
+use Rattle.tlb_syntax.specs.Tree.{ExprView, ExprList, ItemView, ItemList, TypeView, ConstructorView, SchemaView, lit}
+use Rattle.tlb_syntax.specs.Tree.{named}
+use Rattle.tlb_syntax.specs.Tree.{nat32, bits, below, up_to, plus, star, out, ref, group, no_exprs, an_expr, plain}
+use Rattle.tlb_syntax.specs.Tree.{when}
 use Rattle.tlb_syntax.specs.Tree.{when_bit, implicit, check, explicit, no_items, an_item}
 use Rattle.kind_terms.specs.declared.kind.TermKind.{TermKind}
 use Rattle.kind_terms.specs.declared.kind.TermKind.TheVariants.{NumberIn, TypeIn, NumberOut, NoKind}
@@ -20,7 +23,8 @@ use Rattle.kind_terms.specs.Positions.{shown, is_unnamed}
 use Rattle.core_form.specs.Core.{Ty, Args, Item, Items, Input, Parameter, Constructor, Condition, no_condition, no_slot}
 use Rattle.core_form.specs.Core as core
 use Rattle.schema_core.specs.Names.{Names, Variable, a_number, a_type, other, TypeName}
-use Rattle.schema_core.specs.Names.{no_type, type_word, anything, family, family_of, hashmap_type, hashmap_e_type, declared}
+use Rattle.schema_core.specs.Names.{no_type, type_word, anything, family, family_of, hashmap_type, hashmap_e_type}
+use Rattle.schema_core.specs.Names.{declared}
 use Rattle.schema_core.specs.Names.{declares, meaning, type_called, declared_kinds}
 use Rattle.schema_core.specs.Slots.{field_slots, next_slot, slots_in}
 use Rattle.schema_core.specs.Numbers.{number_of, side_of, first_number, named_number, no_number, unknown_by}
@@ -59,7 +63,8 @@ abbrev pub onto_out : Option ℕ → Args → Args
 onto_out (Some v) args = core.out_arg v args
 onto_out None args = args
 
--- Types and arguments, where these types are declared and these names are in scope. A record has no meaning here, but for
+-- Types and arguments, where these types are declared and these names are in scope. A record has no meaning here, but
+-- for
 -- those that `body_of` finds.
 abbrev mutual
   pub type_of : SchemaView → Names → ExprView → Ty
@@ -127,7 +132,8 @@ abbrev pub unnamed_by : Bool → ℕ → ℕ
 unnamed_by true n = n + 1
 unnamed_by false n = n
 
--- The items of a record, where these types are declared, these names are in scope, the next slot is this one, the next item
+-- The items of a record, where these types are declared, these names are in scope, the next slot is this one, the
+-- next item
 -- has this place in the record, and so many unnamed fields come before it.
 abbrev mutual
   pub items_of : SchemaView → Names → ℕ → ℕ → ℕ → ItemList → Items

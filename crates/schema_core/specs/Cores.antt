@@ -31,7 +31,8 @@ cores_after types tag before [] = []
 cores_after types tag before (c ∷ cs) =
     declaration_of types (tag c) before c ∷ cores_after types tag (before ++ c ∷ []) cs
 
--- The core forms of the declarations of a schema, in their order, where each has the tag that this function gives it. The
+-- The core forms of the declarations of a schema, in their order, where each has the tag that this function gives it.
+-- The
 -- schema stands here without the declarations that are passed over.
 abbrev pub cores_of : (ConstructorView → List ℕ) → SchemaView → CoreSchema
 cores_of tag types = cores_after types tag [] types

@@ -104,7 +104,8 @@ pub inner_name_ends : core_of
       inputs = [];
       outputs = [];
       items = (core.an_item (core.field (codes "a") None no_condition (core.group (core.an_item (core.field (codes
-          "n") (Some 0) no_condition core.nat32) core.no_items))) (core.an_item (core.field (codes "x") None no_condition
+          "n") (Some 0) no_condition core.nat32) core.no_items)))
+              (core.an_item (core.field (codes "x") None no_condition
           (core.named (codes "n") core.no_args)) core.no_items));
       slots = 1;
     }
@@ -226,7 +227,8 @@ pub unnamed_fields : core_of
           (core.field (codes "x") None no_condition (core.uint (num.lit 8))) (core.an_item (core.field (unnamed_name 2)
           None no_condition (core.bits (num.lit 3))) (core.an_item (core.field (unnamed_name 3) None no_condition
           (core.group (core.an_item (core.field (codes "_") None no_condition core.nat32) (core.an_item (core.field
-          (unnamed_name 2) None no_condition core.nat32) core.no_items)))) (core.an_item (core.field (unnamed_name 4) None
+          (unnamed_name 2) None no_condition core.nat32) core.no_items))))
+              (core.an_item (core.field (unnamed_name 4) None
           no_condition core.nat32) core.no_items)))));
       slots = 0;
     }

@@ -117,7 +117,8 @@ unfolding word_class
 number_field_as_output = refl
 
 -- an edge of a dictionary under a name of its own: an output, an equation, arguments:
--- l$_ {m:#} = HmLabel ~3 m; o$_ {n:#} {X:Type} = Node n X; edge#_ {n:#} {X:Type} {l:#} {m:#} label:(HmLabel ~l n) {n = (~m) + l} node:(Node m X) = Edge n X;
+-- l$_ {m:#} = HmLabel ~3 m; o$_ {n:#} {X:Type} = Node n X; edge#_ {n:#} {X:Type} {l:#} {m:#} label:(HmLabel ~l n) {n
+-- = (~m) + l} node:(Node m X) = Edge n X;
 abbrev dictionary_edge_text : ConstructorView
 dictionary_edge_text =
     (declaration (Some (codes "edge")) (given []) (an_item (implicit (codes "n") Nat) (an_item (implicit (codes "X")

@@ -1,5 +1,6 @@
 -- What a name of a schema is where it is used: the one place where names are looked up.
--- Source: the TON documentation on the TL-B language (built-in types, implicit and explicit fields); that a name in scope
+-- Source: the TON documentation on the TL-B language (built-in types, implicit and explicit fields); that a name in
+-- scope
 -- hides a type is this project's rule.
 use Rattle.std.specs.Prelude.{ℕ, Bool, true, false, List, [], ◌∷◌, Option, Some, None, bytes_eq, if◌then◌else◌}
 use Rattle.tlb_syntax.specs.declared.tree.ParamKind.{ParamKind}

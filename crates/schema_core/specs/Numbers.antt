@@ -5,7 +5,8 @@ use Rattle.nat_solver.specs.declared.compare.Op.{Op}
 use Rattle.nat_solver.specs.declared.compare.Op.TheVariants.{Eq, Lt, Le, Gt, Ge}
 use Rattle.nat_solver.specs.Number.{Expr}
 use Rattle.nat_solver.specs.Number as num
-use Rattle.tlb_syntax.specs.Tree.{ExprView, ExprList, lit, named, nat32, bits, below, up_to, plus, star, out, ref, group}
+use Rattle.tlb_syntax.specs.Tree.{ExprView, ExprList, lit, named, nat32, bits, below, up_to, plus, star, out, ref}
+use Rattle.tlb_syntax.specs.Tree.{group}
 use Rattle.tlb_syntax.specs.Tree.{no_exprs, an_expr}
 use Rattle.kind_terms.specs.Words.{Word}
 use Rattle.kind_terms.specs.Closed.{closed}

@@ -8,7 +8,8 @@ use Rattle.nat_solver.specs.declared.compare.Op.{Op}
 use Rattle.nat_solver.specs.declared.compare.Op.TheVariants.{Eq, Lt, Le, Gt, Ge}
 use Rattle.nat_solver.specs.SolutionLaws.{empty_is}
 use Rattle.tlb_syntax.specs.Tree.{ExprView, ExprList, ItemList, TypeView, SchemaView, lit, named}
-use Rattle.tlb_syntax.specs.Tree.{nat32, bits, below, up_to, plus, star, out, ref, group, no_exprs, an_expr, plain, when}
+use Rattle.tlb_syntax.specs.Tree.{nat32, bits, below, up_to, plus, star, out, ref, group, no_exprs, an_expr, plain}
+use Rattle.tlb_syntax.specs.Tree.{when}
 use Rattle.tlb_syntax.specs.Tree.{when_bit, implicit, check, explicit, no_items, an_item}
 use Rattle.kind_terms.specs.declared.kind.TermKind.{TermKind}
 use Rattle.kind_terms.specs.declared.kind.TermKind.TheVariants.{NumberIn, TypeIn, NumberOut, NoKind}
@@ -21,13 +22,15 @@ use Rattle.kind_terms.specs.Forms.{is_field_of_numbers, out_name}
 use Rattle.core_form.specs.Core.{Ty, Args, Item, Items}
 use Rattle.core_form.specs.Core as core
 use Rattle.core_form.specs.Plain.{IsPlainNumber, IsPlainType, ArePlainArgs, IsPlainItem, ArePlainItems}
-use Rattle.schema_core.specs.Names.{Names, Variable, a_number, a_type, other, TypeName, no_type, type_word, anything, family}
+use Rattle.schema_core.specs.Names.{Names, Variable, a_number, a_type, other, TypeName, no_type, type_word, anything}
+use Rattle.schema_core.specs.Names.{family}
 use Rattle.schema_core.specs.Names.{family_of, hashmap_type, hashmap_e_type, declared, declares, meaning, type_called}
 use Rattle.schema_core.specs.Names.{declared_kinds, number_called}
 use Rattle.schema_core.specs.Slots.{next_slot}
 use Rattle.schema_core.specs.Numbers.{number_of, side_of, first_number, product, variable_or_none, only_one, unknown_of}
 use Rattle.schema_core.specs.Numbers.{unknown_by, no_number, named_number}
-use Rattle.schema_core.specs.CoreOf.{of_family, applied, alone, no_meaning, onto_out, type_of, first_type, args_of, own_slot}
+use Rattle.schema_core.specs.CoreOf.{of_family, applied, alone, no_meaning, onto_out, type_of, first_type, args_of}
+use Rattle.schema_core.specs.CoreOf.{own_slot}
 use Rattle.schema_core.specs.CoreOf.{constraint_by, constraint_of, items_of, field_of, body_of}
 use Rattle.schema_core.specs.CoreOf.{under_ref, output_of, outputs_of, names_at_result}
 use Rattle.schema_core.specs.Laws.{CoreIsPlain}
@@ -49,7 +52,8 @@ plain_number names (named x no_exprs) = plain_variable (number_called names x)
 plain_number names (named x (an_expr e es)) = refl
 plain_number names (plus a b) = λ i. plain_number names a i ++ plain_number names b i
 plain_number names (star a b) =
-    plain_product (closed a) (closed b) (number_of names a) (number_of names b) (plain_number names a) (plain_number names b)
+    plain_product (closed a) (closed b) (number_of names a) (number_of names b) (plain_number names a)
+        (plain_number names b)
 plain_number names (out e) = refl
 plain_number names nat32 = refl
 plain_number names (bits es) = refl
@@ -99,7 +103,8 @@ mutual
   plain_type types names (star a b) = (plain_number names a, plain_type types names b)
   plain_type types names (ref e) = plain_type types names e
   plain_type types names (named x no_exprs) =
-      plain_alone (meaning names x) _ (plain_applied (type_called types x) x no_number no_meaning core.no_args refl tt tt)
+      plain_alone (meaning names x) _ (plain_applied
+          (type_called types x) x no_number no_meaning core.no_args refl tt tt)
   plain_type types names (named x (an_expr e es)) =
       plain_applied (type_called types x) x (number_of names e) (first_type types names es) _ (plain_number names e)
       (plain_first_type types names es)
@@ -113,7 +118,8 @@ mutual
   plain_first_type types names no_exprs = tt
   plain_first_type types names (an_expr e es) = plain_type types names e
 
-  plain_args : (types : SchemaView) (names : Names) (ks : List TermKind) (es : ExprList) → ArePlainArgs (args_of types names ks es)
+  plain_args : (types : SchemaView) (names : Names) (ks : List TermKind) (es : ExprList)
+      → ArePlainArgs (args_of types names ks es)
   plain_args types names ks no_exprs = tt
   plain_args types names [] (an_expr e es) = tt
   plain_args types names (NumberIn most ∷ ks) (an_expr e es) = (plain_number names e, plain_args types names ks es)
@@ -190,7 +196,8 @@ mutual
   plain_body types names next (star a b) = plain_type types names (star a b)
   plain_body types names next (out e) = plain_type types names (out e)
 
-  plain_under : (types : SchemaView) (names : Names) (next : ℕ) (e : ExprView) → IsPlainType (under_ref types names next e)
+  plain_under : (types : SchemaView) (names : Names) (next : ℕ) (e : ExprView)
+      → IsPlainType (under_ref types names next e)
   plain_under types names next (group is) = plain_items types names next 1 0 is
   plain_under types names next (ref e) = plain_type types names (ref e)
   plain_under types names next (lit n) = plain_type types names (lit n)

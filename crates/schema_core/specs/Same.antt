@@ -6,7 +6,8 @@ use Rattle.kind_terms.specs.declared.kind.TermKind.TheVariants.{NumberIn, TypeIn
 use Rattle.kind_terms.specs.Scopes.{Binding}
 use Rattle.kind_terms.specs.Types.{TypeNamed, basic, family_kinds}
 use Rattle.kind_terms.specs.Types as kinds
-use Rattle.schema_core.specs.Names.{Names, Variable, a_number, a_type, other, TypeName, no_type, type_word, anything, family}
+use Rattle.schema_core.specs.Names.{Names, Variable, a_number, a_type, other, TypeName, no_type, type_word, anything}
+use Rattle.schema_core.specs.Names.{family}
 use Rattle.schema_core.specs.Names.{family_of, hashmap_type, hashmap_e_type, declared}
 
 -- ---- names in scope

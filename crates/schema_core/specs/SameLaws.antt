@@ -28,7 +28,8 @@ meanings_agree [] [] x p = tt
 meanings_agree [] (e ∷ es) x p = absurd p
 meanings_agree (b ∷ bs) [] x p = absurd p
 meanings_agree (b ∷ bs) (e ∷ es) x p =
-    let P : Word → Type 0 = λ w. IsSameMeaning (cond (bytes_eq w x) (Some b.meaning) (meaning_in bs x)) (meaning (e ∷ es) x) in
+    let P : Word → Type 0 = λ w. IsSameMeaning (cond (bytes_eq w x) (Some b.meaning) (meaning_in bs x))
+        (meaning (e ∷ es) x) in
     subst P (sym p.0) (cases (bytes_eq e.0 x) (meanings_agree bs es x p.2))
   where
     cases : (t : Bool) → IsSameMeaning (meaning_in bs x) (meaning es x)
@@ -67,7 +68,8 @@ same_after s i names v p =
 
 pub scopes_agree : ScopesAgree
 scopes_agree s no_items names v p = p
-scopes_agree s (an_item i is) names v p = scopes_agree (after s i) is (names ++ declares i v) (next_slot v i) (same_after s i names v p)
+scopes_agree s (an_item i is) names v p = scopes_agree (after s i) is (names ++ declares i v) (next_slot v i)
+    (same_after s i names v p)
 
 -- ---- names of types
 
@@ -75,7 +77,8 @@ same_declarations : (types : SchemaView) (b : Bool) → declared_as types ≡ na
 same_declarations [] b = refl
 same_declarations (c ∷ cs) b = refl
 
-same_class : (types : SchemaView) (x : Word) (b : Bool) (w : WordClass) → type_of_class types x b w ≡ named_as b (type_by types x w)
+same_class : (types : SchemaView) (x : Word) (b : Bool) (w : WordClass)
+    → type_of_class types x b w ≡ named_as b (type_by types x w)
 same_class types x b TypeWord = refl
 same_class types x b Any = refl
 same_class types x b Cell = refl

@@ -1,7 +1,9 @@
--- Slots: each implicit field has one, and each named field of numbers without a condition, in the order of the text, those
+-- Slots: each implicit field has one, and each named field of numbers without a condition, in the order of the text,
+-- those
 -- of records in a record included.
 use Rattle.std.specs.Prelude.{ℕ, ◌+◌, Bool, true, false, Option, Some, None}
-use Rattle.tlb_syntax.specs.Tree.{ExprView, ItemView, ItemList, TypeView, lit, named, nat32, bits, below, up_to, plus, star}
+use Rattle.tlb_syntax.specs.Tree.{ExprView, ItemView, ItemList, TypeView, lit, named, nat32, bits, below, up_to, plus}
+use Rattle.tlb_syntax.specs.Tree.{star}
 use Rattle.tlb_syntax.specs.Tree.{out, ref, group, plain, when, when_bit, implicit, check, explicit, no_items, an_item}
 use Rattle.kind_terms.specs.Words.{Word}
 use Rattle.kind_terms.specs.Forms.{is_field_of_numbers}
