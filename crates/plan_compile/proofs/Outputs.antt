@@ -98,15 +98,15 @@ pub outputs_done : (f : Flat) (names : Names) (all : List Expr) (i : ℕ) (old :
     → length all ≤ i → All (IsPlainNumber f) old
     → map (expr_at f) old ++ outputs_of names (exprs_view (drop i all)) ≡ total → AreOutputs f old total
 outputs_done f names all i old total over plain so_far = record {
-    plain = plain;
-    stand = sym (append-nil (map (expr_at f) old)) ∙ sym (ap (λ z. map (expr_at f) old ++ outputs_of names z) (drop_end all i over)) ∙ so_far
-  }
+  plain = plain;
+  stand = sym (append-nil (map (expr_at f) old)) ∙ sym (ap (λ z. map (expr_at f) old ++ outputs_of names z) (drop_end all i over)) ∙ so_far;
+}
 
 pub one_output : (f : Flat) (e : ℕ) (a : NumberExpr) → IsPlainNumber f e → expr_at f e ≡ a → AreOutputs f (e ∷ []) (a ∷ [])
 one_output f e a plain is = record {
-    plain = All-cons (IsPlainNumber f) e [] plain (All-nil (IsPlainNumber f));
-    stand = ap (λ z. z ∷ []) is
-  }
+  plain = All-cons (IsPlainNumber f) e [] plain (All-nil (IsPlainNumber f));
+  stand = ap (λ z. z ∷ []) is;
+}
 
 pub no_output : (f : Flat) → AreOutputs f [] []
 no_output f = record { plain = All-nil (IsPlainNumber f); stand = refl }

@@ -40,7 +40,7 @@ stands_grows f g p c flat adds h =
       slots = h.slots;
       inputs = h.inputs;
       plain = numbers_grow f g p.outputs adds.grows h.plain;
-      outputs = numbers_stand f g p.outputs adds.grows h.plain ∙ h.outputs
+      outputs = numbers_stand f g p.outputs adds.grows h.plain ∙ h.outputs;
     }
 
 pub plans_grow : (f g : Flat) (types cs : SchemaView) (ps : List ConstructorPlan) → IsFlat f → Adds f g → ArePlansOf f types cs ps → ArePlansOf g types cs ps
@@ -100,7 +100,7 @@ plan_made g h k types c ops p flat adds later are items count within is slots in
       slots = omega arith;
       inputs = inputs;
       plain = outputs.plain;
-      outputs = outputs.stand
+      outputs = outputs.stand;
     }
 
 -- the names in scope of a result

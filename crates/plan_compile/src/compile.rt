@@ -25,7 +25,11 @@ pub struct CompiledSchema {
 fn number_of(length: usize) -> Result<u32, NoMemory>
     ensures { IfOk result (λ n. n ≡ length) }
 {
-    if length < u32::MAX as usize { Ok(length as u32) } else { Err(NoMemory) }
+    if length < u32::MAX as usize {
+        Ok(length as u32)
+    } else {
+        Err(NoMemory)
+    }
 }
 
 fn compile_constructor(
@@ -41,7 +45,14 @@ fn compile_constructor(
 {
     let mut names = Items::new(alloc);
     let mut slots = 0u32;
-    let ops = compile_items(alloc, flat, types, &mut names, &mut slots, constructor.items.as_slice())?;
+    let ops = compile_items(
+        alloc,
+        flat,
+        types,
+        &mut names,
+        &mut slots,
+        constructor.items.as_slice(),
+    )?;
     let count = number_of(ops.len())?;
     let first = flat.add_operations(ops)?;
     let inputs = inputs(alloc, names.as_slice(), constructor.params.as_slice())?;

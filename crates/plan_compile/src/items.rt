@@ -15,7 +15,7 @@ ghost use Rattle.flat_form.specs.Parts.{AreOps, IsPlainCondition, condition_of, 
 ghost use Rattle.plan_compile.specs.Views.{names_by, with_some};
 
 use crate::names::{InScope, declare};
-use crate::numbers::{number, side, unknown};
+use crate::numbers::{number, one_more, side, unknown};
 use crate::shown::shown_name;
 use crate::types::compile_type;
 use bit_slice::Name;
@@ -26,13 +26,6 @@ use sqlite_items::Items;
 use std::alloc::Global;
 use tlb_memory::NoMemory;
 use tlb_syntax::{Expr, FieldType, Item};
-
-// One more, as a slot, a place or a count. Memory ends before there are more.
-fn one_more(n: u32) -> Result<u32, NoMemory>
-    ensures { IfOk result (λ m. m ≡ n + 1) }
-{
-    if n < u32::MAX { Ok(n + 1) } else { Err(NoMemory) }
-}
 
 // The slot that a field takes, if it has a name and is of numbers.
 fn take_slot(next: &mut u32, name: Option<&Name>, ty: &FieldType) -> Result<u32, NoMemory>
@@ -53,7 +46,11 @@ fn take_slot(next: &mut u32, name: Option<&Name>, ty: &FieldType) -> Result<u32,
 fn unnamed_after(unnamed: u32, item: &Item) -> Result<u32, NoMemory>
     ensures { IfOk result (λ n. n ≡ unnamed_by (is_unnamed_item (item_view item.now)) unnamed) }
 {
-    if is_unnamed(item) { one_more(unnamed) } else { Ok(unnamed) }
+    if is_unnamed(item) {
+        one_more(unnamed)
+    } else {
+        Ok(unnamed)
+    }
 }
 
 // Puts a constraint after the operations: an equation where it has an unknown, else a check.
@@ -215,14 +212,18 @@ fn compile_field_type<'a>(
         }
         FieldType::If(tested, e) => {
             let condition = Some((number(alloc, names, tested)?, NO_BIT));
-            compile_field(alloc, flat, types, names, next, shown, slot, condition, e, ops)
+            compile_field(
+                alloc, flat, types, names, next, shown, slot, condition, e, ops,
+            )
         }
         FieldType::IfBit(tested, bit, e) => {
             if *bit > 31 {
                 return Err(NoMemory);
             }
             let condition = Some((number(alloc, names, tested)?, *bit));
-            compile_field(alloc, flat, types, names, next, shown, slot, condition, e, ops)
+            compile_field(
+                alloc, flat, types, names, next, shown, slot, condition, e, ops,
+            )
         }
     }
 }
@@ -280,14 +281,25 @@ pub fn compile_items<'a>(
     ensures stands { IfOk result (λ ops. items_so_far flat.new ops
         ≡ items_of (map constructor_view types.now) (names_by names.old) next.old 1 0 (items_view items.now)) }
     ensures next { OnOk result (next.new ≡ next.old + slots_in (items_view items.now)) }
-    ensures names { OnOk result (names_by names.new ≡ names_after (items_view items.now) (names_by names.old) next.old) }
+    ensures names { OnOk result (names_by names.new
+        ≡ names_after (items_view items.now) (names_by names.old) next.old) }
 {
     let mut ops = Items::new(alloc);
     let mut place = 1u32;
     let mut unnamed = 0u32;
     for item in items {
         let slot = *next;
-        compile_item(alloc, flat, types, names.as_slice(), next, place, unnamed, item, &mut ops)?;
+        compile_item(
+            alloc,
+            flat,
+            types,
+            names.as_slice(),
+            next,
+            place,
+            unnamed,
+            item,
+            &mut ops,
+        )?;
         declare(names, item, slot)?;
         place = one_more(place)?;
         unnamed = unnamed_after(unnamed, item)?;

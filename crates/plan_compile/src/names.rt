@@ -48,7 +48,11 @@ pub fn number_called(names: &[InScope<'_>], name: &Name) -> Option<u32>
 }
 
 /// Brings into scope what an item declares, where its own variable has this slot.
-pub fn declare<'a>(names: &mut Items<InScope<'a>>, item: &'a Item, slot: u32) -> Result<(), NoMemory>
+pub fn declare<'a>(
+    names: &mut Items<InScope<'a>>,
+    item: &'a Item,
+    slot: u32,
+) -> Result<(), NoMemory>
     ensures { OnOk result (names_by names.new ≡ names_by names.old ++ declares (item_view item.now) slot) }
 {
     match item {

@@ -1,11 +1,12 @@
 //! Numbers, with slots for names.
-ghost use Rattle.std.specs.Prelude.{◌≡◌, ◌++◌, [], IfOk, OnOk, map, option_map};
+ghost use Rattle.std.specs.Prelude.{◌≡◌, ◌+◌, ◌++◌, [], IfOk, OnOk, map, option_map};
 ghost use Rattle.nat_solver.specs.Number.{times as times_of, unknowns};
 ghost use Rattle.nat_solver.specs.View.{expr as number_view};
 ghost use Rattle.tlb_syntax.specs.View.{expr as expr_view, exprs as exprs_view};
 ghost use Rattle.kind_terms.specs.Closed.{closed as closed_value};
 ghost use Rattle.kind_terms.specs.Params.{bare_name as bare_name_of};
-ghost use Rattle.schema_core.specs.Numbers.{first_number as first_number_of, named_number as named_number_of, no_number};
+ghost use Rattle.schema_core.specs.Numbers.{first_number as first_number_of, named_number as named_number_of};
+ghost use Rattle.schema_core.specs.Numbers.{no_number};
 ghost use Rattle.schema_core.specs.Numbers.{number_of, side_of, unknown_by, variable_or_none};
 ghost use Rattle.plan_compile.specs.Terms.{out_of, term_of};
 ghost use Rattle.plan_compile.specs.Views.{names_by};
@@ -18,6 +19,17 @@ use sqlite_items::{Boxed, Items};
 use std::alloc::Global;
 use tlb_memory::NoMemory;
 use tlb_syntax::Expr;
+
+/// One more, as a slot, a place or a count. Memory ends before there are more.
+pub fn one_more(n: u32) -> Result<u32, NoMemory>
+    ensures { IfOk result (λ m. m ≡ n + 1) }
+{
+    if n < u32::MAX {
+        Ok(n + 1)
+    } else {
+        Err(NoMemory)
+    }
+}
 
 /// What has no meaning as a number.
 pub fn nothing() -> NatExpr
@@ -65,7 +77,13 @@ fn factor(e: &Expr) -> Result<Option<u32>, NoMemory>
 {
     match closed(e) {
         None => Ok(None),
-        Some(k) => { if k > u64::from(u32::MAX) { Err(NoMemory) } else { Ok(Some(k as u32)) } }
+        Some(k) => {
+            if k > u64::from(u32::MAX) {
+                Err(NoMemory)
+            } else {
+                Ok(Some(k as u32))
+            }
+        }
     }
 }
 
@@ -77,12 +95,7 @@ fn times(alloc: Global, k: u32, number: NatExpr) -> Result<NatExpr, NoMemory>
 
 // A number, or a side of an equation.
 #[cycle(term)]
-fn term(
-    alloc: Global,
-    names: &[InScope<'_>],
-    e: &Expr,
-    is_side: bool,
-) -> Result<NatExpr, NoMemory>
+fn term(alloc: Global, names: &[InScope<'_>], e: &Expr, is_side: bool) -> Result<NatExpr, NoMemory>
     ensures { IfOk result (λ n. number_view n ≡ term_of is_side (names_by names.now) (expr_view e.now)) }
 {
     match e {

@@ -64,7 +64,10 @@ fn input(names: &[InScope<'_>], e: &Expr) -> Option<PlanInput>
         }
         Expr::Sum(variable, literal, more) => {
             if more.is_empty() {
-                sum_input(named_number(names, variable.get()), literal_of(literal.get()))
+                sum_input(
+                    named_number(names, variable.get()),
+                    literal_of(literal.get()),
+                )
             } else {
                 None
             }
@@ -74,7 +77,8 @@ fn input(names: &[InScope<'_>], e: &Expr) -> Option<PlanInput>
 }
 
 fn keep_input(found: &mut Items<PlanInput>, input: Option<PlanInput>) -> Result<(), NoMemory>
-    ensures { OnOk result (map input_of found.new ≡ map input_of found.old ++ option_to_list (option_map input_of input)) }
+    ensures { OnOk result (map input_of found.new
+        ≡ map input_of found.old ++ option_to_list (option_map input_of input)) }
 {
     if let Some(input) = input {
         found.push(input)?;

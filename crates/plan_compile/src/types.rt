@@ -13,7 +13,7 @@ ghost use Rattle.plan_compile.specs.Applied.{applied_to, arg_of, hiding as hidin
 ghost use Rattle.plan_compile.specs.Views.{names_by, variable_by};
 
 use crate::names::{InScope, Variable, meaning, number_called};
-use crate::numbers::{first_number, number};
+use crate::numbers::{first_number, number, one_more};
 use crate::words::{TypeName, type_name};
 use bit_slice::Name;
 use flat_form::{Flat, NO_SLOT, PlanArg, Sized, TypeNode};
@@ -58,7 +58,11 @@ fn output_slot(names: &[InScope<'_>], e: &Expr) -> Option<u32>
 fn hiding(names: &[InScope<'_>], name: &Name, args: &Items<Expr>) -> Option<Variable>
     ensures { option_map variable_by result ≡ hiding_name (names_by names.now) name.now (exprs_view args.now) }
 {
-    if args.is_empty() { meaning(names, name) } else { None }
+    if args.is_empty() {
+        meaning(names, name)
+    } else {
+        None
+    }
 }
 
 /// The number of the type that is added for an expression, where no record has a meaning.
@@ -205,13 +209,13 @@ fn compile_args(
         ≡ args_of (map constructor_view types.now) (names_by names.now) kinds.now (exprs_view args.now)) }
 {
     let mut made = Items::new(alloc);
-    let mut place = 0usize;
+    let mut place = 0u32;
     for arg in args {
-        let Some(kind) = kinds.get(place) else {
-            return Ok(made);
-        };
-        compile_arg(alloc, flat, types, names, *kind, arg, &mut made)?;
-        place += 1;
+        match kinds.get(place as usize) {
+            None => return Ok(made),
+            Some(kind) => compile_arg(alloc, flat, types, names, *kind, arg, &mut made)?,
+        }
+        place = one_more(place)?;
     }
     Ok(made)
 }

@@ -7,5 +7,5 @@ use Rattle.plan_compile.proofs.compile.compile_all.Given as goal
 abbrev pub invariant-loop-constructor : goal.invariant-loop-constructor
 invariant-loop-constructor l = record {
   flat : IsFlat l.flat;
-  stand : ArePlansOf l.flat (map constructor l.types) (map constructor (take l.constructor-index l.constructors)) l.plans
+  stand : ArePlansOf l.flat (map constructor l.types) (map constructor (take l.constructor-index l.constructors)) l.plans;
 }

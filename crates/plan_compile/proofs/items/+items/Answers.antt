@@ -23,8 +23,8 @@ compile_field-returns-clause-adds t c =
 pub compile_field-returns-clause-stands : goal.compile_field-returns-clause-stands
 compile_field-returns-clause-stands t c =
     on_ok c.push_field.result (λ e. e
-      ∙ ap (λ z. with_item z (core.field c.args.shown (slot_of c.args.slot) (condition_of c.args.condition) (type_at c.compile_body.new.flat c.in_ok-ty.ty))) (record_stays c.args.flat.now c.compile_body.new.flat c.args.ops.now c.requires.flat c.in_ok-ty.ensures.adds c.requires.ops.sound)
-      ∙ ap (λ z. with_item (items_so_far c.args.flat.now c.args.ops.now) (core.field c.args.shown (slot_of c.args.slot) (condition_of c.args.condition) z)) c.in_ok-ty.ensures.stands) c.push_field.ensures.stands
+    ∙ ap (λ z. with_item z (core.field c.args.shown (slot_of c.args.slot) (condition_of c.args.condition) (type_at c.compile_body.new.flat c.in_ok-ty.ty))) (record_stays c.args.flat.now c.compile_body.new.flat c.args.ops.now c.requires.flat c.in_ok-ty.ensures.adds c.requires.ops.sound)
+    ∙ ap (λ z. with_item (items_so_far c.args.flat.now c.args.ops.now) (core.field c.args.shown (slot_of c.args.slot) (condition_of c.args.condition) z)) c.in_ok-ty.ensures.stands) c.push_field.ensures.stands
 
 pub compile_body-returns-in-Sum-clause-stands : goal.compile_body-returns-in-Sum-clause-stands
 compile_body-returns-in-Sum-clause-stands t c =
@@ -46,17 +46,17 @@ compile_under_ref-returns-in-Sum-clause-next t c =
 
 pub compile_items-loop-item-preserved : goal.compile_items-loop-item-preserved
 compile_items-loop-item-preserved t c = record {
-    adds = adds_on c.args.flat.now c.loop-item.flat c.compile_item.new.flat c.loop-item.invariant.adds c.in_ok-compile_item.ensures.adds;
-    ops = c.in_ok-compile_item.ensures.ops;
-    same = item_turn (map constructor c.args.types.now) c.args.items.now c.loop-item.item-index c.item-item.result (names_by c.loop-item.names) (names_by c.declare.new.names) c.loop-item.next c.compile_item.new.next
+  adds = adds_on c.args.flat.now c.loop-item.flat c.compile_item.new.flat c.loop-item.invariant.adds c.in_ok-compile_item.ensures.adds;
+  ops = c.in_ok-compile_item.ensures.ops;
+  same = item_turn (map constructor c.args.types.now) c.args.items.now c.loop-item.item-index c.item-item.result (names_by c.loop-item.names) (names_by c.declare.new.names) c.loop-item.next c.compile_item.new.next
       c.loop-item.place c.in_ok-place.place c.loop-item.unnamed c.in_ok-unnamed.unnamed (items_so_far c.loop-item.flat c.loop-item.ops) (items_so_far c.compile_item.new.flat c.compile_item.new.ops) _
       c.loop-item-test.true c.item-item.is c.in_ok-declare.ensures c.in_ok-compile_item.ensures.next c.in_ok-place.ensures c.in_ok-unnamed.ensures
       (c.in_ok-compile_item.ensures.stands ∙ ap (λ z. with_some (items_so_far c.loop-item.flat c.loop-item.ops) (item_of (map constructor c.args.types.now) (names_by z) c.loop-item.next c.loop-item.place c.loop-item.unnamed (item_view c.item-item.result))) c.as_slice.ensures)
       c.loop-item.invariant.same;
-    next = slots_turn c.args.items.now c.loop-item.item-index c.item-item.result c.loop-item.next c.compile_item.new.next _ c.loop-item-test.true c.item-item.is c.in_ok-compile_item.ensures.next c.loop-item.invariant.next;
-    names = names_turn c.args.items.now c.loop-item.item-index c.item-item.result (names_by c.loop-item.names) (names_by c.declare.new.names) _ c.loop-item.next c.compile_item.new.next
-      c.loop-item-test.true c.item-item.is c.in_ok-declare.ensures c.in_ok-compile_item.ensures.next c.loop-item.invariant.names
-  }
+  next = slots_turn c.args.items.now c.loop-item.item-index c.item-item.result c.loop-item.next c.compile_item.new.next _ c.loop-item-test.true c.item-item.is c.in_ok-compile_item.ensures.next c.loop-item.invariant.next;
+  names = names_turn c.args.items.now c.loop-item.item-index c.item-item.result (names_by c.loop-item.names) (names_by c.declare.new.names) _ c.loop-item.next c.compile_item.new.next
+      c.loop-item-test.true c.item-item.is c.in_ok-declare.ensures c.in_ok-compile_item.ensures.next c.loop-item.invariant.names;
+}
 
 pub compile_items-returns-clause-stands : goal.compile_items-returns-clause-stands
 compile_items-returns-clause-stands t c =

@@ -13,8 +13,8 @@ invariant-compile_items-loop-item l = record {
   ops : AreOps l.flat l.ops;
   same : append_items (items_so_far l.flat l.ops)
       (items_of (map constructor l.types) (names_by l.names) l.next l.place l.unnamed (items (drop l.item-index l.items)))
-    ≡ items_of (map constructor l.types) (names_by l.fn.names) l.fn.next 1 0 (items l.items);
+      ≡ items_of (map constructor l.types) (names_by l.fn.names) l.fn.next 1 0 (items l.items);
   next : l.next + slots_in (items (drop l.item-index l.items)) ≡ l.fn.next + slots_in (items l.items);
   names : names_after (items (drop l.item-index l.items)) (names_by l.names) l.next
-    ≡ names_after (items l.items) (names_by l.fn.names) l.fn.next
+      ≡ names_after (items l.items) (names_by l.fn.names) l.fn.next;
 }

@@ -13,7 +13,7 @@ term-returns-else-is_empty t c =
 pub term-returns-in_ok-add_terms-in-Sum : goal.term-returns-in_ok-add_terms-in-Sum
 term-returns-in_ok-add_terms-in-Sum t c =
     sum_is c.args.is_side (names_by c.args.names.now) c.args.e.now c.in-Sum.first c.in-Sum.second c.in-Sum.more c.push-in-Sum.new.self c.add_terms.new.sum c.in-Sum.is
-      (two_terms c.new-sum.result c.push.new.self c.push-in-Sum.new.self c.in_ok-term-in-Sum.field-0 c.in_ok-term-in-Sum-2.field-0 _ _ c.new-sum.ensures c.in_ok-push-in-Sum.ensures.ok c.in_ok-push-in-Sum-2.ensures.ok
-        (c.in_ok-term-in-Sum.ensures ∙ ap (λ z. term_of c.args.is_side (names_by c.args.names.now) (expr_view z)) c.get.ensures)
-        (c.in_ok-term-in-Sum-2.ensures ∙ ap (λ z. term_of c.args.is_side (names_by c.args.names.now) (expr_view z)) c.get-in-Sum.ensures))
-      (c.in_ok-add_terms-in-Sum.ensures ∙ ap (λ z. map number_view c.push-in-Sum.new.self ++ map (term_of c.args.is_side (names_by c.args.names.now)) (map expr_view z)) c.as_slice.ensures)
+    (two_terms c.new-sum.result c.push.new.self c.push-in-Sum.new.self c.in_ok-term-in-Sum.field-0 c.in_ok-term-in-Sum-2.field-0 _ _ c.new-sum.ensures c.in_ok-push-in-Sum.ensures.ok c.in_ok-push-in-Sum-2.ensures.ok
+    (c.in_ok-term-in-Sum.ensures ∙ ap (λ z. term_of c.args.is_side (names_by c.args.names.now) (expr_view z)) c.get.ensures)
+    (c.in_ok-term-in-Sum-2.ensures ∙ ap (λ z. term_of c.args.is_side (names_by c.args.names.now) (expr_view z)) c.get-in-Sum.ensures))
+    (c.in_ok-add_terms-in-Sum.ensures ∙ ap (λ z. map number_view c.push-in-Sum.new.self ++ map (term_of c.args.is_side (names_by c.args.names.now)) (map expr_view z)) c.as_slice.ensures)

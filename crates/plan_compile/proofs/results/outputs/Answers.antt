@@ -13,10 +13,10 @@ loop-param-preserved c =
       adds = adds_on c.args.flat.now f g c.loop-param.invariant.adds c.in_ok-added.ensures.adds;
       plain = outputs_plain f g c.loop-param.found c.keep_output.new.found one _ c.in_ok-added.ensures.adds c.loop-param.invariant.plain c.in_ok-added.ensures.is c.in_ok-keep_output.ensures;
       same = output_turn f g (names_by c.args.names.now) c.args.params.now c.loop-param.param-index c.param-item.result c.loop-param.found c.keep_output.new.found one _
-        c.in_ok-added.ensures.adds c.loop-param.invariant.plain c.in_ok-added.ensures.is c.loop-param-test.true c.param-item.is c.in_ok-keep_output.ensures c.loop-param.invariant.same
+          c.in_ok-added.ensures.adds c.loop-param.invariant.plain c.in_ok-added.ensures.is c.loop-param-test.true c.param-item.is c.in_ok-keep_output.ensures c.loop-param.invariant.same;
     }
 
 pub returns-clause-are : goal.returns-clause-are
 returns-clause-are c =
     outputs_done c.loop-param.flat (names_by c.args.names.now) c.args.params.now c.loop-param.param-index c.loop-param.found _
-      c.loop-param-test.false c.loop-param.invariant.plain c.loop-param.invariant.same
+    c.loop-param-test.false c.loop-param.invariant.plain c.loop-param.invariant.same

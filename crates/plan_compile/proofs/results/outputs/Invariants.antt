@@ -13,5 +13,5 @@ invariant-loop-param l = record {
   adds : Adds l.fn.flat l.flat;
   plain : All (IsPlainNumber l.flat) l.found;
   same : map (expr_at l.flat) l.found ++ outputs_of (names_by l.names) (exprs (drop l.param-index l.params))
-    ≡ outputs_of (names_by l.names) (exprs l.params)
+      ≡ outputs_of (names_by l.names) (exprs l.params);
 }

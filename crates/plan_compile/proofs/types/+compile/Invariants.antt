@@ -13,5 +13,5 @@ invariant-compile_args-loop-arg l = record {
   sound : ArgsAreSound l.flat (length l.flat.types) l.made;
   same : append_args (args_so_far l.flat l.made)
       (args_of (map constructor l.types) (names_by l.names) (drop l.place l.kinds) (exprs (drop l.arg-index l.args)))
-    ≡ args_of (map constructor l.types) (names_by l.names) l.kinds (exprs l.args)
+      ≡ args_of (map constructor l.types) (names_by l.names) l.kinds (exprs l.args);
 }
