@@ -1,5 +1,5 @@
 -- What a plan has of a constructor.
-use Rattle.std.specs.Prelude.{ℕ, ◌≡◌, ◌<◌, List, All, map, length}
+use Rattle.std.specs.Prelude.{◌≡◌, All, map, length}
 use Rattle.core_form.specs.Core.{Constructor}
 use Rattle.flat_form.specs.declared.lists.ConstructorPlan.{ConstructorPlan}
 use Rattle.flat_form.specs.declared.lists.Flat.{Flat}

@@ -1,14 +1,11 @@
 -- What a number stands for stays while the lists grow.
 use Rattle.std.proofs.Common.{◌≡◌, ℕ, zero, suc, ◌+◌, ◌<◌, ◌≤◌, List, [], ◌∷◌, ◌++◌, Option, Some, None, refl, ap, sym}
 use Rattle.std.proofs.Common.{◌∙◌, subst, slice_get, length, take, drop, append_assoc, length-append, arith, ◌⊎◌, inl}
-use Rattle.std.proofs.Common.{inr, Bool, true, false, nat_lt, is_some, Result, Ok, Err, OnOk}
+use Rattle.std.proofs.Common.{inr, true, false, nat_lt, Result, Ok, Err, OnOk}
 use Rattle.std.proofs.lemmas.Bool.{ltb-true, ltb-false}
 use Rattle.std.proofs.lemmas.List.{take-append-le, drop-append-le, length-drop}
 use Rattle.std.proofs.lemmas.Option.{slice_get_within}
 use Rattle.nat_solver.specs.Number.{Expr, OneUnknown, unknowns}
-use Rattle.nat_solver.specs.View.{expr}
-use Rattle.nat_solver.specs.declared.expr.NatExpr.{NatExpr}
-use Rattle.nat_solver.specs.declared.compare.Op.{Op}
 use Rattle.core_form.specs.Core.{Word, Condition, Ty, Args, Item, Items}
 use Rattle.core_form.specs.Core as core
 use Rattle.flat_form.specs.declared.lists.Flat.{Flat}
@@ -20,11 +17,11 @@ use Rattle.flat_form.specs.declared.lists.TypeNode.TheVariants.{Variable, Ref, R
 use Rattle.flat_form.specs.declared.lists.PlanArg.{PlanArg}
 use Rattle.flat_form.specs.declared.lists.PlanArg.TheVariants.{Nat, Ty as TypeArg, Out}
 use Rattle.flat_form.specs.Stands.{expr_at, expr_or, name_at, name_or, range, arg_onto, args_in, items_in, node_type}
-use Rattle.flat_form.specs.Stands.{node_or, type_at, slot_of, bit_of}
+use Rattle.flat_form.specs.Stands.{type_at, bit_of}
 use Rattle.flat_form.specs.Sound.{IsFlat, IsPlainNumber, IsEquation, NodeIsSound, ArgIsSound, ArgsAreSound}
 use Rattle.flat_form.specs.Sound.{OpsAreSound, OpIsSound}
 use Rattle.flat_form.specs.Growth.{Begins, Grows, Adds}
-use Rattle.flat_form.specs.StandingLaws.{Agree, args_agree, items_agree, node_agrees, type_at_is, node_is}
+use Rattle.flat_form.specs.StandingLaws.{Agree, args_agree, items_agree, node_agrees, node_is}
 
 get_append : {A : Type 0} (xs ys : List A) (k : ℕ) → k < length xs → slice_get (xs ++ ys) k ≡ slice_get xs k
 get_append [] ys k lt = absurd (omega arith)

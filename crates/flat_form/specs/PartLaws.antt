@@ -1,33 +1,24 @@
 -- Operations and arguments that are put after others.
-use Rattle.std.proofs.Common.{◌≡◌, ℕ, zero, suc, ◌+◌, ◌<◌, ◌≤◌, List, [], ◌∷◌, ◌++◌, Option, Some, None, refl, ap, sym}
-use Rattle.std.proofs.Common.{◌∙◌, subst, slice_get, length, take, drop, append_assoc, length-append, arith, ◌⊎◌, inl}
-use Rattle.std.proofs.Common.{inr, Bool, true, false, nat_lt, is_some, Result, Ok, Err, OnOk}
-use Rattle.std.proofs.lemmas.Bool.{ltb-true, ltb-false}
-use Rattle.std.proofs.lemmas.List.{take-append-le, drop-append-le, length-drop}
-use Rattle.std.proofs.lemmas.Option.{slice_get_within}
+use Rattle.std.proofs.Common.{◌≡◌, ℕ, ◌<◌, ◌≤◌, List, [], ◌∷◌, ◌++◌, Option, Some, None, refl, ap, sym}
+use Rattle.std.proofs.Common.{◌∙◌, subst, length, append_assoc, arith}
+use Rattle.std.proofs.Common.{Bool, true, false, is_some}
 use Rattle.nat_solver.specs.Number.{Expr, OneUnknown, unknowns}
-use Rattle.nat_solver.specs.View.{expr}
-use Rattle.nat_solver.specs.declared.expr.NatExpr.{NatExpr}
 use Rattle.nat_solver.specs.declared.compare.Op.{Op}
 use Rattle.core_form.specs.Core.{Word, Condition, Ty, Args, Item, Items}
 use Rattle.core_form.specs.Core as core
 use Rattle.flat_form.specs.declared.lists.Flat.{Flat}
 use Rattle.flat_form.specs.declared.lists.PlanOp.{PlanOp}
 use Rattle.flat_form.specs.declared.lists.PlanOp.TheVariants.{Check, Solve, When, Field}
-use Rattle.flat_form.specs.declared.lists.TypeNode.{TypeNode}
-use Rattle.flat_form.specs.declared.lists.TypeNode.TheVariants.{Nat32, Bits, Below, UpTo, Uint, Int, BitStr, Whole}
-use Rattle.flat_form.specs.declared.lists.TypeNode.TheVariants.{Variable, Ref, Repeat, Dict, DictE, Named, Group}
 use Rattle.flat_form.specs.declared.lists.PlanArg.{PlanArg}
 use Rattle.flat_form.specs.declared.lists.PlanArg.TheVariants.{Nat, Ty as TypeArg, Out}
-use Rattle.flat_form.specs.Stands.{expr_at, expr_or, name_at, name_or, range, arg_onto, args_in, items_in, node_type}
-use Rattle.flat_form.specs.Stands.{node_or, type_at, slot_of, bit_of}
-use Rattle.flat_form.specs.Sound.{IsFlat, IsPlainNumber, IsEquation, NodeIsSound, ArgIsSound, ArgsAreSound}
-use Rattle.flat_form.specs.Sound.{OpsAreSound, OpIsSound}
-use Rattle.flat_form.specs.Growth.{Begins, Grows, Adds}
+use Rattle.flat_form.specs.Stands.{expr_at, name_at, args_in, items_in}
+use Rattle.flat_form.specs.Stands.{type_at, slot_of, bit_of}
+use Rattle.flat_form.specs.Sound.{IsFlat, IsPlainNumber, IsEquation, ArgIsSound, ArgsAreSound}
+use Rattle.flat_form.specs.Sound.{OpsAreSound}
+use Rattle.flat_form.specs.Growth.{Grows, Adds}
 use Rattle.flat_form.specs.Parts.{AreOps, append_args, append_items, args_so_far, is_open, items_so_far, with_argument}
 use Rattle.flat_form.specs.Parts.{with_item}
-use Rattle.flat_form.specs.StandingLaws.{Agree, args_agree, items_agree, node_agrees, type_at_is, node_is}
-use Rattle.flat_form.specs.GrowthLaws.{expr_grows, name_grows, number_grows, equation_grows, length_begins, type_stays}
+use Rattle.flat_form.specs.GrowthLaws.{expr_grows, number_grows, length_begins, type_stays}
 use Rattle.flat_form.specs.GrowthLaws.{record_stays, record_sound, arguments_stay, arguments_sound, adds_on}
 
 -- operations after closed ones

@@ -1,6 +1,6 @@
 -- What the numbers of flat lists stand for, in core forms.
 -- Source: this project's own; the core forms have those of the TON documentation on the TL-B language.
-use Rattle.std.specs.Prelude.{ℕ, zero, suc, ◌==◌, List, [], ◌∷◌, map, take, drop, Option, Some, None, slice_get}
+use Rattle.std.specs.Prelude.{ℕ, zero, suc, ◌==◌, List, [], ◌∷◌, take, drop, Option, Some, None, slice_get}
 use Rattle.std.specs.Prelude.{if◌then◌else◌}
 use Rattle.nat_solver.specs.Number.{Expr, lit}
 use Rattle.nat_solver.specs.View.{expr}
