@@ -4,7 +4,11 @@
 #[cfg(test)]
 mod judgements;
 #[cfg(test)]
+mod lead_rows;
+#[cfg(test)]
 mod records;
+#[cfg(test)]
+mod separations;
 #[cfg(test)]
 mod terms;
 #[cfg(test)]
