@@ -135,6 +135,7 @@ declared_closed s d x es (Some ks) is known f = cases (nat_eq (count es) (length
   where
     P : Option (List Parameter) → Type 0
     P o = AreInputsOf o (args_of es) × AreClosedOf s (args_of es)
+
     cases : (b : Bool) → nat_eq (count es) (length ks) ≡ b
         → first_of (cond (not b) (Some (arity x)) (cond (has_outputs ks) (Some (output x)) None)) (arguments_fault d (Some x) ks es) ≡ None
         → P (parameters_of s x)

@@ -125,11 +125,7 @@ fn number_fault<'a>(
 
 // Where a type is due, in the arguments of the holder.
 #[cycle(fault)]
-fn type_fault<'a>(
-    types: &TypeIndex,
-    holder: Option<&'a Name>,
-    e: &'a Expr,
-) -> Option<Fault<'a>>
+fn type_fault<'a>(types: &TypeIndex, holder: Option<&'a Name>, e: &'a Expr) -> Option<Fault<'a>>
     ensures { option_map fault_by result
         ≡ type_fault_in (kinds_at types.now) (name_by holder.entry) (expr e.now) }
 {
