@@ -1,0 +1,10 @@
+mod Found
+mod There
+mod Opened
+mod Numbers
+mod LabelsBack
+mod Holding
+mod EdgesBack
+mod Values
+mod EdgesUp
+mod Declared

@@ -1,0 +1,47 @@
+-- A schema that begins with the lines and then declares other types has the lines.
+use Rattle.std.proofs.Common.{◌≡◌, ℕ, zero, suc, Bool, true, false, cond, List, [], ◌∷◌, ◌++◌, Some, slice_get, refl, sym, ap, ◌∙◌, subst}
+use Rattle.std.specs.Prelude.{bytes_eq}
+use Rattle.std.proofs.lemmas.List.{append-nil}
+use Rattle.std.proofs.lemmas.List.Elements.{filter-append}
+use Rattle.std.proofs.lemmas.Slice.Eq.{bytes_eq-Decides}
+use Rattle.kind_terms.specs.Classes.{word_class}
+use Rattle.kind_terms.specs.Words.{Word, is_among}
+use Rattle.tlb_syntax.specs.Tree.{ConstructorView, SchemaView}
+use Rattle.core_form.specs.Core.{Declaration, CoreSchema}
+use Rattle.schema_core.specs.Cores.{cores_after}
+use Rattle.schema_leads.specs.Leads.{of_type_named}
+use Rattle.schema_leads.specs.Tags.{tag_of, cores}
+use Rattle.declared_maps.specs.Lines.{line_types, lines, AreOthers, HasLines}
+use Rattle.declared_maps.specs.LineCores.{line_cores, lines_have_cores}
+
+-- the lines have their core forms whatever follows them
+line_forms : (rest : SchemaView) → cores (lines ++ rest) ≡ line_cores ++ cores_after (lines ++ rest) tag_of lines rest
+unfolding word_class
+line_forms rest = refl
+
+-- none of the others is of a type of the lines
+none_after : (types before rest : SchemaView) → AreOthers rest → (x : Word) → is_among line_types x ≡ true
+    → of_type_named (cores_after types tag_of before rest) x ≡ []
+none_after types before [] others x e = refl
+none_after types before (c ∷ cs) others x e = go (bytes_eq c.result x) refl
+  where
+    later : of_type_named (cores_after types tag_of (before ++ c ∷ []) cs) x ≡ []
+    later = none_after types (before ++ c ∷ []) cs (λ i d there. others (suc i) d there) x e
+
+    clash : true ≡ false → ⊥
+    clash e = cc
+
+    go : (b : Bool) → bytes_eq c.result x ≡ b → of_type_named (cores_after types tag_of before (c ∷ cs)) x ≡ []
+    go false is = rw is later
+    go true is =
+        let same : c.result ≡ x = (bytes_eq-Decides c.result x).0 is in
+        let among : is_among line_types c.result ≡ true = ap (is_among line_types) same ∙ e in
+        absurd (clash (sym among ∙ others 0 c refl))
+
+pub lines_are_there : (rest : SchemaView) → AreOthers rest → HasLines (cores (lines ++ rest))
+lines_are_there rest others x e =
+    ap (λ (z : CoreSchema). of_type_named z x) (line_forms rest)
+    ∙ filter-append (λ (d : Declaration). bytes_eq d.of_type x) line_cores (cores_after (lines ++ rest) tag_of lines rest)
+    ∙ ap (λ (z : CoreSchema). of_type_named line_cores x ++ z) (none_after (lines ++ rest) lines rest others x e)
+    ∙ append-nil (of_type_named line_cores x)
+    ∙ ap (λ (z : CoreSchema). of_type_named z x) (sym lines_have_cores)

@@ -1,0 +1,4 @@
+pub mod Lines
+pub mod LineCores
+pub mod Records
+pub mod Laws

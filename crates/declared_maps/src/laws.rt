@@ -1,0 +1,12 @@
+//! What follows from the definitions alone. Each function states one law; its body is empty.
+ghost use Rattle.declared_maps.specs.Laws.{LinesAreThere, MapsAreDeclared};
+
+/// The lines have their core forms in each schema that begins with them.
+pub fn lines_are_there()
+    ensures { LinesAreThere }
+{}
+
+/// A content spells a map exactly where it spells a record of the declared lines with the required form of each label.
+pub fn maps_are_declared()
+    ensures { MapsAreDeclared }
+{}
