@@ -24,7 +24,7 @@ use Rattle.spelling.specs.declared.Cause.TheVariants.{Width}
 use Rattle.declared_maps.specs.Lines.{hm, hm_e, HasLines}
 use Rattle.declared_maps.specs.LineCores.{arguments, edge_core, empty_core, root_core}
 use Rattle.declared_maps.specs.Records.{Label, AreRequired, edge_labels, root_labels, edge_pairs, root_pairs, child_pairs}
-use Rattle.declared_maps.specs.Laws.{IsGoodContent, IsDeclaredAs, AreDeclared, pair_args}
+use Rattle.declared_maps.specs.Laws.{IsGoodContent, AreDeclared, pair_args}
 use Rattle.declared_maps.proofs.Found.{some_same, edge_named, root_named}
 use Rattle.declared_maps.proofs.Opened.{at_shape, Opened, opened, chosen, built}
 use Rattle.declared_maps.proofs.Holding.{shift, hidden-under, hidden-append}
@@ -252,12 +252,14 @@ root_map schema has n t small le w s outs after e forms =
 pub maps_are_declared : (schema : CoreSchema) → HasLines schema → (n : ℕ) → n ≤ 1023 → (t : Closed) → nodes t ≤ 4093
     → AreDeclared schema n t
 maps_are_declared schema has n small t le = record {
-  hashmap = record {
-    to_record = λ v before after outs good e. record_in schema has n t small le v before outs after good (at_shape schema v (at_type (closed.dict n t)) (closed.dict n t) before outs after (dict_shape n t small) e);
-    to_map = λ w before after outs e forms. map_in schema has n t small le w before outs after e forms;
-  };
-  hashmap_e = record {
-    to_record = λ v before after outs good e. root_in schema has n t small le v before outs after good (at_shape schema v (at_type (closed.dict_e n t)) (closed.dict_e n t) before outs after (dict_e_shape n t small) e);
-    to_map = λ w before after outs e forms. root_map schema has n t small le w before outs after e forms;
-  };
+  hashmap = λ v before outs after good. (
+    (λ e. record_in schema has n t small le v before outs after good (at_shape schema v (at_type (closed.dict n t)) (closed.dict n t) before outs after (dict_shape n t small) e)),
+    (λ r. let P : Plain → Type 0 = λ z. Spells Whole schema z (at_type (closed.dict n t)) before outs after in
+    subst P (sym r.1) (map_in schema has n t small le r.0 before outs after r.3 r.2)),
+  );
+  hashmap_e = λ v before outs after good. (
+    (λ e. root_in schema has n t small le v before outs after good (at_shape schema v (at_type (closed.dict_e n t)) (closed.dict_e n t) before outs after (dict_e_shape n t small) e)),
+    (λ r. let P : Plain → Type 0 = λ z. Spells Whole schema z (at_type (closed.dict_e n t)) before outs after in
+    subst P (sym r.1) (root_map schema has n t small le r.0 before outs after r.3 r.2)),
+  );
 }

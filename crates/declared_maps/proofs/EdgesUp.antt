@@ -189,7 +189,7 @@ Ready schema t top =
     (m : ℕ) → m < top → m ≤ 1023 → (ps : PlainPairs) (s after : Slice) → IsGoodContent s
     → SpellsDict Whole (EachPair Whole schema ps) [] m t s after → EdgeUp schema m t ps s after
 
-cell_good : (c : Tree) (d : Slice) → c ≡ cell_of d → IsGood c → IsGoodContent d
+pub cell_good : (c : Tree) (d : Slice) → c ≡ cell_of d → IsGood c → IsGoodContent d
 cell_good c d same g = content_good d (subst IsGood same g)
 
 fork_to : (schema : CoreSchema) → HasLines schema → (top n : ℕ) (t : Closed) → Ready schema t top → n ≤ top → n ≤ 1023

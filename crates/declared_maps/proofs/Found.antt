@@ -39,15 +39,16 @@ among (c ∷ cs) x (suc at) d e of = there (bytes_eq c.of_type x) (among cs x at
 
 placed : (schema : CoreSchema) (x : Word) (d : Declaration) → In d (of_type_named schema x) → Place d schema
 placed [] x d h = absurd h
-placed (c ∷ cs) x d h = go (bytes_eq c.of_type x) h
+placed (c ∷ cs) x d h = go (bytes_eq c.of_type x) (λ k. placed cs x d k) h
   where
-    later : In d (of_type_named cs x) → Place d (c ∷ cs)
-    later h = let p = placed cs x d h in (suc p.0, p.1)
+    later : Place d cs → Place d (c ∷ cs)
+    later p = (suc p.0, p.1)
 
-    go : (b : Bool) → In d (cond b (c ∷ of_type_named cs x) (of_type_named cs x)) → Place d (c ∷ cs)
-    go true (inl e) = (0, ap Some (sym e))
-    go true (inr h) = later h
-    go false h = later h
+    go : (b : Bool) → (In d (of_type_named cs x) → Place d cs) → In d (cond b (c ∷ of_type_named cs x) (of_type_named cs x))
+        → Place d (c ∷ cs)
+    go true ih (inl e) = (0, ap Some (sym e))
+    go true ih (inr h) = later (ih h)
+    go false ih h = later (ih h)
 
 -- those of the lines, by type
 abbrev Named : CoreSchema → Word → CoreSchema → Type 0

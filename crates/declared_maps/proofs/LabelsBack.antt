@@ -65,11 +65,11 @@ label_scope n o = record { numbers = Some n ∷ o ∷ []; types = None ∷ None 
 label_bound : (n : ℕ) (bound : Scope) → Fits short_core.core (label_args n) bound → bound ≡ label_scope n None
 label_bound n bound e = e.2 ∙ (λ i. with_number 0 ((sym e.1) i) (unset 2))
 
-repeat_shape : (n m k : ℕ) → within m ≡ Some k
+pub repeat_shape : (n m k : ℕ) → within m ≡ Some k
     → judged (typed_or (bounded (of_both closed.repeat (within m) (Some bit_type)))) ≡ Ok (typed (closed.repeat k bit_type))
 repeat_shape n m k e = ap (λ o. judged (typed_or (bounded (of_both closed.repeat o (Some bit_type))))) e
 
-up_to_shape : (n : ℕ) → n ≤ 1023
+pub up_to_shape : (n : ℕ) → n ≤ 1023
     → judged (typed_or (bounded (of_number closed.up_to (within n)))) ≡ Ok (typed (closed.up_to n))
 up_to_shape n le = ap (λ o. judged (typed_or (bounded (of_number closed.up_to o)))) (within_small n (omega (arith, le)))
 

@@ -23,17 +23,16 @@ line_forms rest = refl
 none_after : (types before rest : SchemaView) → AreOthers rest → (x : Word) → is_among line_types x ≡ true
     → of_type_named (cores_after types tag_of before rest) x ≡ []
 none_after types before [] others x e = refl
-none_after types before (c ∷ cs) others x e = go (bytes_eq c.result x) refl
+none_after types before (c ∷ cs) others x e =
+    go (bytes_eq c.result x) refl (none_after types (before ++ c ∷ []) cs (λ i d there. others (suc i) d there) x e)
   where
-    later : of_type_named (cores_after types tag_of (before ++ c ∷ []) cs) x ≡ []
-    later = none_after types (before ++ c ∷ []) cs (λ i d there. others (suc i) d there) x e
-
     clash : true ≡ false → ⊥
     clash e = cc
 
-    go : (b : Bool) → bytes_eq c.result x ≡ b → of_type_named (cores_after types tag_of before (c ∷ cs)) x ≡ []
-    go false is = rw is later
-    go true is =
+    go : (b : Bool) → bytes_eq c.result x ≡ b → of_type_named (cores_after types tag_of (before ++ c ∷ []) cs) x ≡ []
+        → of_type_named (cores_after types tag_of before (c ∷ cs)) x ≡ []
+    go false is later = rw is later
+    go true is later =
         let same : c.result ≡ x = (bytes_eq-Decides c.result x).0 is in
         let among : is_among line_types c.result ≡ true = ap (is_among line_types) same ∙ e in
         absurd (clash (sym among ∙ others 0 c refl))

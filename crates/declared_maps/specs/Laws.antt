@@ -1,5 +1,5 @@
 -- What the laws say: the built-in dictionary is the declared one.
-use Rattle.std.specs.Prelude.{ℕ, ◌≡◌, ◌≤◌, List, [], ◌++◌}
+use Rattle.std.specs.Prelude.{ℕ, ◌≡◌, ◌≤◌, ◌↔◌, List, [], ◌++◌}
 use Rattle.bit_slice.specs.Bits.{AreBits}
 use Rattle.cell_nodes.specs.Good.{AllGood}
 use Rattle.cell_nodes.specs.declared.tree.Mode.TheVariants.{Whole}
@@ -25,16 +25,13 @@ pub record IsGoodContent (s : Slice) : Type 0 where
   pub refs : AllGood s.refs
 
 -- A content spells a value at the type of maps exactly where it spells a record at the declared type in which each label
--- has the required form. Both take the same bits and references, and the value is the map of the record's pairs.
-pub record IsDeclaredAs (schema : CoreSchema) (maps records : Closed) (pairs : Plain → PlainPairs)
-    (labels : Plain → List Label) : Type 0 where
-  pub to_record : (v : Plain) (before after : Slice) (outs : List ℕ) → IsGoodContent before
-      → Spells Whole schema v (at_type maps) before outs after
-      → (w : Plain) × (v ≡ map_of tt (pairs w) []) × AreRequired (labels w)
-      × Spells Whole schema w (at_type records) before outs after
-  pub to_map : (w : Plain) (before after : Slice) (outs : List ℕ)
-      → Spells Whole schema w (at_type records) before outs after → AreRequired (labels w)
-      → Spells Whole schema (map_of tt (pairs w) []) (at_type maps) before outs after
+-- has the required form, and the value is the map of the record's pairs. Both take the same bits and references.
+abbrev pub IsDeclaredAs : CoreSchema → Closed → Closed → (Plain → PlainPairs) → (Plain → List Label) → Type 0
+IsDeclaredAs schema maps records pairs labels =
+    (v : Plain) (before : Slice) (outs : List ℕ) (after : Slice) → IsGoodContent before
+    → Spells Whole schema v (at_type maps) before outs after
+    ↔ ((w : Plain) × (v ≡ map_of tt (pairs w) []) × AreRequired (labels w)
+    × Spells Whole schema w (at_type records) before outs after)
 
 -- the arguments of the declared types
 abbrev pub pair_args : ℕ → Closed → ClosedArgs
