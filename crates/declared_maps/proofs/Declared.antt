@@ -1,5 +1,6 @@
 -- The built-in dictionary is the declared one.
-use Rattle.std.proofs.Common.{◌≡◌, ◌≤◌, ℕ, zero, suc, Bool, true, false, cond, List, [], ◌∷◌, ◌++◌, Option, Some, None, Result, Ok, Err, refl, sym, ap, ◌∙◌, subst, ◌⊎◌, inl, inr, arith, nat_le}
+use Rattle.std.proofs.Common.{◌≡◌, ◌≤◌, ℕ, Bool, true, false, cond, List, [], ◌∷◌, ◌++◌, Option, Some, None, Result, Ok, Err, refl, sym, ap, ◌∙◌, subst, inl, inr, nat_le}
+use Rattle.std.specs.Prelude.{codes}
 use Rattle.std.proofs.lemmas.Bool.{le-leb}
 use Rattle.cell_nodes.specs.Good.{AllGood}
 use Rattle.cell_nodes.specs.GoodParts.{all_good-head}
@@ -16,22 +17,24 @@ use Rattle.core_form.specs.Closed.{Closed, nodes}
 use Rattle.core_form.specs.Closed as closed
 use Rattle.core_form.specs.Fit.{Fits}
 use Rattle.core_form.specs.Scope.{Scope, unset, with_number, with_type}
-use Rattle.spelling.specs.Slices.{nothing, only_bits, only_ref}
+use Rattle.spelling.specs.Slices.{nothing, only_bits}
 use Rattle.spelling.specs.Goals.{Shape, at_type, at_field, typed, shape_of}
 use Rattle.spelling.specs.Spells.{Spells, SpellsShape, Each, EachPair, EntriesHold, SpellsDict, SpellsDictE, no_entries, some_entries}
 use Rattle.spelling.specs.declared.Cause.{Cause}
 use Rattle.spelling.specs.declared.Cause.TheVariants.{Width}
 use Rattle.declared_maps.specs.Lines.{hm, hm_e, HasLines}
 use Rattle.declared_maps.specs.LineCores.{arguments, edge_core, empty_core, root_core}
-use Rattle.declared_maps.specs.Records.{Label, AreRequired, edge_labels, root_labels, edge_pairs, root_pairs, child_pairs}
-use Rattle.declared_maps.specs.Laws.{IsGoodContent, AreDeclared, pair_args}
+use Rattle.declared_maps.specs.Records.{Label, AreRequired, edge_labels, root_labels, edge_pairs, root_pairs}
+use Rattle.declared_maps.specs.MapRecords.{edge_of, root_of, root_record}
+use Rattle.declared_maps.specs.Laws.{IsGoodContent, HasRecordAs, HaveRecords, AreDeclared, pair_args}
 use Rattle.declared_maps.proofs.Found.{some_same, edge_named, root_named}
 use Rattle.declared_maps.proofs.Opened.{at_shape, Opened, opened, chosen, built}
 use Rattle.declared_maps.proofs.Holding.{shift, hidden-under, hidden-append}
 use Rattle.declared_maps.proofs.Holding.{open_edge as from_tree}
 use Rattle.declared_maps.proofs.EdgesBack.{edge_type, fork_scope, ref_shape, edge_back, child_back}
 use Rattle.declared_maps.proofs.EdgesUp.{child_up, part_of, cell_good, edge_to}
-use Rattle.declared_maps.proofs.Values.{record_by, one_val}
+use Rattle.declared_maps.proofs.Keys.{Some_pairs}
+use Rattle.declared_maps.proofs.Values.{one_val}
 
 abbrev root_type : ℕ → Closed → Closed
 root_type n t = closed.named hm_e (pair_args n t)
@@ -89,20 +92,23 @@ dict_whole schema ps us n t s after (inr e) = sym e.2.1 ∙ fork_shown n e.0 s a
 
 -- ---- Hashmap
 
-abbrev Record : CoreSchema → Closed → (Plain → PlainPairs) → (Plain → List Label) → Plain → Slice → List ℕ → Slice → Type 0
-Record schema t pairs labels v before outs after =
-    (w : Plain) × (v ≡ map_of tt (pairs w) []) × AreRequired (labels w) × Spells Whole schema w (at_type t) before outs after
+-- the record of a map: its pairs are the map's, and each of its labels has the required form
+abbrev RecordOf : CoreSchema → Closed → (PlainPairs → Plain) → (Plain → PlainPairs) → (Plain → List Label) → Plain → Slice
+    → List ℕ → Slice → Type 0
+RecordOf schema t of_pairs pairs labels v before outs after =
+    (ps : PlainPairs) × (v ≡ map_of tt ps []) × (pairs (of_pairs ps) ≡ ps) × AreRequired (labels (of_pairs ps))
+    × Spells Whole schema (of_pairs ps) (at_type t) before outs after
 
 record_in : (schema : CoreSchema) → HasLines schema → (n : ℕ) (t : Closed) → n ≤ 1023 → nodes t ≤ 4093 → (v : Plain)
     (s : Slice) (outs : List ℕ) (after : Slice) → IsGoodContent s
     → SpellsShape Whole schema v (typed (closed.dict n t)) s outs after
-    → Record schema (edge_type n t) edge_pairs (edge_labels n) v s outs after
+    → RecordOf schema (edge_type n t) (edge_of n) edge_pairs (edge_labels n) v s outs after
 record_in schema has n t small le (map_of tt ps us) s outs after good e =
     let none = dict_whole schema ps us n t s after e.1 in
     let P : List (List ℕ × Hidden) → Type 0 = λ z. SpellsDict Whole (EachPair Whole schema ps) z n t s after in
     let x = edge_to schema has n t small le ps s after good (subst P none e.1) in
-    let O : List ℕ → Type 0 = λ z. Spells Whole schema x.value (at_type (edge_type n t)) s z after in
-    (x.value, (λ i. map_of tt (x.pairs i) (none i)), x.forms, subst O (sym e.0) x.spelled)
+    let O : List ℕ → Type 0 = λ z. Spells Whole schema (edge_of n ps) (at_type (edge_type n t)) s z after in
+    (ps, ap (map_of tt ps) none, x.pairs, x.forms, subst O (sym e.0) x.spelled)
 record_in schema has n t small le (record_of None names vs) s outs after good e = absurd e
 record_in schema has n t small le (record_of (Some name) names vs) s outs after good e = absurd e
 record_in schema has n t small le _ s outs after good e = absurd e
@@ -128,7 +134,7 @@ map_in schema has n t small le w s outs after e forms =
 
 empty_up : (schema : CoreSchema) → HasLines schema → (n : ℕ) (t : Closed) (s after : Slice)
     → Then s (only_bits (0 ∷ [])) after
-    → Spells Whole schema (record_by empty_core no_vals) (at_type (root_type n t)) s [] after
+    → Spells Whole schema (record_of (Some (codes "hme_empty")) [] no_vals) (at_type (root_type n t)) s [] after
 empty_up schema has n t s after taken =
     built schema hm_e (pair_args n t) (empty_core ∷ root_core ∷ []) empty_core no_vals s [] after (root_named schema has) (inl refl) refl
     (record {
@@ -146,7 +152,7 @@ empty_up schema has n t s after taken =
 root_up : (schema : CoreSchema) → HasLines schema → (n : ℕ) (t : Closed) → n ≤ 1023 → nodes t ≤ 4093 → (u : Plain)
     (c : Tree) (d s after : Slice) → c ≡ cell_of d → s.bits ≡ 1 ∷ after.bits → s.refs ≡ c ∷ after.refs
     → Spells Whole schema u (at_type (edge_type n t)) d [] nothing
-    → Spells Whole schema (record_by root_core (one_val (ref_to tt u))) (at_type (root_type n t)) s [] after
+    → Spells Whole schema (root_record u) (at_type (root_type n t)) s [] after
 root_up schema has n t small le u c d s after same bits refs e =
     let middle : Slice = record { bits = after.bits; refs = s.refs } in
     built schema hm_e (pair_args n t) (empty_core ∷ root_core ∷ []) root_core (one_val (ref_to tt u)) s [] after (root_named schema has) (inr (inl refl)) refl
@@ -162,29 +168,40 @@ root_up schema has n t small le u c d s after same bits refs e =
       outputs = refl;
     })
 
-root_record : (schema : CoreSchema) → HasLines schema → (n : ℕ) (t : Closed) → n ≤ 1023 → nodes t ≤ 4093
+root_some : (n : ℕ) (ps : PlainPairs) → Some_pairs ps → root_record (edge_of n ps) ≡ root_of n ps
+root_some n no_pairs some = absurd (none some.0 some.1 some.2 some.3)
+  where
+    none : (k : List ℕ) (v : Plain) (qs : PlainPairs) → (◌≡◌ {A = PlainPairs} no_pairs (a_pair k v qs)) → ⊥
+    none k v qs e = cc
+root_some n (a_pair k v ps) some = refl
+
+entries_up : (schema : CoreSchema) → HasLines schema → (n : ℕ) (t : Closed) → n ≤ 1023 → nodes t ≤ 4093
     → (ps : PlainPairs) (us : List (List ℕ × Hidden)) (s after : Slice) → IsGoodContent s
     → SpellsDictE Whole (EachPair Whole schema ps) us n t s after
-    → Record schema (root_type n t) root_pairs (root_labels n) (map_of tt ps us) s [] after
-root_record schema has n t small le (a_pair k v ps) us s after good (no_entries empty none taken) = absurd empty
-root_record schema has n t small le no_pairs us s after good (no_entries empty none taken) =
-    (record_by empty_core no_vals, ap (map_of tt no_pairs) none, tt, empty_up schema has n t s after taken)
-root_record schema has n t small le ps us s after good (some_entries c es taken branch contents) =
+    → RecordOf schema (root_type n t) (root_of n) root_pairs (root_labels n) (map_of tt ps us) s [] after
+entries_up schema has n t small le (a_pair k v ps) us s after good (no_entries empty none taken) = absurd empty
+entries_up schema has n t small le no_pairs us s after good (no_entries empty none taken) =
+    (no_pairs, ap (map_of tt no_pairs) none, refl, tt, empty_up schema has n t s after taken)
+entries_up schema has n t small le ps us s after good (some_entries c es taken branch contents) =
     let k = part_of n es c branch in
     let all : AllGood (c ∷ after.refs) = subst AllGood taken.refs good.refs in
     let inside = cell_good c k.content k.same (all_good-head c after.refs all) in
     let none : us ≡ [] = sym contents.1 ∙ branch_shown n es c branch in
     let P : List (List ℕ × Hidden) → Type 0 = λ z. EntriesHold (EachPair Whole schema ps) z t es in
     let x = edge_to schema has n t small le ps k.content nothing inside (from_tree schema ps n t k.content es k.tree (subst P none contents)) in
-    (record_by root_core (one_val (ref_to tt x.value)), (λ i. map_of tt (x.pairs i) (none i)), x.forms, root_up schema has n t small le x.value c k.content s after k.same taken.bits taken.refs x.spelled)
+    let is : root_record (edge_of n ps) ≡ root_of n ps = root_some n ps x.some in
+    let E : Plain → Type 0 = λ z. root_pairs z ≡ ps in
+    let A : Plain → Type 0 = λ z. AreRequired (root_labels n z) in
+    let S : Plain → Type 0 = λ z. Spells Whole schema z (at_type (root_type n t)) s [] after in
+    (ps, ap (map_of tt ps) none, subst E is x.pairs, subst A is x.forms, subst S is (root_up schema has n t small le (edge_of n ps) c k.content s after k.same taken.bits taken.refs x.spelled))
 
 root_in : (schema : CoreSchema) → HasLines schema → (n : ℕ) (t : Closed) → n ≤ 1023 → nodes t ≤ 4093 → (v : Plain)
     (s : Slice) (outs : List ℕ) (after : Slice) → IsGoodContent s
     → SpellsShape Whole schema v (typed (closed.dict_e n t)) s outs after
-    → Record schema (root_type n t) root_pairs (root_labels n) v s outs after
+    → RecordOf schema (root_type n t) (root_of n) root_pairs (root_labels n) v s outs after
 root_in schema has n t small le (map_of tt ps us) s outs after good e =
-    let R : List ℕ → Type 0 = λ z. Record schema (root_type n t) root_pairs (root_labels n) (map_of tt ps us) s z after in
-    subst R (sym e.0) (root_record schema has n t small le ps us s after good e.1)
+    let R : List ℕ → Type 0 = λ z. RecordOf schema (root_type n t) (root_of n) root_pairs (root_labels n) (map_of tt ps us) s z after in
+    subst R (sym e.0) (entries_up schema has n t small le ps us s after good e.1)
 root_in schema has n t small le (record_of None names vs) s outs after good e = absurd e
 root_in schema has n t small le (record_of (Some name) names vs) s outs after good e = absurd e
 root_in schema has n t small le _ s outs after good e = absurd e
@@ -216,15 +233,14 @@ root_case schema has n t small le name names (a_val v no_vals) s outs after form
     let f = o.items in
     let R : Scope → Type 0 = λ z. Spells Whole schema v (at_field no_condition (core.ref (core.named hm (arguments 0 1))) z) o.middle f.0 f.1 in
     let x = child_back schema has n t small le v o.middle f.0 f.1 (at_shape schema v (at_field no_condition (core.ref (core.named hm (arguments 0 1))) (fork_scope n t)) (closed.ref (edge_type n t)) o.middle f.0 f.1 (ref_shape n t small le) (subst R (root_bound n t o.bound o.fitting) f.2)) forms in
-    let left : after ≡ f.1 = f.3.1 in
-    (
+    let left : after ≡ f.1 = f.3.1 in (
       sym (some_same _ _ o.outputs),
       some_entries x.cell x.entries
-      (record {
-        bits = o.tag.bits ∙ ap (λ (l : List ℕ). 1 ∷ l) (x.taken.bits ∙ ap (λ (z : Slice). z.bits) (sym left));
-        refs = o.tag.refs ∙ x.taken.refs ∙ ap (λ (z : Slice). x.cell ∷ z.refs) (sym left);
-      })
-      x.branch x.contents,
+          (record {
+            bits = o.tag.bits ∙ ap (λ (l : List ℕ). 1 ∷ l) (x.taken.bits ∙ ap (λ (z : Slice). z.bits) (sym left));
+            refs = o.tag.refs ∙ x.taken.refs ∙ ap (λ (z : Slice). x.cell ∷ z.refs) (sym left);
+          })
+          x.branch x.contents,
     )
 
 root_back : (schema : CoreSchema) → HasLines schema → (n : ℕ) (t : Closed) → n ≤ 1023 → nodes t ≤ 4093 → (w : Plain)
@@ -247,19 +263,36 @@ root_map schema has n t small le w s outs after e forms =
     let x = root_back schema has n t small le w s outs after at forms in
     (typed (closed.dict_e n t), dict_e_shape n t small, (x.0, x.1, tt))
 
--- ---- the law
+-- ---- the laws
+
+hashmap_record : (schema : CoreSchema) → HasLines schema → (n : ℕ) → n ≤ 1023 → (t : Closed) → nodes t ≤ 4093
+    → HasRecordAs schema (closed.dict n t) (edge_type n t) (edge_of n) edge_pairs (edge_labels n)
+hashmap_record schema has n small t le v before outs after good e =
+    record_in schema has n t small le v before outs after good (at_shape schema v (at_type (closed.dict n t)) (closed.dict n t) before outs after (dict_shape n t small) e)
+
+hashmap_e_record : (schema : CoreSchema) → HasLines schema → (n : ℕ) → n ≤ 1023 → (t : Closed) → nodes t ≤ 4093
+    → HasRecordAs schema (closed.dict_e n t) (root_type n t) (root_of n) root_pairs (root_labels n)
+hashmap_e_record schema has n small t le v before outs after good e =
+    root_in schema has n t small le v before outs after good (at_shape schema v (at_type (closed.dict_e n t)) (closed.dict_e n t) before outs after (dict_e_shape n t small) e)
+
+pub maps_have_records : (schema : CoreSchema) → HasLines schema → (n : ℕ) → n ≤ 1023 → (t : Closed) → nodes t ≤ 4093
+    → HaveRecords schema n t
+maps_have_records schema has n small t le =
+    record { hashmap = hashmap_record schema has n small t le; hashmap_e = hashmap_e_record schema has n small t le }
 
 pub maps_are_declared : (schema : CoreSchema) → HasLines schema → (n : ℕ) → n ≤ 1023 → (t : Closed) → nodes t ≤ 4093
     → AreDeclared schema n t
 maps_are_declared schema has n small t le = record {
   hashmap = λ v before outs after good. (
-    (λ e. record_in schema has n t small le v before outs after good (at_shape schema v (at_type (closed.dict n t)) (closed.dict n t) before outs after (dict_shape n t small) e)),
+    (λ e. let r = hashmap_record schema has n small t le v before outs after good e in
+        (edge_of n r.0, r.1 ∙ ap (λ z. map_of tt z []) (sym r.2), r.3, r.4)),
     (λ r. let P : Plain → Type 0 = λ z. Spells Whole schema z (at_type (closed.dict n t)) before outs after in
-    subst P (sym r.1) (map_in schema has n t small le r.0 before outs after r.3 r.2)),
+        subst P (sym r.1) (map_in schema has n t small le r.0 before outs after r.3 r.2)),
   );
   hashmap_e = λ v before outs after good. (
-    (λ e. root_in schema has n t small le v before outs after good (at_shape schema v (at_type (closed.dict_e n t)) (closed.dict_e n t) before outs after (dict_e_shape n t small) e)),
+    (λ e. let r = hashmap_e_record schema has n small t le v before outs after good e in
+        (root_of n r.0, r.1 ∙ ap (λ z. map_of tt z []) (sym r.2), r.3, r.4)),
     (λ r. let P : Plain → Type 0 = λ z. Spells Whole schema z (at_type (closed.dict_e n t)) before outs after in
-    subst P (sym r.1) (root_map schema has n t small le r.0 before outs after r.3 r.2)),
+        subst P (sym r.1) (root_map schema has n t small le r.0 before outs after r.3 r.2)),
   );
 }

@@ -16,19 +16,19 @@ use Rattle.core_form.specs.Core.{Word, CoreSchema, no_condition}
 use Rattle.core_form.specs.Core as core
 use Rattle.core_form.specs.Closed.{Closed, nodes}
 use Rattle.core_form.specs.Closed as closed
-use Rattle.core_form.specs.Closing.{bounded, of_args, of_type, and_number, and_type}
+use Rattle.core_form.specs.Closing.{bounded, of_args, of_type, and_number}
 use Rattle.core_form.specs.Fit.{Fits}
 use Rattle.core_form.specs.Scope.{Scope, unset, with_number, with_type, bind}
 use Rattle.spelling.specs.Slices.{nothing, only_ref}
-use Rattle.spelling.specs.Goals.{at_type, at_field, typed, typed_or, judged, shape_of}
+use Rattle.spelling.specs.Goals.{at_type, at_field, typed, typed_or, judged}
 use Rattle.spelling.specs.Spells.{no_meanings, a_meaning, Fields, Spells, SpellsShape, Each, EachPair, EntriesHold, SpellsDict}
 use Rattle.declared_maps.specs.Lines.{hm, hm_label, hm_node, HasLines}
 use Rattle.declared_maps.specs.LineCores.{items, plain, arguments, edge_core, leaf_core, fork_core}
 use Rattle.declared_maps.specs.Records.{Label, AreRequired, label_bits, label_form, child_labels, edge_labels, node_labels, fork_pairs, child_pairs, edge_pairs, node_pairs}
 use Rattle.declared_maps.specs.Laws.{pair_args}
-use Rattle.declared_maps.proofs.Found.{some_same, edge_named, node_named}
+use Rattle.declared_maps.proofs.Found.{edge_named, node_named}
 use Rattle.declared_maps.proofs.Opened.{at_shape, at_same, bounded_shape, within_small, within_same, Opened, opened, chosen}
-use Rattle.declared_maps.proofs.LabelsBack.{label_args, label_type, label_back}
+use Rattle.declared_maps.proofs.LabelsBack.{label_type, label_back}
 use Rattle.declared_maps.proofs.Holding.{closed_edge, fork_holds}
 
 -- ---- closed types

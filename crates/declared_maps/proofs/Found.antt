@@ -1,8 +1,7 @@
 -- Which constructors the types of the lines have.
-use Rattle.std.proofs.Common.{◌≡◌, ℕ, zero, suc, ◌+◌, Bool, true, false, cond, List, [], ◌∷◌, ◌++◌, Some, slice_get, refl, sym, ap, ◌∙◌, subst, ◌⊎◌, inl, inr}
+use Rattle.std.proofs.Common.{◌≡◌, ℕ, zero, suc, Bool, true, false, cond, [], ◌∷◌, Some, slice_get, refl, sym, ap, ◌∙◌, subst, ◌⊎◌, inl, inr}
 use Rattle.std.specs.Prelude.{bytes_eq}
 use Rattle.std.proofs.lemmas.Slice.Eq.{bytes_eq-Decides}
-use Rattle.kind_terms.specs.Classes.{word_class}
 use Rattle.core_form.specs.Core.{Word, Declaration, CoreSchema}
 use Rattle.schema_leads.specs.Leads.{of_type_named}
 use Rattle.schema_leads.specs.Tags.{cores}

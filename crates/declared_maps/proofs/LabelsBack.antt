@@ -1,5 +1,5 @@
 -- What a record of HmLabel is spelled by.
-use Rattle.std.proofs.Common.{◌≡◌, ◌≤◌, ℕ, suc, ◌+◌, Bool, true, false, List, [], ◌∷◌, ◌++◌, length, replicate, Option, Some, None, Ok, refl, sym, ap, ◌∙◌, subst, inl, inr, arith}
+use Rattle.std.proofs.Common.{◌≡◌, ◌≤◌, ℕ, List, [], ◌∷◌, ◌++◌, length, replicate, Option, Some, None, Ok, refl, sym, ap, ◌∙◌, subst, inl, inr, arith}
 use Rattle.std.specs.Prelude.{codes}
 use Rattle.std.proofs.lemmas.List.{length-replicate}
 use Rattle.cell_nodes.specs.declared.tree.Mode.TheVariants.{Whole}
@@ -11,7 +11,7 @@ use Rattle.hashmap_labels.specs.Labels.{IsForm}
 use Rattle.hashmap_labels.specs.declared.forms.LabelForm.{LabelForm}
 use Rattle.hashmap_labels.specs.declared.forms.LabelForm.TheVariants.{Short, Long, Same}
 use Rattle.hashmap_tree.specs.Entries.{Slice}
-use Rattle.typed_value.specs.Values.{Plain, Plains, number, record_of, list_of, no_vals, a_val}
+use Rattle.typed_value.specs.Values.{Plain, Plains, record_of, no_vals, a_val}
 use Rattle.core_form.specs.Core.{Word, CoreSchema, no_condition}
 use Rattle.core_form.specs.Core as core
 use Rattle.core_form.specs.Closed.{Closed, ClosedArgs}
@@ -159,8 +159,7 @@ same_case schema has n small name names (a_val v (a_val w no_vals)) s outs after
     let is : u.size ∷ [] ≡ outs = some_same _ _ (ap (λ z. and_value z (Some [])) (sym fits) ∙ out) in
     told n (record_of (Some name) names (a_val v (a_val w no_vals))) s outs after Same l
     (ap (λ z. form_called (Some z)) o.called) (ap (bits_by v) (sym u.value)) (omega (arith, len, le))
-    (sym is ∙ ap (λ (z : ℕ). z ∷ []) len)
-    (
+    (sym is ∙ ap (λ (z : ℕ). z ∷ []) len) (
       x.0,
       (λ i. replicate (len i) ((sym x.1) i)),
       o.tag.bits ∙ ap (λ (y : List ℕ). 1 ∷ (1 ∷ y)) (b.bits ∙ (λ i. (sym x.1) i ∷ u.taken.bits i) ∙ (λ i. bit_number x.0 ∷ (spelled (bit_length n) (len i) ++ ((sym left) i).bits))),

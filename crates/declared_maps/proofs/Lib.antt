@@ -5,6 +5,7 @@ mod Numbers
 mod LabelsBack
 mod Holding
 mod EdgesBack
+mod Keys
 mod Values
 mod EdgesUp
 mod Declared

@@ -1,5 +1,5 @@
 -- What a record of Bit, of Unary and of a list of Bit is spelled by.
-use Rattle.std.proofs.Common.{◌≡◌, ◌<◌, ◌^◌, ℕ, zero, suc, ◌+◌, Bool, true, false, cond, List, [], ◌∷◌, ◌++◌, length, replicate, Option, Some, None, refl, sym, ap, ◌∙◌, subst, inl, inr, arith, nat_lt}
+use Rattle.std.proofs.Common.{◌≡◌, ◌<◌, ◌^◌, ℕ, zero, suc, ◌+◌, Bool, true, false, cond, List, [], ◌∷◌, ◌++◌, length, replicate, Some, None, refl, sym, ap, ◌∙◌, subst, inl, inr, arith, nat_lt}
 use Rattle.cell_nodes.specs.declared.tree.Mode.TheVariants.{Whole}
 use Rattle.bit_slice.specs.Bits.{bit_length, bit_number, spelled}
 use Rattle.nat_solver.specs.Number as num
@@ -9,10 +9,10 @@ use Rattle.typed_value.specs.Values.{Plain, Plains, number, record_of, list_of, 
 use Rattle.core_form.specs.Core.{Word, CoreSchema, no_condition}
 use Rattle.core_form.specs.Core as core
 use Rattle.core_form.specs.Closed as closed
-use Rattle.core_form.specs.Scope.{Scope, unset, and_value, values_in, bind}
+use Rattle.core_form.specs.Scope.{Scope, and_value, values_in, bind}
 use Rattle.spelling.specs.Slices.{only_bits}
 use Rattle.spelling.specs.Goals.{at_type, at_field, typed}
-use Rattle.spelling.specs.Spells.{Repeats, SpellsShape, SpellsDeclared, Each}
+use Rattle.spelling.specs.Spells.{Repeats, SpellsShape, Each}
 use Rattle.declared_maps.specs.Lines.{bit, unary, HasLines}
 use Rattle.declared_maps.specs.LineCores.{bit_core, zero_core, succ_core, unary_to}
 use Rattle.declared_maps.specs.Records.{bit_in, bits_in}

@@ -1,5 +1,5 @@
 -- A record of a known constructor, and its fields.
-use Rattle.std.proofs.Common.{◌≡◌, ℕ, ◌≤◌, ◌<◌, ◌^◌, Bool, true, false, cond, List, [], ◌∷◌, ◌++◌, Option, Some, None, Result, Ok, Err, slice_get, refl, sym, ap, ◌∙◌, subst, arith, nat_lt, lit<}
+use Rattle.std.proofs.Common.{◌≡◌, ℕ, ◌≤◌, ◌<◌, ◌^◌, Bool, true, false, cond, List, Some, None, Result, Ok, Err, refl, sym, ◌∙◌, subst, arith, nat_lt, lit<}
 use Rattle.std.proofs.lemmas.Bool.{le-ltb, lt-ltb}
 use Rattle.cell_nodes.specs.declared.tree.Mode.TheVariants.{Whole}
 use Rattle.nat_solver.specs.Number.{within}

@@ -1,12 +1,12 @@
 -- A schema that begins with the lines and then declares other types has the lines.
-use Rattle.std.proofs.Common.{◌≡◌, ℕ, zero, suc, Bool, true, false, cond, List, [], ◌∷◌, ◌++◌, Some, slice_get, refl, sym, ap, ◌∙◌, subst}
+use Rattle.std.proofs.Common.{◌≡◌, suc, Bool, true, false, [], ◌∷◌, ◌++◌, refl, sym, ap, ◌∙◌}
 use Rattle.std.specs.Prelude.{bytes_eq}
 use Rattle.std.proofs.lemmas.List.{append-nil}
 use Rattle.std.proofs.lemmas.List.Elements.{filter-append}
 use Rattle.std.proofs.lemmas.Slice.Eq.{bytes_eq-Decides}
 use Rattle.kind_terms.specs.Classes.{word_class}
 use Rattle.kind_terms.specs.Words.{Word, is_among}
-use Rattle.tlb_syntax.specs.Tree.{ConstructorView, SchemaView}
+use Rattle.tlb_syntax.specs.Tree.{SchemaView}
 use Rattle.core_form.specs.Core.{Declaration, CoreSchema}
 use Rattle.schema_core.specs.Cores.{cores_after}
 use Rattle.schema_leads.specs.Leads.{of_type_named}

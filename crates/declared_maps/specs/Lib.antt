@@ -1,4 +1,6 @@
 pub mod Lines
 pub mod LineCores
+pub mod LineTexts
 pub mod Records
+pub mod MapRecords
 pub mod Laws

@@ -1,5 +1,5 @@
 //! What follows from the definitions alone. Each function states one law; its body is empty.
-ghost use Rattle.declared_maps.specs.Laws.{LinesAreThere, MapsAreDeclared};
+ghost use Rattle.declared_maps.specs.Laws.{LinesAreThere, MapsAreDeclared, MapsHaveRecords};
 
 /// The lines have their core forms in each schema that begins with them.
 pub fn lines_are_there()
@@ -9,4 +9,9 @@ pub fn lines_are_there()
 /// A content spells a map exactly where it spells a record of the declared lines with the required form of each label.
 pub fn maps_are_declared()
     ensures { MapsAreDeclared }
+{}
+
+/// The record that a content spells in place of a map is a function of the map.
+pub fn maps_have_records()
+    ensures { MapsHaveRecords }
 {}

@@ -45,7 +45,7 @@ fn is_written(rt: &impl Abort, alloc: Global, constructor: &Constructor, text: &
 fn the_lines_of_dictionaries_are_the_declared_ones(rt: HostRuntime) {
     let schema = schema(&rt, rt.alloc(), TEXT);
     assert!(rt; schema.constructors.len() == LINES.len());
-    for (constructor, line) in schema.constructors.iter().zip(LINES.iter()) {
+    for (constructor, line) in schema.constructors.as_slice().iter().zip(LINES.iter()) {
         assert!(rt; is_written(&rt, rt.alloc(), constructor, line), "at {line}");
     }
 }
