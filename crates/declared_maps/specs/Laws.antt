@@ -25,8 +25,8 @@ pub record IsGoodContent (s : Slice) : Type 0 where
   pub bits : AreBits s.bits
   pub refs : AllGood s.refs
 
--- A content spells a value at the type of maps exactly where it spells a record at the declared type in which each label
--- has the required form, and the value is the map of the record's pairs. Both take the same bits and references.
+-- A content spells a value at the type of maps exactly where it spells a record at the declared type in which each
+-- label has the required form, and the value is the map of the record's pairs. Both take the same bits and references.
 abbrev pub IsDeclaredAs : CoreSchema → Closed → Closed → (Plain → PlainPairs) → (Plain → List Label) → Type 0
 IsDeclaredAs schema maps records pairs labels =
     (v : Plain) (before : Slice) (outs : List ℕ) (after : Slice) → IsGoodContent before

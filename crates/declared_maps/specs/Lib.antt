@@ -4,3 +4,4 @@ pub mod LineTexts
 pub mod Records
 pub mod MapRecords
 pub mod Laws
+pub mod Examples

@@ -1,5 +1,6 @@
--- The lines of Bit, Unary, HmLabel, Hashmap, HashmapNode and HashmapE as ordinary declarations of a schema, in order. The
--- types of dictionaries are built in, so the lines declare Hm for Hashmap, HmNode for HashmapNode and HmE for HashmapE.
+-- The lines of Bit, Unary, HmLabel, Hashmap, HashmapNode and HashmapE as ordinary declarations of a schema, in order.
+-- The types of dictionaries are built in, so the lines declare Hm for Hashmap, HmNode for HashmapNode and HmE for
+-- HashmapE.
 --
 -- Source: the TON documentation on the TL-B language and on hashmaps; TVM whitepaper, section 3.3.
 use Rattle.std.specs.Prelude.{ℕ, ◌≡◌, List, [], ◌∷◌, true, false, Some, None, codes, slice_get}

@@ -1,5 +1,5 @@
--- The record of the lines that a map has, from its pairs alone: at each edge stand, as its label, the first bits that all
--- its keys share.
+-- The record of the lines that a map has, from its pairs alone. The label of each edge is the first bits that all its
+-- keys share.
 --
 -- Source: the TON documentation on hashmaps; TVM whitepaper, section 3.3.
 use Rattle.std.specs.Prelude.{ℕ, zero, suc, ◌-◌, false, List, [], ◌∷◌, length, drop, Some, codes, nat_eq, if◌then◌else◌}
@@ -83,8 +83,8 @@ after_bit n b (a_pair k v ps) = with_bit b (drop n k) v (after_bit n b ps)
 -- an edge with two parts, whose records this function gives by the bits of their keys
 abbrev pub fork_by : (ℕ → PlainPairs → Plain) → ℕ → List ℕ → PlainPairs → Plain
 fork_by part n l ps =
-    edge_record n l
-    (fork_record (part (n - length l - 1) (after_bit (length l) 0 ps)) (part (n - length l - 1) (after_bit (length l) 1 ps)))
+    let m = n - length l - 1 in
+    edge_record n l (fork_record (part m (after_bit (length l) 0 ps)) (part m (after_bit (length l) 1 ps)))
 
 abbrev pub edge_by : (ℕ → PlainPairs → Plain) → ℕ → PlainPairs → Plain
 edge_by part n no_pairs = absent
