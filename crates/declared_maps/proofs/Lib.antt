@@ -1,3 +1,4 @@
+mod Limits
 mod Found
 mod There
 mod Opened

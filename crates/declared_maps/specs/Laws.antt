@@ -10,11 +10,16 @@ use Rattle.core_form.specs.Core.{CoreSchema}
 use Rattle.core_form.specs.Closed.{Closed, ClosedArgs, nodes}
 use Rattle.core_form.specs.Closed as closed
 use Rattle.schema_leads.specs.Tags.{cores}
+use Rattle.accepted_schema.specs.Accepted.{IsAccepted}
 use Rattle.spelling.specs.Goals.{at_type}
 use Rattle.spelling.specs.Spells.{Spells}
 use Rattle.declared_maps.specs.Lines.{hm, hm_e, lines, AreOthers, HasLines}
 use Rattle.declared_maps.specs.MapRecords.{edge_of, root_of}
 use Rattle.declared_maps.specs.Records.{Label, AreRequired, edge_labels, root_labels, edge_pairs, root_pairs}
+
+-- a schema of the lines is accepted
+abbrev pub LinesAreAccepted : Type 0
+LinesAreAccepted = IsAccepted lines
 
 -- the lines have their core forms in each schema that begins with them and then declares other types
 abbrev pub LinesAreThere : Type 0

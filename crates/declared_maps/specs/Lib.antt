@@ -5,3 +5,4 @@ pub mod Records
 pub mod MapRecords
 pub mod Laws
 pub mod Examples
+pub mod Acceptance

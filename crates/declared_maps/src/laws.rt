@@ -1,5 +1,14 @@
-//! What follows from the definitions alone. Each function states one law; its body is empty.
-ghost use Rattle.declared_maps.specs.Laws.{LinesAreThere, MapsAreDeclared, MapsHaveRecords};
+//! What follows from the definitions alone. Each function states one law.
+ghost use Rattle.declared_maps.specs.Laws.{LinesAreAccepted, LinesAreThere, MapsAreDeclared, MapsHaveRecords};
+
+use accepted_schema::laws::accepted_without_cause;
+
+/// A schema of the lines is accepted.
+pub fn lines_are_accepted()
+    ensures { LinesAreAccepted }
+{
+    accepted_without_cause();
+}
 
 /// The lines have their core forms in each schema that begins with them.
 pub fn lines_are_there()
