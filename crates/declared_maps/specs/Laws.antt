@@ -9,8 +9,7 @@ use Rattle.typed_value.specs.Values.{Plain, PlainPairs, map_of}
 use Rattle.core_form.specs.Core.{CoreSchema}
 use Rattle.core_form.specs.Closed.{Closed, ClosedArgs, nodes}
 use Rattle.core_form.specs.Closed as closed
-use Rattle.schema_leads.specs.Tags.{cores}
-use Rattle.accepted_schema.specs.Accepted.{IsAccepted}
+use Rattle.accepted_schema.specs.Accepted.{IsAccepted, kept_cores}
 use Rattle.spelling.specs.Goals.{at_type}
 use Rattle.spelling.specs.Spells.{Spells}
 use Rattle.declared_maps.specs.Lines.{hm, hm_e, lines, AreOthers, HasLines}
@@ -21,9 +20,10 @@ use Rattle.declared_maps.specs.Records.{Label, AreRequired, edge_labels, root_la
 abbrev pub LinesAreAccepted : Type 0
 LinesAreAccepted = IsAccepted lines
 
--- the lines have their core forms in each schema that begins with them and then declares other types
+-- A schema that begins with the lines and then declares other types has the lines. It stands here by the core forms of
+-- its declarations without those that are passed over, by which values are spelled.
 abbrev pub LinesAreThere : Type 0
-LinesAreThere = (rest : SchemaView) → AreOthers rest → HasLines (cores (lines ++ rest))
+LinesAreThere = (rest : SchemaView) → AreOthers rest → HasLines (kept_cores (lines ++ rest))
 
 -- what is left of a good tree
 pub record IsGoodContent (s : Slice) : Type 0 where
