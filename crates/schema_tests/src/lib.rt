@@ -6,7 +6,11 @@ mod dictionary_lines;
 #[cfg(test)]
 mod judgements;
 #[cfg(test)]
+mod lead_rows;
+#[cfg(test)]
 mod records;
+#[cfg(test)]
+mod separations;
 #[cfg(test)]
 mod terms;
 #[cfg(test)]
