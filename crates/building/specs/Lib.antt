@@ -1,0 +1,7 @@
+pub mod Buildable
+pub mod Growing
+pub mod Laid
+pub mod MapTests
+pub mod PlainBuilder
+pub mod Planting
+pub mod Unfit
