@@ -1,0 +1,11 @@
+pub mod BuiltLaws
+pub mod CompleteLaws
+pub mod DictLaws
+pub mod Laws
+pub mod MapLaws
+pub mod MoveLaws
+pub mod OneTreeLaws
+pub mod PlantLaws
+pub mod RangeLaws
+pub mod RootLaws
+pub mod ShapeLaws
