@@ -1,4 +1,5 @@
 pub mod Buildable
+pub mod Examples
 pub mod Growing
 pub mod Laid
 pub mod MapTests
