@@ -8,8 +8,8 @@ use Rattle.typed_value.specs.Values.{Plain, Plains, PlainPairs, number, bit_stri
 use Rattle.core_form.specs.Core.{Declaration, CoreSchema}
 use Rattle.spelling.specs.Acceptable.{IsAcceptable}
 
--- An acceptable schema in which two constructors of one type are shown by different names, and whose tags are bits. Each
--- is a rule of kinds or of the syntax tree's ranges.
+-- An acceptable schema in which two constructors of one type are shown by different names, and whose tags are bits.
+-- Each is a rule of kinds or of the syntax tree's ranges.
 pub record IsBuildable (schema : CoreSchema) : Type 0 where
   pub acceptable : IsAcceptable schema
   pub names : (i j : ℕ) (c e : Declaration) → slice_get schema i ≡ Some c → slice_get schema j ≡ Some e

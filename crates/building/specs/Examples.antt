@@ -1,6 +1,6 @@
--- Worked buildings, computed: nearly each row of the table of causes, with its place. The text of each schema stands above
--- its core form.
-use Rattle.std.specs.Prelude.{◌≡◌, ℕ, zero, suc, List, [], ◌∷◌, ◌++◌, replicate, false, true, Some, None, Ok, Err, codes, refl}
+-- Worked buildings, computed: nearly each row of the table of causes, with its place. The text of each schema stands
+-- above its core form.
+use Rattle.std.specs.Prelude.{◌≡◌, ℕ, zero, suc, List, [], ◌∷◌, ◌++◌, replicate, false, true, Some, None, Result, Ok, Err, codes, refl}
 use Rattle.bit_slice.specs.Bits.{spelled, bit_length_within}
 use Rattle.cell_nodes.specs.Equations.{unfolded-tree_of}
 use Rattle.cell_nodes.specs.declared.tree.Kind.TheVariants.{Ordinary}
@@ -16,11 +16,11 @@ use Rattle.core_form.specs.Closed as closed
 use Rattle.field_path.specs.declared.part.Part.{Part}
 use Rattle.field_path.specs.declared.part.Part.TheVariants as part
 use Rattle.spelling.specs.Goals.{at_type}
-use Rattle.spelling.specs.Places.{Spot, constructor_of, at_root, stuck}
+use Rattle.spelling.specs.Places.{Spot, Place, constructor_of, at_root, stuck}
 use Rattle.spelling.specs.Slices.{only_bits, nothing}
 use Rattle.spelling.specs.declared.Cause.TheVariants as why
 use Rattle.building.specs.Growing.{Grown, empty}
-use Rattle.building.specs.PlainBuilder.{making, build, build_within}
+use Rattle.building.specs.PlainBuilder.{Made, making, build, build_within}
 use Rattle.building.specs.Planting.{planting}
 
 -- ---- shorthands
@@ -72,6 +72,10 @@ in_field x f = in_part x (part.Named f)
 abbrev held : List ℕ → Grown
 held bits = record { held = only_bits bits; shut = false }
 
+-- a value in mode Whole, in a new content
+abbrev makes : CoreSchema → closed.Closed → Plain → Result Made Place
+makes schema t v = making 9 99 Whole schema at_root (at_type t) 0 v empty
+
 -- ---- conditions, and the names of fields
 
 -- c$_ f:(## 2) v:f?uint8 w:f.1?uint8 = C;
@@ -84,62 +88,67 @@ c_schema =
     ∷ []
     ) ∷ []
 
+abbrev c_type : closed.Closed
+c_type = type_named (codes "C")
+
 abbrev c_names : List Word
 c_names = codes "f" ∷ codes "v" ∷ codes "w" ∷ []
 
 -- c{f:2,v:1,w:2}
-pub conditions_hold : making 9 99 Whole c_schema at_root (at_type (type_named (codes "C"))) 0 (record_as (codes "c") c_names (n_of 2 ∷ n_of 1 ∷ n_of 2 ∷ [])) empty
+pub conditions_hold : makes c_schema c_type (record_as (codes "c") c_names (n_of 2 ∷ n_of 1 ∷ n_of 2 ∷ []))
     ≡ Ok ([], held (1 ∷ 0 ∷ byte 1 ++ byte 2))
 unfolding spelled bit_length_within making
 conditions_hold = refl
 
 -- c{f:1,v:1,w:~}
-pub condition_fails : making 9 99 Whole c_schema at_root (at_type (type_named (codes "C"))) 0 (record_as (codes "c") c_names (n_of 1 ∷ n_of 1 ∷ absent ∷ [])) empty
+pub condition_fails : makes c_schema c_type (record_as (codes "c") c_names (n_of 1 ∷ n_of 1 ∷ absent ∷ []))
     ≡ Ok ([], held (0 ∷ 1 ∷ byte 1))
 unfolding spelled bit_length_within making
 condition_fails = refl
 
 -- c{f:2,v:1,w:~} is C.c.w Shape
-pub absent_value : build Whole c_schema (type_named (codes "C")) (record_as (codes "c") c_names (n_of 2 ∷ n_of 1 ∷ absent ∷ []))
+pub absent_value : build Whole c_schema c_type (record_as (codes "c") c_names (n_of 2 ∷ n_of 1 ∷ absent ∷ []))
     ≡ Err (stuck (in_field (codes "C") (codes "w")) why.Shape)
 unfolding spelled bit_length_within making
 absent_value = refl
 
 -- c{f:4,..} is C.c.f OutOfRange
-pub too_wide : build Whole c_schema (type_named (codes "C")) (record_as (codes "c") c_names (n_of 4 ∷ n_of 1 ∷ absent ∷ []))
+pub too_wide : build Whole c_schema c_type (record_as (codes "c") c_names (n_of 4 ∷ n_of 1 ∷ absent ∷ []))
     ≡ Err (stuck (in_field (codes "C") (codes "f")) why.OutOfRange)
 unfolding spelled bit_length_within making
 too_wide = refl
 
 -- a negative number of naturals is OutOfRange, the number that is 0 and negative is Shape
-pub below_zero : build Whole c_schema (type_named (codes "C")) (record_as (codes "c") c_names (less 1 ∷ n_of 1 ∷ absent ∷ []))
+pub below_zero : build Whole c_schema c_type (record_as (codes "c") c_names (less 1 ∷ n_of 1 ∷ absent ∷ []))
     ≡ Err (stuck (in_field (codes "C") (codes "f")) why.OutOfRange)
 unfolding spelled bit_length_within making
 below_zero = refl
 
-pub minus_zero : build Whole c_schema (type_named (codes "C")) (record_as (codes "c") c_names (less 0 ∷ n_of 1 ∷ absent ∷ []))
+pub minus_zero : build Whole c_schema c_type (record_as (codes "c") c_names (less 0 ∷ n_of 1 ∷ absent ∷ []))
     ≡ Err (stuck (in_field (codes "C") (codes "f")) why.Shape)
 unfolding spelled bit_length_within making
 minus_zero = refl
 
--- the names of fields are judged after the constructor is found: d{x:1} is NoConstructor, c{x:1} Shape, both at the root
-pub no_constructor : build Whole c_schema (type_named (codes "C")) (record_as (codes "d") (codes "x" ∷ []) (n_of 1 ∷ []))
+-- the names of fields are judged after the constructor is found: at the root d{x:1} is NoConstructor, c{x:1} Shape
+pub no_constructor : build Whole c_schema c_type (record_as (codes "d") (codes "x" ∷ []) (n_of 1 ∷ []))
     ≡ Err (stuck at_root why.NoConstructor)
 unfolding spelled bit_length_within making
 no_constructor = refl
 
-pub other_fields : build Whole c_schema (type_named (codes "C")) (record_as (codes "c") (codes "x" ∷ []) (n_of 1 ∷ []))
+pub other_fields : build Whole c_schema c_type (record_as (codes "c") (codes "x" ∷ []) (n_of 1 ∷ []))
     ≡ Err (stuck at_root why.Shape)
 unfolding spelled bit_length_within making
 other_fields = refl
 
 -- a value has a level, and is a part
-pub no_level : build_within 1 99 99 Whole c_schema (type_named (codes "C")) (record_as (codes "c") c_names (n_of 1 ∷ n_of 1 ∷ absent ∷ []))
+pub no_level :
+    build_within 1 99 99 Whole c_schema c_type
+    (record_as (codes "c") c_names (n_of 1 ∷ n_of 1 ∷ absent ∷ []))
     ≡ Err (stuck (in_field (codes "C") (codes "f")) why.Nesting)
 unfolding spelled bit_length_within making
 no_level = refl
 
-pub no_part : build_within 9 2 99 Whole c_schema (type_named (codes "C")) (record_as (codes "c") c_names (n_of 1 ∷ n_of 1 ∷ absent ∷ []))
+pub no_part : build_within 9 2 99 Whole c_schema c_type (record_as (codes "c") c_names (n_of 1 ∷ n_of 1 ∷ absent ∷ []))
     ≡ Err (stuck (in_field (codes "C") (codes "v")) why.Bulk)
 unfolding spelled bit_length_within making
 no_part = refl
@@ -159,7 +168,9 @@ o_schema =
 abbrev o_names : List Word
 o_names = codes "a" ∷ codes "b" ∷ []
 
-pub overflow : build Whole o_schema (type_named (codes "O")) (record_as (codes "o") o_names (n_of 4294967295 ∷ n_of 1 ∷ []))
+pub overflow :
+    build Whole o_schema (type_named (codes "O"))
+    (record_as (codes "o") o_names (n_of 4294967295 ∷ n_of 1 ∷ []))
     ≡ Err (stuck (in_part (codes "O") (part.Check 3)) why.Overflow)
 unfolding spelled bit_length_within making
 overflow = refl
@@ -190,12 +201,14 @@ t_schema =
 abbrev t_names : List Word
 t_names = codes "n" ∷ codes "l" ∷ codes "x" ∷ []
 
-pub no_solution : build Whole t_schema (type_named (codes "T")) (record_as (codes "t") t_names (n_of 3 ∷ n_of 5 ∷ n_of 0 ∷ []))
+pub no_solution :
+    build Whole t_schema (type_named (codes "T"))
+    (record_as (codes "t") t_names (n_of 3 ∷ n_of 5 ∷ n_of 0 ∷ []))
     ≡ Err (stuck (in_part (codes "T") (part.Check 4)) why.NoSolution)
 unfolding spelled bit_length_within making
 no_solution = refl
 
-pub solved : making 9 99 Whole t_schema at_root (at_type (type_named (codes "T"))) 0 (record_as (codes "t") t_names (n_of 6 ∷ n_of 5 ∷ n_of 1 ∷ [])) empty
+pub solved : makes t_schema (type_named (codes "T")) (record_as (codes "t") t_names (n_of 6 ∷ n_of 5 ∷ n_of 1 ∷ []))
     ≡ Ok ([], held (spelled 4 6 ++ spelled 4 5 ++ 1 ∷ []))
 unfolding spelled bit_length_within making
 solved = refl
@@ -217,9 +230,12 @@ too_few = refl
 
 -- r$_ x:Any y:uint8 = R;
 abbrev r_schema : CoreSchema
-r_schema = alone (codes "R") (codes "r") 0 (plain (codes "x") core.whole ∷ plain (codes "y") (core.uint (num.lit 8)) ∷ []) ∷ []
+r_schema =
+    alone (codes "R") (codes "r") 0 (plain (codes "x") core.whole ∷ plain (codes "y") (core.uint (num.lit 8)) ∷ []) ∷ []
 
-pub after_rest : build Whole r_schema (type_named (codes "R")) (record_as (codes "r") (codes "x" ∷ codes "y" ∷ []) (rest (record { bits = []; refs = [] }) ∷ n_of 1 ∷ []))
+pub after_rest :
+    build Whole r_schema (type_named (codes "R"))
+    (record_as (codes "r") (codes "x" ∷ codes "y" ∷ []) (rest (record { bits = []; refs = [] }) ∷ n_of 1 ∷ []))
     ≡ Err (stuck (in_field (codes "R") (codes "y")) why.AfterRest)
 unfolding spelled bit_length_within making
 after_rest = refl
@@ -234,13 +250,17 @@ f_schema =
     ∷ []
     ) ∷ []
 
-pub full : build Whole f_schema (type_named (codes "F")) (record_as (codes "f") (codes "x" ∷ codes "y" ∷ codes "z" ∷ []) (bit_string (replicate 1023 1) ∷ n_of 0 ∷ n_of 1 ∷ []))
+pub full :
+    build Whole f_schema (type_named (codes "F"))
+    (record_as (codes "f") (codes "x" ∷ codes "y" ∷ codes "z" ∷ []) (bit_string (replicate 1023 1) ∷ n_of 0 ∷ n_of 1 ∷ []))
     ≡ Err (stuck (in_field (codes "F") (codes "z")) why.Full)
 unfolding spelled bit_length_within making
 full = refl
 
 -- a bit string of another length
-pub short_string : build Whole f_schema (type_named (codes "F")) (record_as (codes "f") (codes "x" ∷ codes "y" ∷ codes "z" ∷ []) (bit_string (1 ∷ []) ∷ n_of 0 ∷ n_of 1 ∷ []))
+pub short_string :
+    build Whole f_schema (type_named (codes "F"))
+    (record_as (codes "f") (codes "x" ∷ codes "y" ∷ codes "z" ∷ []) (bit_string (1 ∷ []) ∷ n_of 0 ∷ n_of 1 ∷ []))
     ≡ Err (stuck (in_field (codes "F") (codes "x")) why.Shape)
 unfolding spelled bit_length_within making
 short_string = refl
@@ -297,19 +317,21 @@ unfolding spelled bit_length_within
 one_pair = refl
 
 -- one pair in place: its label stands before its value
-pub in_place : making 9 99 Whole [] at_root (at_type (closed.dict 8 (closed.uint 8))) 0 (map_of tt (a_pair (byte 1) (n_of 5) no_pairs) []) empty
+pub in_place : makes [] (closed.dict 8 (closed.uint 8)) (map_of tt (a_pair (byte 1) (n_of 5) no_pairs) [])
     ≡ Ok ([], held (1 ∷ 0 ∷ spelled 4 8 ++ byte 1 ++ byte 5))
 unfolding spelled bit_length_within making
 in_place = refl
 
 -- a rest in the one value of a map in place ends the cell, and one in a cell below doesn't
-pub rest_in_place : making 9 99 Whole [] at_root (at_type (closed.dict 8 closed.whole)) 0 (map_of tt (a_pair (byte 1) (rest (record { bits = []; refs = [] })) no_pairs) []) empty
+pub rest_in_place :
+    makes [] (closed.dict 8 closed.whole)
+    (map_of tt (a_pair (byte 1) (rest (record { bits = []; refs = [] })) no_pairs) [])
     ≡ Ok ([], record { held = only_bits (1 ∷ 0 ∷ spelled 4 8 ++ byte 1); shut = true })
 unfolding spelled bit_length_within making
 rest_in_place = refl
 
 -- the empty map is one of HashmapE alone
-pub empty_map : making 9 99 Whole [] at_root (at_type (closed.dict_e 8 (closed.uint 8))) 0 (map_of tt no_pairs []) empty
+pub empty_map : makes [] (closed.dict_e 8 (closed.uint 8)) (map_of tt no_pairs [])
     ≡ Ok ([], held (0 ∷ []))
 unfolding spelled bit_length_within making
 empty_map = refl
@@ -319,7 +341,9 @@ unfolding spelled bit_length_within making
 empty_edge = refl
 
 -- keys out of order, of another width, and a hidden part in mode Whole; all before the values
-pub out_of_order : build Whole [] (closed.dict 8 (closed.uint 8)) (map_of tt (a_pair (byte 2) (n_of 256) (a_pair (byte 1) (n_of 5) no_pairs)) [])
+pub out_of_order :
+    build Whole [] (closed.dict 8 (closed.uint 8))
+    (map_of tt (a_pair (byte 2) (n_of 256) (a_pair (byte 1) (n_of 5) no_pairs)) [])
     ≡ Err (stuck at_root why.Shape)
 unfolding spelled bit_length_within making
 out_of_order = refl
@@ -329,13 +353,17 @@ pub other_width : build Whole [] (closed.dict_e 8 (closed.uint 8)) (map_of tt (a
 unfolding spelled bit_length_within making
 other_width = refl
 
-pub hidden_entry : build Whole [] (closed.dict_e 8 (closed.uint 8)) (map_of tt no_pairs (([], record { hash = a_hash; depth = 0 }) ∷ []))
+pub hidden_entry :
+    build Whole [] (closed.dict_e 8 (closed.uint 8))
+    (map_of tt no_pairs (([], record { hash = a_hash; depth = 0 }) ∷ []))
     ≡ Err (stuck at_root why.Shape)
 unfolding spelled bit_length_within making
 hidden_entry = refl
 
 -- a hidden part that is no child of a fork
-pub no_place : build Partial [] (closed.dict_e 2 (closed.uint 8)) (map_of tt (a_pair (0 ∷ 0 ∷ []) (n_of 1) no_pairs) ((1 ∷ 0 ∷ [], record { hash = a_hash; depth = 0 }) ∷ []))
+pub no_place :
+    build Partial [] (closed.dict_e 2 (closed.uint 8))
+    (map_of tt (a_pair (0 ∷ 0 ∷ []) (n_of 1) no_pairs) ((1 ∷ 0 ∷ [], record { hash = a_hash; depth = 0 }) ∷ []))
     ≡ Err (stuck at_root why.Shape)
 unfolding spelled bit_length_within making
 no_place = refl
@@ -355,12 +383,16 @@ unfolding spelled bit_length_within making
 edge_full = refl
 
 -- the left part of a fork comes before the right one: a hidden part that is too deep, and then an edge that is too long
-pub left_first : planting 8 ((0 ∷ [], hidden (record { hash = a_hash; depth = 1025 })) ∷ (byte 255, leaf (only_bits (replicate 1020 1))) ∷ [])
+pub left_first :
+    planting 8
+    ((0 ∷ [], hidden (record { hash = a_hash; depth = 1025 })) ∷ (byte 255, leaf (only_bits (replicate 1020 1))) ∷ [])
     ≡ Err excess.deep
 unfolding spelled bit_length_within
 left_first = refl
 
-pub right_edge : planting 8 ((0 ∷ [], hidden (record { hash = a_hash; depth = 0 })) ∷ (byte 255, leaf (only_bits (replicate 1020 1))) ∷ [])
+pub right_edge :
+    planting 8
+    ((0 ∷ [], hidden (record { hash = a_hash; depth = 0 })) ∷ (byte 255, leaf (only_bits (replicate 1020 1))) ∷ [])
     ≡ Err (excess.full (byte 255))
 unfolding spelled bit_length_within
 right_edge = refl

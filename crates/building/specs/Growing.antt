@@ -34,8 +34,8 @@ abbrev pub some_deep : List Tree → Bool
 some_deep [] = false
 some_deep (c ∷ cs) = is_deep c || some_deep cs
 
--- One item more, of which it is said whether a reference in it is too deep, and whether nothing may follow it. AfterRest
--- comes first, then Full, then TooDeep.
+-- One item more, of which it is said whether a reference in it is too deep, and whether nothing may follow it.
+-- AfterRest comes first, then Full, then TooDeep.
 abbrev pub lay : Slice → Bool → Bool → Grown → Result Grown Cause
 lay x deep last b =
     if b.shut && not (is_nothing x) then Err AfterRest

@@ -1,8 +1,10 @@
 -- What was put for a part that fits: it spells the part, within the limits of a cell; and whether a rest ends it.
-use Rattle.std.specs.Prelude.{ℕ, ◌+◌, ◌≡◌, ◌≤◌, Bool, true, false, ◌||◌, List, [], Some, None}
+use Rattle.std.specs.Prelude.{ℕ, ◌+◌, ◌≡◌, ◌≤◌, Bool, true, false, ◌||◌, List, [], ◌∷◌, Some, None}
 use Rattle.std.proofs.Common.{inl}
 use Rattle.bit_slice.specs.Bits.{AreBits}
 use Rattle.cell_nodes.specs.declared.tree.Mode.{Mode}
+use Rattle.cell_nodes.specs.declared.tree.Tree.{Tree}
+use Rattle.hashmap_tree.specs.Dict.{unseen}
 use Rattle.hashmap_tree.specs.Entries.{Slice}
 use Rattle.hashmap_tree.specs.Exceeds.{IsWithin}
 use Rattle.typed_value.specs.Values.{Plain, Plains, number, bit_string, record_of, absent, list_of, ref_to, unknown, map_of, raw, rest, no_vals, a_val, no_pairs, a_pair, levels, parts}
@@ -44,8 +46,8 @@ next_field (an_item (field x slot c t) is) M Ms scope s end after f = record {
 }
 
 abbrev mutual
-  pub ends_shape : (mode : Mode) (schema : CoreSchema) (v : Plain) (c : Shape) (s : Slice) (outs : List ℕ) (after : Slice)
-      → SpellsShape mode schema v c s outs after → Bool
+  pub ends_shape : (mode : Mode) (schema : CoreSchema) (v : Plain) (c : Shape) (s : Slice) (outs : List ℕ)
+      (after : Slice) → SpellsShape mode schema v c s outs after → Bool
   ends_shape mode schema (number negative size) c s outs after d = false
   ends_shape mode schema (bit_string bits) c s outs after d = false
   ends_shape mode schema (record_of (Some name) names vs) (typed (closed.named type args)) s outs after d =
@@ -92,18 +94,24 @@ pub record Grows (b : Grown) (x : Slice) (last : Bool) (g : Grown) : Type 0 wher
   pub shut : g.shut ≡ (b.shut || last)
   pub free : b.shut ≡ true → x ≡ nothing
 
--- bits and references that a cell may hold; at a cell of any kind nothing is said of what is above it
-abbrev pub IsWithinAt : Goal → Slice → Type 0
-IsWithinAt (at_type t) s = IsWithin s × AreBits s.bits
-IsWithinAt (at_field e t scope) s = IsWithin s × AreBits s.bits
-IsWithinAt at_cell s = Unit {0}
+-- none of these cells is hidden
+abbrev pub AreSeen : Mode → List Tree → Type 0
+AreSeen mode [] = Unit {0}
+AreSeen mode (c ∷ cs) = (unseen mode c ≡ None) × AreSeen mode cs
 
--- what spells the part stands after what was there, at no more levels than are left and with no more parts than may begin
+-- bits and references that a cell may hold; of a cell of any kind only that it isn't hidden
+abbrev pub IsWithinAt : Mode → Goal → Slice → Type 0
+IsWithinAt mode (at_type t) s = IsWithin s × AreBits s.bits
+IsWithinAt mode (at_field e t scope) s = IsWithin s × AreBits s.bits
+IsWithinAt mode at_cell s = AreSeen mode s.refs
+
+-- what spells the part stands after what was there, at no more levels than are left and with no more parts than may
+-- begin
 pub record Laid (n most : ℕ) (mode : Mode) (schema : CoreSchema) (g : Goal) (q : ℕ) (v : Plain) (b : Grown)
     (outs : List ℕ) (x : Grown) : Type 0 where
   pub part : Slice
   pub spelled : Spells mode schema v g part outs nothing
   pub grows : Grows b part (ends mode schema v g part outs nothing spelled) x
-  pub within_limits : IsWithinAt g x.held
+  pub within_limits : IsWithinAt mode g x.held
   pub deep : levels v ≤ n
   pub large : q + parts v ≤ most

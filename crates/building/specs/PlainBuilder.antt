@@ -215,7 +215,8 @@ count (a_val v vs) = suc (count vs)
 
 -- ---- records
 
--- What one item gives: what the variables stand for after it, the parts begun, the values that are due, and the content.
+-- What one item gives: what the variables stand for after it, the parts begun, the values that are due, and the
+-- content.
 pub record Step : Type 0 where
   pub scope : Scope
   pub begun : ℕ

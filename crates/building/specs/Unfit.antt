@@ -328,7 +328,8 @@ UnfitWithin (suc n) most mode schema h g q v b p =
 -- ---- the root
 
 -- the reading of a root cell within limits
-pub record ReadsWithin (n most : ℕ) (mode : Mode) (schema : CoreSchema) (t : Closed) (c : Tree) (v : Plain) : Type 0 where
+pub record ReadsWithin (n most : ℕ) (mode : Mode) (schema : CoreSchema) (t : Closed) (c : Tree) (v : Plain)
+    : Type 0 where
   pub root : IsRootOf mode schema t c v
   pub deep : levels v ≤ n
   pub large : parts v ≤ most
