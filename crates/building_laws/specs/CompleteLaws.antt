@@ -36,11 +36,11 @@ use Rattle.spelling_laws.specs.SolvingLaws.{sought_complete}
 use Rattle.spelling_laws.specs.StepLaws.{bind_on, known_on, reported_on, when_true, when_false, both_on}
 use Rattle.building.specs.Buildable.{IsBuildable, IsHash, AreHashes, InRange, AllInRange, PairsInRange}
 use Rattle.building.specs.Growing.{Grown, empty, join, is_deep, some_deep}
-use Rattle.building.specs.Laid.{ends, ends_shape, ends_fields, ends_items, next_field}
+use Rattle.building.specs.Laid.{AreSeen, ends, ends_shape, ends_fields, ends_items, next_field}
 use Rattle.building.specs.PlainBuilder.{Made, Maker, put, put_alone, put_bits, make_natural, is_in_range, make_integer, make_number, make_string, first_of, finished, put_ref, make_child, make_hidden, make_cell, number_at, string_at, record_at, absent_at, list_at, ref_at, unknown_at, map_at, raw_at, rest_at, turn, make_items, count, Step, step, make_fields, same_words, has_fields, candidate, choose, make_inside, make_declared, make_inner, make_shape, make_goal, making, grew}
 use Rattle.building_laws.specs.MoveLaws.{then_all, then_whole, join_then, IsHeld, good_held, Stands, Reaches, made, or_assoc, or_false, not_deep, none_deep, put_on, alone_on, no_end, bits_on, ref_below, took_same}
 use Rattle.building_laws.specs.RangeLaws.{in_range_on, hidden_is}
-use Rattle.building_laws.specs.DictLaws.{NoneHidden, HeldAt, Done, AllDone, ByDone, dict_complete, dict_e_complete}
+use Rattle.building_laws.specs.DictLaws.{HeldAt, Done, AllDone, ByDone, dict_complete, dict_e_complete}
 use Rattle.building_laws.specs.ShapeLaws.{Holding}
 
 -- ---- numbers and bit strings
@@ -160,14 +160,14 @@ fields_count mode schema (an_item (field x slot c t) is) no_vals scope s end r f
 fields_count mode schema (an_item (field x slot c t) is) (a_val v vs) scope s end r f =
     ap suc (fields_count mode schema is vs (bind (sets slot t) f.0 scope) f.1 end r f.3)
 
-check_ends : (mode : Mode) (schema : CoreSchema) (vs : Plains) (is : Items) (a b : _) (op : _) (i : ℕ) (scope : Scope)
+pub check_ends : (mode : Mode) (schema : CoreSchema) (vs : Plains) (is : Items) (a b : _) (op : _) (i : ℕ) (scope : Scope)
     (s : Slice) (end : Scope) (r : Slice) (f : Fields (an_item (check a op b i) is) (Each mode schema vs) scope s end r)
     → ends_fields mode schema vs (an_item (check a op b i) is) scope s end r f
     ≡ ends_fields mode schema vs is scope s end r f.5
 check_ends mode schema no_vals is a b op i scope s end r f = refl
 check_ends mode schema (a_val v vs) is a b op i scope s end r f = refl
 
-solve_ends : (mode : Mode) (schema : CoreSchema) (vs : Plains) (is : Items) (a b : _) (v i : ℕ) (scope : Scope)
+pub solve_ends : (mode : Mode) (schema : CoreSchema) (vs : Plains) (is : Items) (a b : _) (v i : ℕ) (scope : Scope)
     (s : Slice) (end : Scope) (r : Slice) (f : Fields (an_item (solve v a b i) is) (Each mode schema vs) scope s end r)
     → ends_fields mode schema vs (an_item (solve v a b i) is) scope s end r f
     ≡ ends_fields mode schema vs is (with_number v f.0 scope) s end r f.2
@@ -250,7 +250,7 @@ candidate_on type name args c scope e f k =
     (both_on (bytes_eq c.of_type type) (bytes_eq c.shown name) ((bytes_eq-Decides c.of_type type).1 e) ((bytes_eq-Decides c.shown name).1 f)) ∙ k
 
 -- a candidate is of the type and of the name
-candidate_is : (type name : Word) (args : ClosedArgs) (c : Declaration) (scope : Scope)
+pub candidate_is : (type name : Word) (args : ClosedArgs) (c : Declaration) (scope : Scope)
     → candidate type name args c ≡ Some scope → (c.of_type ≡ type) × (c.shown ≡ name)
 candidate_is type name args c scope e = go (bytes_eq c.of_type type) refl (bytes_eq c.shown name) refl e
   where
@@ -358,7 +358,7 @@ absent_at_on h left_out b w s outs r st e =
     (b, ap (λ z. Ok (made z b)) (sym e.0), subst S (sym e.1) st, or_false b.shut)
 absent_at_on h _ b w s outs r st e = absurd e
 
-none_at : (mode : Mode) (xs : List Tree) (d : Tree) (zs : List Tree) → NoneHidden mode (xs ++ d ∷ zs) → unseen mode d ≡ None
+none_at : (mode : Mode) (xs : List Tree) (d : Tree) (zs : List Tree) → AreSeen mode (xs ++ d ∷ zs) → unseen mode d ≡ None
 none_at mode [] d zs n = n.0
 none_at mode (x ∷ xs) d zs n = none_at mode xs d zs n.1
 
@@ -367,7 +367,7 @@ pub raw_at_on : (mode : Mode) (h : Spot) (c : Shape) (d : Tree) (b : Grown) (w s
     → Reaches w r false b (λ g. Ok (made outs g)) (raw_at mode h c d b)
 raw_at_on mode h as_cell d b w s outs r held st e =
     let g : Grown = record { held = join b.held (only_ref d); shut = b.shut } in
-    let N : List Tree → Type 0 = NoneHidden mode in
+    let N : List Tree → Type 0 = AreSeen mode in
     let seen : unseen mode d ≡ None = none_at mode b.held.refs d r.refs (subst N (st.at.refs ∙ ap (λ z. b.held.refs ++ z) e.1.refs) held) in (
       g,
       ap (λ o. make_cell h o d b) seen ∙ ap (λ z. Ok (made z g)) (sym e.0),

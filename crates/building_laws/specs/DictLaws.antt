@@ -35,7 +35,7 @@ use Rattle.spelling_laws.specs.ProperLaws.{Proper}
 use Rattle.spelling_laws.specs.StepLaws.{bind_on, when_true, when_false, both_on}
 use Rattle.building.specs.Buildable.{IsHash, AreHashes}
 use Rattle.building.specs.Growing.{Grown, empty, is_deep}
-use Rattle.building.specs.Laid.{ends, ends_shape}
+use Rattle.building.specs.Laid.{AreSeen, ends, ends_shape}
 use Rattle.building.specs.MapTests.{keys_of, outline, in_order, are_placed, is_hidden_alone, is_none, admits, has_some, fits_edge, fits_root}
 use Rattle.building.specs.Planting.{Top, leaf_top, fork_top, content_of, has_deep, edge_of, labeled, tops, planting}
 use Rattle.building.specs.PlainBuilder.{Made, Maker, put_alone, put_bits, Leaves, make_leaves, contents_of, entries_of, is_last, planted, put_edge, plant_here, make_dict, put_root, plant_root, make_dict_e}
@@ -44,16 +44,11 @@ use Rattle.building_laws.specs.MoveLaws.{slice_eta, then_all, join_then, IsHeld,
 use Rattle.building_laws.specs.PlantLaws.{bind_to, label_is, label_more, label_some, AreHashed, hashed_on, hashed_zeros, hashed_ones, tree_planted, branch_planted, fork_on, leaf_along, fork_along, not_hidden, good_both, planted_edge, edge_on}
 use Rattle.building_laws.specs.RangeLaws.{hidden_is}
 
--- none of these cells is hidden
-abbrev pub NoneHidden : Mode → List Tree → Type 0
-NoneHidden mode [] = Unit {0}
-NoneHidden mode (c ∷ cs) = (unseen mode c ≡ None) × NoneHidden mode cs
-
 -- the limits of the whole; at a cell of any kind only that it isn't hidden
 abbrev pub HeldAt : Mode → Goal → Slice → Type 0
 HeldAt mode (at_type t) w = IsHeld w
 HeldAt mode (at_field e t scope) w = IsHeld w
-HeldAt mode at_cell w = NoneHidden mode w.refs
+HeldAt mode at_cell w = AreSeen mode w.refs
 
 -- a value is built where it is spelled so, within the limits of the whole
 abbrev pub Done : ℕ → Mode → CoreSchema → Maker → Plain → Type 0
@@ -274,7 +269,7 @@ in_place_complete most mode req schema R k v done h n t q b w s middle outs r le
       a.3 ∙ ap (λ z. b.shut || z) p.3,
     )
 
-not_last : (xs : Leaves) (us : Unknowns) → ((e : List ℕ × Part) → entries_of xs us ≡ e ∷ [] → ⊥) → is_last xs us ≡ false
+pub not_last : (xs : Leaves) (us : Unknowns) → ((e : List ℕ × Part) → entries_of xs us ≡ e ∷ [] → ⊥) → is_last xs us ≡ false
 not_last [] us f = refl
 not_last (x ∷ y ∷ xs) us f = refl
 not_last (x ∷ []) (u ∷ us) f = refl
@@ -341,7 +336,7 @@ empty_complete most mode schema R no_pairs us h n t q b w s r held st e f there 
     fits Partial = refl
     fits Lax = refl
 
-plant_root_open : (h : Spot) (n : ℕ) (es : Entries) (b : Grown) → Some_entry es
+pub plant_root_open : (h : Spot) (n : ℕ) (es : Entries) (b : Grown) → Some_entry es
     → ((x : Hidden) (fs : Entries) → es ≡ ([], hidden x) ∷ fs → ⊥)
     → plant_root h n es b ≡ (planted h (planting n es) >>= λ s. put_root h (cell_of s) (is_deep (cell_of s)) b)
 plant_root_open h n [] b s f = let e = s.2 in cc

@@ -3,12 +3,12 @@ use Rattle.std.proofs.Common.{◌≡◌, ◌<◌, ◌≤◌, ℕ, ◌+◌, ◌*�
 use Rattle.std.specs.Prelude.{ℤ, pos, negsuc, map}
 use Rattle.std.specs.List.{flat_map}
 use Rattle.std.proofs.lemmas.Int.{ints}
-use Rattle.std.proofs.lemmas.Bool.{lt-ltb, le-leb}
+use Rattle.std.proofs.lemmas.Bool.{lt-ltb, le-leb, ltb-true, leb-true}
 use Rattle.bit_slice.specs.Bits.{AreBits, InSignedRange, spelled}
 use Rattle.bit_slice.specs.BitLists.{AreBits-append, AreBits-spelled}
 use Rattle.cell_hash.specs.declared.ChildMark.{ChildMark}
 use Rattle.cell_nodes.specs.Constructed.{bits_of, hash_bits, depth_bits, pruned_bits, pruned_of}
-use Rattle.cell_nodes.specs.ConstructedLaws.{one-pair, length-pruned, pruned-layout, pruned-shallow, depth-stored}
+use Rattle.cell_nodes.specs.ConstructedLaws.{one-pair, length-pruned, pruned-layout, pruned-shallow, depth-stored, depth-own}
 use Rattle.cell_nodes.specs.Good.{IsGood, none}
 use Rattle.cell_nodes.specs.GoodParts.{good-tree_of}
 use Rattle.cell_nodes.specs.Levels.{set_bits}
@@ -29,6 +29,12 @@ use Rattle.building.specs.PlainBuilder.{is_in_range}
 pub in_range_on : (width : ℕ) (z : ℤ) → InSignedRange width z → is_in_range width z ≡ true
 in_range_on width (pos n) r = let u = r.1 in lt-ltb (2 * n) (2 ^ width) (omega (arith, ints))
 in_range_on width (negsuc n) r = let l = r.0 in le-leb (2 * (n + 1)) (2 ^ width) (omega (arith, ints))
+
+pub in_range_is : (width : ℕ) (z : ℤ) → is_in_range width z ≡ true → InSignedRange width z
+in_range_is width (pos n) e =
+    let l : 2 * n < 2 ^ width = ltb-true (2 * n) (2 ^ width) e in (omega (arith, ints), omega (arith, ints))
+in_range_is width (negsuc n) e =
+    let l : 2 * (n + 1) ≤ 2 ^ width = leb-true (2 * (n + 1)) (2 ^ width) e in (omega (arith, ints), omega (arith, ints))
 
 -- ---- a pruned branch of one pair
 
@@ -69,6 +75,18 @@ pruned-depth x h low =
 
 pub hidden-depth : (x : Hidden) → IsHash x → x.depth ≤ 1024 → x.depth ≤ deepest (pruned_of x.hash x.depth)
 hidden-depth x h low = let e = pruned-depth x h low in omega (arith, e)
+
+-- and no deeper
+pub hidden-below : (x : Hidden) → IsHash x → x.depth ≤ 1023 → deepest (pruned_of x.hash x.depth) < 1024
+unfolding set_bits
+hidden-below x h low =
+    let e = pruned-depth x h (omega (arith, low)) in
+    let ps : List ChildMark = record { depth = x.depth; hash = x.hash } ∷ [] in
+    let c = one-pair x.hash x.depth h.whole (omega (arith, low)) in
+    let d1 = depth-own 1 ps 1 c (omega arith) in
+    let d2 = depth-own 1 ps 2 c (omega arith) in
+    let d3 = depth-own 1 ps 3 c (omega arith) in
+    omega (arith, e, d1, d2, d3, low)
 
 -- a good cell that hides a hash and a depth is the pruned branch of them, and as deep
 pub hidden_is : (c : Tree) (x : Hidden) → IsHash x → IsGood c → unseen Partial c ≡ Some x

@@ -3,14 +3,15 @@ use Rattle.std.proofs.Common.{◌≡◌, ℕ, Bool, true, false, cond, Option, S
 use Rattle.cell_nodes.specs.declared.tree.Mode.{Mode}
 use Rattle.core_form.specs.Closed.{Closed}
 use Rattle.core_form.specs.Closing.{Refusal, close}
-use Rattle.core_form.specs.Core.{Ty}
+use Rattle.core_form.specs.Core.{Condition, Ty}
 use Rattle.core_form.specs.Core as core
 use Rattle.core_form.specs.Scope.{Scope, value_in}
 use Rattle.hashmap_tree.specs.Entries.{Slice}
 use Rattle.spelling.specs.Goals.{Goal, at_type, at_field, at_cell, Shape, typed, fields_here, fields_under, left_out, as_cell, typed_or, laid, in_table, in_width, judged, passes, tested, shape_of}
 use Rattle.spelling.specs.declared.Cause.{Cause}
 use Rattle.spelling.specs.declared.Cause.TheVariants.{Width}
-use Rattle.building_laws.specs.DictLaws.{NoneHidden, HeldAt}
+use Rattle.building.specs.Laid.{AreSeen}
+use Rattle.building_laws.specs.DictLaws.{HeldAt}
 use Rattle.building_laws.specs.MoveLaws.{IsHeld}
 
 -- the limits of the whole, by the shape at which a value is built
@@ -19,16 +20,16 @@ Holding mode (typed t) w = IsHeld w
 Holding mode (fields_here is scope) w = IsHeld w
 Holding mode (fields_under is scope) w = IsHeld w
 Holding mode left_out w = IsHeld w
-Holding mode as_cell w = NoneHidden mode w.refs
+Holding mode as_cell w = AreSeen mode w.refs
 
-abbrev NotCell : Shape → Type 0
+abbrev pub NotCell : Shape → Type 0
 NotCell (typed t) = Unit {0}
 NotCell (fields_here is scope) = Unit {0}
 NotCell (fields_under is scope) = Unit {0}
 NotCell left_out = Unit {0}
 NotCell as_cell = ⊥
 
-ok_same : (c d : Shape) → (◌≡◌ {A = Result Shape Cause} (Ok c) (Ok d)) → c ≡ d
+pub ok_same : (c d : Shape) → (◌≡◌ {A = Result Shape Cause} (Ok c) (Ok d)) → c ≡ d
 ok_same c d e = cc
 
 as_same : (c d : Shape) → NotCell c → (◌≡◌ {A = Result Shape Cause} (Ok c) (Ok d)) → NotCell d
@@ -75,11 +76,17 @@ held_not mode (fields_under is scope) w n h = h
 held_not mode left_out w n h = h
 held_not mode as_cell w n h = absurd n
 
+-- the shape of a goal that is no cell of any kind
+pub not_type : (t : Closed) (c : Shape) → shape_of (at_type t) ≡ Ok c → NotCell c
+not_type t c e = of_width (typed t) c tt e
+
+pub not_field : (x : Option Condition) (t : Ty) (scope : Scope) (c : Shape) → shape_of (at_field x t scope) ≡ Ok c → NotCell c
+not_field None t scope c e = of_judged (laid t scope) c (λ d k. of_laid t scope d k) e
+not_field (Some x) t scope c e =
+    of_tested x.bit (value_in x.number scope) (laid t scope) c (λ d k. of_laid t scope d k) e
+
 pub holding : (mode : Mode) (g : Goal) (c : Shape) (w : Slice) → shape_of g ≡ Ok c → HeldAt mode g w → Holding mode c w
-holding mode (at_type t) c w e h = held_not mode c w (of_width (typed t) c tt e) h
-holding mode (at_field None t scope) c w e h =
-    held_not mode c w (of_judged (laid t scope) c (λ d k. of_laid t scope d k) e) h
-holding mode (at_field (Some x) t scope) c w e h =
-    held_not mode c w (of_tested x.bit (value_in x.number scope) (laid t scope) c (λ d k. of_laid t scope d k) e) h
+holding mode (at_type t) c w e h = held_not mode c w (not_type t c e) h
+holding mode (at_field x t scope) c w e h = held_not mode c w (not_field x t scope c e) h
 holding mode at_cell c w e h =
     let P : Shape → Type 0 = λ z. Holding mode z w in subst P (ok_same as_cell c e) h
