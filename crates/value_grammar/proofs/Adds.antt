@@ -286,17 +286,22 @@ part_closed_text false bs refs = ordinary_text bs refs
 pub closed_text : (p : Part) → IfMade (closed p) (λ t. cell t ≡ (bang p.exotic ++ body_text p.bits p.refs) ++ mark 41 ∷ [])
 closed_text p = part_closed_text p.exotic p.bits p.refs
 
+-- a reference more, behind a comma
+push_text : (f b p g m c : List Token) → f ++ (b ++ p ++ (g ++ (m ++ mark 44 ∷ c))) ≡ (f ++ (b ++ (p ++ (g ++ m ++ mark 44 ∷ [])))) ++ c
+push_text f b p g m c = simp append_assoc refl
+
 -- a whole cell in what is around it
 give_cell_text : (t : Tree) (base : Option Slice) (ps : List Part) (below : List Frame) → MapOrder below
     → so_far (give_cell t base ps below) ≡ around base ps below ++ cell t
+give_cell_text t base (q ∷ qs) below h =
+    ap (λ (l : List Token). frames_text below ++ (base_text base ++ parts_text qs ++ (bang q.exotic ++ l))) (body_text-push q.bits q.refs t)
+    ∙ push_text (frames_text below) (base_text base) (parts_text qs) (bang q.exotic) (body_text q.bits q.refs) (cell t)
 give_cell_text t None [] below h = give_text (raw t) below h ∙ ap (λ (l : List Token). l ++ cell t) (sym (append-nil (frames_text below)))
 give_cell_text t (Some r) [] below h =
-    ap (λ (l : List Token). frames_text below ++ mark 37 ∷ l) (body_text-push r.bits r.refs t) ∙ simp (append_assoc, append-nil) refl
-give_cell_text t None (q ∷ qs) below h =
-    ap (λ (l : List Token). frames_text below ++ (parts_text qs ++ (bang q.exotic ++ l))) (body_text-push q.bits q.refs t) ∙ simp append_assoc refl
-give_cell_text t (Some r) (q ∷ qs) below h =
-    ap (λ (l : List Token). frames_text below ++ (base_text (Some r) ++ parts_text qs ++ (bang q.exotic ++ l))) (body_text-push q.bits q.refs t)
-    ∙ simp append_assoc refl
+    let e : frames_text below ++ mark 37 ∷ (body_text r.bits r.refs ++ mark 44 ∷ cell t) ≡ (frames_text below ++ base_text (Some r)) ++ cell t =
+    simp append_assoc refl in
+    ap (λ (l : List Token). frames_text below ++ mark 37 ∷ l) (body_text-push r.bits r.refs t) ∙ e
+    ∙ ap (λ (l : List Token). (frames_text below ++ l) ++ cell t) (sym (append-nil (base_text (Some r))))
 
 give_closed_adds : (r : Result Tree Cause) (c : List Token) (paren : ℕ) (base : Option Slice) (ps : List Part) (below : List Frame) → MapOrder below
     → IfMade r (λ t. cell t ≡ c ++ mark 41 ∷ [])

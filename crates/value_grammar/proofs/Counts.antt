@@ -80,16 +80,12 @@ give_grows v (pair ps us k ∷ below) =
     let g = cells_pairs ps k v in
     (omega (arith, e), omega (arith, g))
 
--- a value that is given, by how many values and cells it has
-given : (v : Plain) (below : List Frame) (m n : ℕ) → frames_parts below + parts v ≡ m → frames_cells below + cells_in v ≡ n → HasBegun m n (give v below)
-given v below m n e g = let h = give_grows v below in (h.0 ∙ e, h.1 ∙ g)
-
 -- ---- a value begins
 
 sign_grows : (s : Sign) (p : ℕ) (below : List Frame)
     → Grows (begin_sign s p below) (frames_parts below + 1) (one_more (is_paren (ASign s)) (frames_cells below))
 sign_grows OpenBrace p below = (omega arith, omega arith)
-sign_grows Tilde p below = given absent below _ _ (omega arith) (omega arith)
+sign_grows Tilde p below = let h = give_grows absent below in let e = h.0 in let g = h.1 in (omega (arith, e), omega (arith, g))
 sign_grows OpenBracket p below = (omega arith, omega arith)
 sign_grows Caret p below = (omega arith, omega arith)
 sign_grows Less p below = (omega arith, omega arith)
@@ -101,14 +97,14 @@ sign_grows s p below = tt
 begin_grows : (l : Lexeme) (p : ℕ) (below : List Frame)
     → Grows (begin l p below) (frames_parts below + 1) (one_more (is_paren l) (frames_cells below))
 begin_grows (ASign s) p below = sign_grows s p below
-begin_grows (Number n) p below = given (number n.negative n.size) below _ _ (omega arith) (omega arith)
-begin_grows (Bits bs) p below = given (bit_string bs) below _ _ (omega arith) (omega arith)
+begin_grows (Number n) p below = let h = give_grows (number n.negative n.size) below in let e = h.0 in let g = h.1 in (omega (arith, e), omega (arith, g))
+begin_grows (Bits bs) p below = let h = give_grows (bit_string bs) below in let e = h.0 in let g = h.1 in (omega (arith, e), omega (arith, g))
 begin_grows (Name n) p below = by_name (bytes_eq n (codes "x"))
   where
     by_name : (b : Bool) → Grows (if b then no_go p else Ok (at (named n) below)) (frames_parts below + 1) (frames_cells below)
     by_name true = tt
     by_name false = (omega arith, omega arith)
-begin_grows (AHidden h) p below = given (unknown h) below _ _ (omega arith) (omega arith)
+begin_grows (AHidden h) p below = let h = give_grows (unknown h) below in let e = h.0 in let g = h.1 in (omega (arith, e), omega (arith, g))
 begin_grows (Beyond form) p below = tt
 
 -- where a value begins, one more is counted
@@ -144,7 +140,8 @@ more_of b m n e = ap (one_more b) e
 due_grows : (l : Lexeme) (p : ℕ) (below : List Frame)
     → Grows (begin l p below) (one_more (begins_value l) (frames_parts below + 0)) (one_more (is_paren l) (frames_cells below + 0))
 due_grows l p below =
-    same_counts (begin l p below) _ _ _ _
+    same_counts (begin l p below) (one_more (begins_value l) (frames_parts below)) (one_more (is_paren l) (frames_cells below))
+    (one_more (begins_value l) (frames_parts below + 0)) (one_more (is_paren l) (frames_cells below + 0))
     (more_of (begins_value l) (frames_parts below) (frames_parts below + 0) (omega arith))
     (more_of (is_paren l) (frames_cells below) (frames_cells below + 0) (omega arith))
     (counts_one l p (frames_parts below) (one_more (is_paren l) (frames_cells below)) below (begin_grows l p below))
@@ -158,7 +155,7 @@ first_grows l p below =
 
 sign_first : (s : Sign) (p : ℕ) (below : List Frame)
     → Grows (list_or_end (ASign s) p below) (one_more (begins_value (ASign s)) (frames_parts below + 1)) (one_more (is_paren (ASign s)) (frames_cells below + 0))
-sign_first CloseBracket p below = given (list_of (vals_of [])) below _ _ (omega arith) (omega arith)
+sign_first CloseBracket p below = let h = give_grows (list_of (vals_of [])) below in let e = h.0 in let g = h.1 in (omega (arith, e), omega (arith, g))
 sign_first OpenBrace p below = first_grows (ASign OpenBrace) p below
 sign_first Tilde p below = first_grows (ASign Tilde) p below
 sign_first OpenBracket p below = first_grows (ASign OpenBracket) p below
@@ -181,7 +178,7 @@ list_grows (Beyond form) p below = tt
 in_list_grows : (vs : List Plain) (l : Lexeme) (p : ℕ) (below : List Frame)
     → Grows (in_list vs l p below) (frames_parts below + (1 + parts_in (vals_of vs))) (frames_cells below + cells_of (vals_of vs))
 in_list_grows vs (ASign Comma) p below = (omega arith, omega arith)
-in_list_grows vs (ASign CloseBracket) p below = given (list_of (vals_of vs)) below _ _ refl refl
+in_list_grows vs (ASign CloseBracket) p below = give_grows (list_of (vals_of vs)) below
 in_list_grows vs l p below = tt
 
 -- ---- records
@@ -196,7 +193,7 @@ label_grows n fs (Name x) p below = (refl, refl)
 label_grows n fs l p below = tt
 
 record_grows : (n : Option (List ℕ)) (l : Lexeme) (p : ℕ) (below : List Frame) → Grows (label_or_end n l p below) (frames_parts below + 1) (frames_cells below + 0)
-record_grows n (ASign CloseBrace) p below = given (the_record n []) below _ _ (omega arith) (omega arith)
+record_grows n (ASign CloseBrace) p below = let h = give_grows (the_record n []) below in let e = h.0 in let g = h.1 in (omega (arith, e), omega (arith, g))
 record_grows n (Name x) p below = (omega arith, omega arith)
 record_grows n l p below = tt
 
@@ -208,7 +205,7 @@ colon_grows n fs x l p below = tt
 in_record_grows : (n : Option (List ℕ)) (fs : List (List ℕ × Plain)) (l : Lexeme) (p : ℕ) (below : List Frame)
     → Grows (in_record n fs l p below) (frames_parts below + (1 + parts_in (vals_in fs))) (frames_cells below + cells_of (vals_in fs))
 in_record_grows n fs (ASign Comma) p below = (refl, refl)
-in_record_grows n fs (ASign CloseBrace) p below = given (the_record n fs) below _ _ refl refl
+in_record_grows n fs (ASign CloseBrace) p below = give_grows (the_record n fs) below
 in_record_grows n fs l p below = tt
 
 -- ---- maps
@@ -219,7 +216,7 @@ key_grows ps us (Bits k) p below = (refl, refl)
 key_grows ps us l p below = tt
 
 map_grows : (l : Lexeme) (p : ℕ) (below : List Frame) → Grows (key_or_end l p below) (frames_parts below + 1) (frames_cells below + 0)
-map_grows (ASign Greater) p below = given (the_map [] []) below _ _ (omega arith) (omega arith)
+map_grows (ASign Greater) p below = let h = give_grows (the_map [] []) below in let e = h.0 in let g = h.1 in (omega (arith, e), omega (arith, g))
 map_grows (Bits k) p below = (omega arith, omega arith)
 map_grows l p below = tt
 
@@ -232,7 +229,7 @@ entry_grows ps us k l p below = tt
 in_map_grows : (ps : List (List ℕ × Plain)) (us : List (List ℕ × Hidden)) (last : List ℕ) (l : Lexeme) (p : ℕ) (below : List Frame)
     → Grows (in_map ps us last l p below) (frames_parts below + (1 + parts_by (pairs_of ps))) (frames_cells below + cells_by (pairs_of ps))
 in_map_grows ps us last (ASign Comma) p below = (refl, refl)
-in_map_grows ps us last (ASign Greater) p below = given (the_map ps us) below _ _ refl refl
+in_map_grows ps us last (ASign Greater) p below = give_grows (the_map ps us) below
 in_map_grows ps us last l p below = tt
 
 -- ---- cells
@@ -248,11 +245,8 @@ begin_rest_grows l p below = tt
 in_rest_grows : (r : Slice) (l : Lexeme) (p : ℕ) (below : List Frame)
     → Grows (in_rest r l p below) (frames_parts below + 1) (frames_cells below + refs_cells r.refs)
 in_rest_grows r (ASign Comma) p below = (refl, refl)
-in_rest_grows r (ASign CloseParen) p below = given (rest r) below _ _ refl refl
+in_rest_grows r (ASign CloseParen) p below = give_grows (rest r) below
 in_rest_grows r l p below = tt
-
-abbrev Around : Option Slice → List Part → List Frame → ℕ
-Around base ps below = frames_cells below + (base_cells base + parts_cells ps)
 
 begin_cell_grows : (base : Option Slice) (ps : List Part) (l : Lexeme) (p m n : ℕ) (below : List Frame) → frames_parts below + 1 ≡ m
     → frames_cells below + (base_cells base + parts_cells ps) ≡ n → Grows (begin_cell base ps l p below) m (one_more (is_paren l) n)
@@ -281,13 +275,13 @@ made_test false x c n h = h
 
 ordinary_cells : (bs : List ℕ) (refs : List Tree) → IfMade (1 + refs_cells refs) (closed_ordinary bs refs)
 ordinary_cells bs refs =
-    made_test (nat_lt 1024 (deepest (tree_of Ordinary bs refs))) (if nat_lt 4 (length refs) then Err Range else Ok (tree_of Ordinary bs refs)) DeepText _
-    (made_test (nat_lt 4 (length refs)) (Ok (tree_of Ordinary bs refs)) Range _ (unfolded-tree_of Ordinary bs refs))
+    made_test (nat_lt 1024 (deepest (tree_of Ordinary bs refs))) (if nat_lt 4 (length refs) then Err Range else Ok (tree_of Ordinary bs refs)) DeepText (1 + refs_cells refs)
+    (made_test (nat_lt 4 (length refs)) (Ok (tree_of Ordinary bs refs)) Range (1 + refs_cells refs) (unfolded-tree_of Ordinary bs refs))
 
 exotic_cells : (k : Option Kind) (bs : List ℕ) (refs : List Tree) → IfMade (1 + refs_cells refs) (closed_exotic k bs refs)
 exotic_cells None bs refs = tt
 exotic_cells (Some kind) bs refs =
-    made_test (nat_lt 1024 (deepest (tree_of kind bs refs))) (Ok (tree_of kind bs refs)) DeepText _ (unfolded-tree_of kind bs refs)
+    made_test (nat_lt 1024 (deepest (tree_of kind bs refs))) (Ok (tree_of kind bs refs)) DeepText (1 + refs_cells refs) (unfolded-tree_of kind bs refs)
 
 part_cells : (exotic : Bool) (bs : List ℕ) (refs : List Tree)
     → IfMade (1 + refs_cells refs) (if exotic then closed_exotic (exotic_kind bs (length refs)) bs refs else closed_ordinary bs refs)
@@ -297,7 +291,7 @@ part_cells false bs refs = ordinary_cells bs refs
 give_cell_grows : (t : Tree) (base : Option Slice) (ps : List Part) (below : List Frame)
     → HasBegun (frames_parts below + 1) (frames_cells below + (base_cells base + parts_cells ps + unfolded t)) (give_cell t base ps below)
 give_cell_grows t base (q ∷ qs) below = let e = refs_push q.refs t in (refl, omega (arith, e))
-give_cell_grows t None [] below = given (raw t) below _ _ refl (omega arith)
+give_cell_grows t None [] below = let h = give_grows (raw t) below in let e = h.0 in let g = h.1 in (omega (arith, e), omega (arith, g))
 give_cell_grows t (Some r) [] below = let e = refs_push r.refs t in (refl, omega (arith, e))
 
 give_closed_grows : (r : Result Tree Cause) (paren k : ℕ) (base : Option Slice) (ps : List Part) (below : List Frame) → IfMade k r
@@ -327,7 +321,7 @@ cell_grows : (base : Option Slice) (ps : List Part) (c : CellSpot) (l : Lexeme) 
 cell_grows base ps paren_due l p below = open_exotic_grows base ps l p below
 cell_grows base ps (bits_due exotic paren) l p below = begin_part_grows base ps exotic paren l p below
 cell_grows base ps (after_part q) l p below = in_part_grows base ps q l p below
-cell_grows base ps (child_due q) l p below = begin_cell_grows base (q ∷ ps) l p _ _ below refl (omega arith)
+cell_grows base ps (child_due q) l p below = begin_cell_grows base (q ∷ ps) l p (frames_parts below + 1) (frames_cells below + (base_cells base + parts_cells ps + (1 + refs_cells q.refs))) below refl (omega arith)
 
 pub counts : (spot : Spot) (l : Lexeme) (p : ℕ) (below : List Frame) → Counts (move spot l p below) spot l below
 counts due l p below = due_grows l p below
@@ -345,6 +339,6 @@ counts (after_entry ps us last) l p below = in_map_grows ps us last l p below
 counts rest_paren l p below = open_rest_grows l p below
 counts rest_bits l p below = begin_rest_grows l p below
 counts (after_rest r) l p below = in_rest_grows r l p below
-counts (rest_child r) l p below = begin_cell_grows (Some r) [] l p _ _ below refl (omega arith)
+counts (rest_child r) l p below = begin_cell_grows (Some r) [] l p (frames_parts below + 1) (frames_cells below + refs_cells r.refs) below refl (omega arith)
 counts (in_cell base ps c) l p below = cell_grows base ps c l p below
 counts (done v) l p below = tt

@@ -33,7 +33,7 @@ use Rattle.value_grammar.proofs.Sound.{AreLexemes, Known, divided_lexemes, known
 
 -- ---- the shapes of what the steps go through
 
-abbrev Shaped : List Lexeme → Open → Type 0
+abbrev pub Shaped : List Lexeme → Open → Type 0
 Shaped before o = steps.run runs.start (shapes before) ≡ Some (state_of o)
 
 one_shape : (p q : steps.State) (c : Shape) → steps.step p c ≡ Some q → steps.run p (c ∷ []) ≡ Some q
@@ -54,10 +54,10 @@ shaped_step before spot below l place to h b e =
     ∙ one_shape (state_of (at spot below)) (state_of to) (shape l) (tied_ok spot l place below to b e)
 
 -- what is known where the steps lead: also the shapes, and the places of `(`
-record There (before : List Placed) (o : Open) (values cells : ℕ) : Type 0 where
-  known : Known (lexemes before) o values cells
-  shaped : Shaped (lexemes before) o
-  parens : Parens before o
+pub record There (before : List Placed) (o : Open) (values cells : ℕ) : Type 0 where
+  pub known : Known (lexemes before) o values cells
+  pub shaped : Shaped (lexemes before) o
+  pub parens : Parens before o
 
 so_long : (before : List Placed) (o : Open) → lexemes before ≡ map lexeme_of (so_far o) → length before ≡ length (so_far o)
 so_long before o e = sym (length-map before (λ (l : Placed). l.1)) ∙ ap length e ∙ length-map (so_far o) lexeme_of
@@ -156,7 +156,7 @@ cell_refused before (at (in_cell base ps (after_part p)) below) values cells n p
     let s = paren_of before base ps p below t.known.written t.parens in
     let P : Part → Type 0 = λ x. ParenOf before x.place (bits x.bits ∷ more (map cell x.refs)) in
     let u = subst P c s in
-    refused.at_cell st q c f u.split u.written
+    refused.at_cell st q u.earlier u.inner c f u.split u.written
 cell_refused before (at (in_cell base ps paren_due) below) values cells n place text cause q t st c f = absurd c
 cell_refused before (at (in_cell base ps (bits_due exotic paren)) below) values cells n place text cause q t st c f = absurd c
 cell_refused before (at (in_cell base ps (child_due p)) below) values cells n place text cause q t st c f = absurd c
@@ -178,16 +178,16 @@ step_refused : (before : List Placed) (spot : Spot) (below : List Frame) (values
     → RefusedAt (at spot below) before place text r.0 r.1
 step_refused before spot below values cells l place n text r t st e = by_limit (limit_of values cells spot below l) refl (move spot l place below) refl e
   where
-    P : Refusal → Type 0
-    P x = RefusedAt (at spot below) before place text x.0 x.1
     by_limit : (o : Option Cause) → limit_of values cells spot below l ≡ o → (m : Outcome) → move spot l place below ≡ m
         → counted (unless_limit o place m) (one_more (is_value_due spot && begins_value l) values) (one_more (is_cell_due spot && is_paren l) cells) ≡ Err r
         → RefusedAt (at spot below) before place text r.0 r.1
     by_limit (Some cause) f m g h =
         let same : (cause, place) ≡ r = cc in
+        let P : Refusal → Type 0 = λ x. RefusedAt (at spot below) before place text x.0 x.1 in
         subst P same (refused.at_limit st (limit_there before spot below values cells l (Some cause) t f))
     by_limit None f (Err refusal) g h =
         let same : refusal ≡ r = cc in
+        let P : Refusal → Type 0 = λ x. RefusedAt (at spot below) before place text x.0 x.1 in
         let Q : Outcome → Type 0 = λ x. Tied x (at spot below) l place (steps.move (where_of spot) (shape l) (arounds below)) in
         let p = passes values cells spot below l f in
         subst P same (fails_refused before spot below values cells l place n refusal.1 text refusal.0 t st f (subst Q g (tied spot l place below p.beyond)))
@@ -237,36 +237,38 @@ nothing_refused file rest before place end (at spot below) values cells d p left
     text_refused file rest before place end place spot below values cells Syntax d p left t
     (refused.at_nothing some nothing (can_go_on (lexemes before) spot below t.shaped t.known.keeps))
 
-unfinished : (o : Open) → IsUnfinished o → state_of o ≡ steps.at steps.done [] → ⊥
-unfinished (at (done v) below) u e = absurd u
-unfinished (at (in_cell base ps paren_due) below) u e = absurd (cc)
-unfinished (at (in_cell base ps (bits_due exotic paren)) below) u e = absurd (cc)
-unfinished (at (in_cell base ps (after_part q)) below) u e = absurd (cc)
-unfinished (at (in_cell base ps (child_due q)) below) u e = absurd (cc)
-unfinished (at due below) u e = absurd (cc)
-unfinished (at item_or_end below) u e = absurd (cc)
-unfinished (at (after_item vs) below) u e = absurd (cc)
-unfinished (at (named n) below) u e = absurd (cc)
-unfinished (at (field_or_end n) below) u e = absurd (cc)
-unfinished (at (field_due n fs) below) u e = absurd (cc)
-unfinished (at (labelled n fs x) below) u e = absurd (cc)
-unfinished (at (after_field n fs) below) u e = absurd (cc)
-unfinished (at entry_or_end below) u e = absurd (cc)
-unfinished (at (entry_due ps us last) below) u e = absurd (cc)
-unfinished (at (keyed ps us x) below) u e = absurd (cc)
-unfinished (at (after_entry ps us last) below) u e = absurd (cc)
-unfinished (at rest_paren below) u e = absurd (cc)
-unfinished (at rest_bits below) u e = absurd (cc)
-unfinished (at (after_rest r) below) u e = absurd (cc)
-unfinished (at (rest_child r) below) u e = absurd (cc)
+unfinished : (spot : Spot) (b : List steps.Around) → IsUnfinished spot → steps.at (where_of spot) b ≡ steps.at steps.done [] → ⊥
+unfinished (done v) b u e = absurd u
+unfinished (in_cell base ps paren_due) b u e = absurd (cc)
+unfinished (in_cell base ps (bits_due exotic paren)) b u e = absurd (cc)
+unfinished (in_cell base ps (after_part q)) b u e = absurd (cc)
+unfinished (in_cell base ps (child_due q)) b u e = absurd (cc)
+unfinished due b u e = absurd (cc)
+unfinished item_or_end b u e = absurd (cc)
+unfinished (after_item vs) b u e = absurd (cc)
+unfinished (named n) b u e = absurd (cc)
+unfinished (field_or_end n) b u e = absurd (cc)
+unfinished (field_due n fs) b u e = absurd (cc)
+unfinished (labelled n fs x) b u e = absurd (cc)
+unfinished (after_field n fs) b u e = absurd (cc)
+unfinished entry_or_end b u e = absurd (cc)
+unfinished (entry_due ps us last) b u e = absurd (cc)
+unfinished (keyed ps us x) b u e = absurd (cc)
+unfinished (after_entry ps us last) b u e = absurd (cc)
+unfinished rest_paren b u e = absurd (cc)
+unfinished rest_bits b u e = absurd (cc)
+unfinished (after_rest r) b u e = absurd (cc)
+unfinished (rest_child r) b u e = absurd (cc)
 
-end_refused : (file rest : List ℕ) (before : List Placed) (place end : ℕ) (o : Open) (values cells : ℕ)
+end_refused : (file rest : List ℕ) (before : List Placed) (place end : ℕ) (o : Open) (spot : Spot) (below : List Frame) (values cells : ℕ)
     → Divides 0 file before end rest → place ≡ end + space_before rest → drop place file ≡ without_space rest
-    → There before o values cells → drop place file ≡ [] → IsUnfinished o → TextRefused file Syntax place
-end_refused file rest before place end (at spot below) values cells d p left t ends u =
-    text_refused file rest before place end place spot below values cells Syntax d p left t
-    (refused.at_end ends (can_go_on (lexemes before) spot below t.shaped t.known.keeps)
-    (not_whole (shapes (lexemes before)) (state_of (at spot below)) t.shaped (unfinished (at spot below) u)))
+    → There before o values cells → drop place file ≡ [] → o ≡ at spot below → IsUnfinished spot → TextRefused file Syntax place
+end_refused file rest before place end o spot below values cells d p left t ends e u =
+    let T : Open → Type 0 = λ x. There before x values cells in
+    let q = subst T e t in
+    text_refused file rest before place end place spot below values cells Syntax d p left q
+    (refused.at_end ends (can_go_on (lexemes before) spot below q.shaped q.known.keeps)
+    (not_whole (shapes (lexemes before)) (state_of (at spot below)) q.shaped (unfinished spot (arounds below) u)))
 
 pub stops_refused : (file : List ℕ) (cause : Cause) (byte : ℕ) → Stops file cause byte → TextRefused file cause byte
 stops_refused file cause byte (at_lexeme {place = p} {n = n} {byte = b} {h = h} {l = l} {cause = c} r st e) =
@@ -274,5 +276,5 @@ stops_refused file cause byte (at_lexeme {place = p} {n = n} {byte = b} {h = h} 
     (reached_there file p h r) st e
 stops_refused file cause byte (at_nothing {place = p} {h = h} r some nothing) =
     nothing_refused file r.rest r.before p r.end h.begun h.values h.cells r.divides r.spaced r.left (reached_there file p h r) some nothing
-stops_refused file cause byte (at_end {place = p} {h = h} r ends u) =
-    end_refused file r.rest r.before p r.end h.begun h.values h.cells r.divides r.spaced r.left (reached_there file p h r) ends u
+stops_refused file cause byte (at_end {place = p} {h = h} r ends spot below e u) =
+    end_refused file r.rest r.before p r.end h.begun spot below h.values h.cells r.divides r.spaced r.left (reached_there file p h r) ends e u

@@ -158,7 +158,7 @@ begin_keeps (Name n) p below f i d = by_name (bytes_eq n (codes "x")) refl d
     by_name true e g = tt
     by_name false e g =
         let P : Bool → Type 0 = λ b. IsTrue (not b) in
-        (f, ((i, subst P (sym e) tt), room (length below) true refl g), tt)
+        (f, ((i, subst P (sym e) refl), room (length below) true refl g), tt)
 begin_keeps (AHidden h) p below f i d = give_keeps (unknown h) below f i (one_level (length below) (room (length below) true refl d))
 begin_keeps (Beyond form) p below f i d = tt
 
@@ -251,8 +251,8 @@ key_keeps ps us last (AHidden h) p below f i w o = tt
 key_keeps ps us last (Beyond form) p below f i w o = tt
 
 pub map_keeps : (l : Lexeme) (p : ℕ) (below : List Frame) → FramesWithin below → IsLexeme l → FitsIn (length below) 0 → Kept (key_or_end l p below)
-map_keeps (ASign Greater) p below f i r = give_keeps (the_map [] []) below f (tt, tt, tt) (one_level (length below) r)
-map_keeps (Bits k) p below f i r = (f, (tt, tt, i, tt, r), tt)
+map_keeps (ASign Greater) p below f i r = give_keeps (the_map [] []) below f (tt, tt, refl) (one_level (length below) r)
+map_keeps (Bits k) p below f i r = (f, (tt, tt, i, refl, r), tt)
 map_keeps l p below f i r = tt
 
 pub entry_keeps : (ps : List (List ℕ × Plain)) (us : List (List ℕ × Hidden)) (k : List ℕ) (l : Lexeme) (p : ℕ) (below : List Frame) → FramesWithin below → IsLexeme l

@@ -86,6 +86,7 @@ layout_few Library bs n h e = by_zero (n == 0) refl (middle (length bs == 264) (
     middle true true c g = refl
     middle true false c g = g
     middle false b c g = absurd (cc)
+
     by_zero : (b : Bool) → (n == 0) ≡ b → b ≡ true → n ≤ 4
     by_zero true f g = grind (arith, nat_tests)
     by_zero false f g = absurd (cc)
@@ -95,6 +96,7 @@ layout_few Proof bs n h e = by_one (n == 1) refl (middle (length bs == 280) (n =
     middle true true c g = refl
     middle true false c g = g
     middle false b c g = absurd (cc)
+
     by_one : (b : Bool) → (n == 1) ≡ b → b ≡ true → n ≤ 4
     by_one true f g = grind (arith, nat_tests)
     by_one false f g = absurd (cc)
@@ -104,6 +106,7 @@ layout_few Update bs n h e = by_two (n == 2) refl (middle (length bs == 552) (n 
     middle true true c g = refl
     middle true false c g = g
     middle false b c g = absurd (cc)
+
     by_two : (b : Bool) → (n == 2) ≡ b → b ≡ true → n ≤ 4
     by_two true f g = grind (arith, nat_tests)
     by_two false f g = absurd (cc)
@@ -120,10 +123,6 @@ kind_layout bs n kind =
     (layout_test (has_layout Proof bs n) Proof kind _ bs n refl
     (layout_test (has_layout Update bs n) Update kind None bs n refl (λ e. absurd (cc)))))
 
-is_true : (b : Bool) → b ≡ true → IsTrue b
-is_true true e = tt
-is_true false e = absurd (cc)
-
 -- a cell that passes its tests is good
 ordinary_good : (bs : List ℕ) (refs : List Tree) → AreFew bs → AllGood refs → IfMade (closed_ordinary bs refs)
 ordinary_good bs refs f a = by_depth (nat_lt 1024 (deepest (tree_of Ordinary bs refs))) refl (nat_lt 4 (length refs)) refl
@@ -133,7 +132,7 @@ ordinary_good bs refs f a = by_depth (nat_lt 1024 (deepest (tree_of Ordinary bs 
     by_depth true e m g = tt
     by_depth false e true g = tt
     by_depth false e false g =
-        good-tree_of Ordinary bs refs f.0 f.1 (let s : length refs ≤ 4 = grind (arith, nat_tests) in s) tt
+        good-tree_of Ordinary bs refs f.0 f.1 (let s : length refs ≤ 4 = grind (arith, nat_tests) in s) refl
         (let s : deepest (tree_of Ordinary bs refs) ≤ 1024 = grind (arith, nat_tests) in s) a
 
 exotic_good : (k : Option Kind) (bs : List ℕ) (refs : List Tree) → exotic_kind bs (length refs) ≡ k → AreFew bs → AllGood refs → IfMade (closed_exotic k bs refs)
@@ -144,7 +143,7 @@ exotic_good (Some kind) bs refs e f a = by_depth (nat_lt 1024 (deepest (tree_of 
     by_depth true g = tt
     by_depth false g =
         let layout = kind_layout bs (length refs) kind e in
-        good-tree_of kind bs refs f.0 f.1 (layout_few kind bs (length refs) layout (kind_exotic bs (length refs) kind e)) (is_true _ layout)
+        good-tree_of kind bs refs f.0 f.1 (layout_few kind bs (length refs) layout (kind_exotic bs (length refs) kind e)) layout
         (let s : deepest (tree_of kind bs refs) ≤ 1024 = grind (arith, nat_tests) in s) a
 
 part_good : (exotic : Bool) (bs : List ℕ) (refs : List Tree) → AreFew bs → AllGood refs

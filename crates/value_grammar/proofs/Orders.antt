@@ -65,11 +65,11 @@ AllKeysBefore (x ∷ xs) k = Before x k × AllKeysBefore xs k
 
 and_first : (a b : Bool) → IsTrue (a && b) → a ≡ true
 and_first true b h = refl
-and_first false b h = absurd h
+and_first false b h = absurd (cc)
 
 and_second : (a b : Bool) → IsTrue (a && b) → IsTrue b
 and_second true b h = h
-and_second false b h = absurd h
+and_second false b h = absurd (cc)
 
 and_both : (a b : Bool) → a ≡ true → IsTrue b → IsTrue (a && b)
 and_both true b e h = h
@@ -91,7 +91,7 @@ first_before x (y ∷ ys) k h =
     (first_before y ys k (and_second (comes_after x y) (in_order (y ∷ ys ++ k ∷ [])) h))
 
 tail_in_order : (x : List ℕ) (xs : List (List ℕ)) (k : List ℕ) → IsTrue (in_order (x ∷ xs ++ k ∷ [])) → IsTrue (in_order (xs ++ k ∷ []))
-tail_in_order x [] k h = tt
+tail_in_order x [] k h = refl
 tail_in_order x (y ∷ ys) k h = and_second (comes_after x y) (in_order (y ∷ ys ++ k ∷ [])) h
 
 pub keys_before : (xs : List (List ℕ)) (k : List ℕ) → IsTrue (in_order (xs ++ k ∷ [])) → AllKeysBefore xs k
@@ -101,9 +101,9 @@ keys_before (x ∷ xs) k h = (first_before x xs k h, keys_before xs k (tail_in_o
 -- a key that comes after the last
 pub order_push : (xs : List (List ℕ)) (last k : List ℕ) → IsTrue (in_order (xs ++ last ∷ [])) → comes_after last k ≡ true
     → IsTrue (in_order ((xs ++ last ∷ []) ++ k ∷ []))
-order_push [] last k h e = and_both (comes_after last k) true e tt
+order_push [] last k h e = and_both (comes_after last k) true e refl
 order_push (x ∷ []) last k h e =
-    and_both (comes_after x last) (comes_after last k && true) (and_first (comes_after x last) true h) (and_both (comes_after last k) true e tt)
+    and_both (comes_after x last) (comes_after last k && true) (and_first (comes_after x last) true h) (and_both (comes_after last k) true e refl)
 order_push (x ∷ y ∷ ys) last k h e =
     and_both (comes_after x y) (in_order ((y ∷ ys ++ last ∷ []) ++ k ∷ []))
     (and_first (comes_after x y) (in_order (y ∷ ys ++ last ∷ [])) h)

@@ -15,7 +15,7 @@ use Rattle.value_text.specs.Tokens.{Token, bits, mark}
 use Rattle.value_grammar.specs.declared.cause.Cause.{Cause}
 use Rattle.value_grammar.specs.Open.{CellSpot, Frame, Open, Part, Spot, after_entry, after_field, after_item, after_part, after_rest, at, bang, base_text, bits_due, body_text, child_due, done, due, entry_due, entry_or_end, field, field_due, field_or_end, frames_text, in_cell, item, item_or_end, keyed, labelled, named, pair, paren_due, parts_text, reference, rest_bits, rest_child, rest_paren, so_far}
 use Rattle.value_grammar.specs.Within.{closed}
-use Rattle.value_grammar.specs.Steps.{Outcome, begin, begin_cell, begin_part, begin_sign, give, give_cell, give_closed, in_part, list_or_end, move, move_cell, no_go, open_exotic, open_record, open_rest, begin_rest, in_rest, in_list, in_map, in_record, key, key_or_end, label, label_or_end, colon, entry}
+use Rattle.value_grammar.specs.Steps.{Outcome, begin, begin_cell, begin_part, begin_sign, give, give_cell, give_closed, in_part, list_or_end, move, move_cell, no_go, open_exotic, open_record, open_rest, begin_rest, in_rest, in_list, in_map, in_record, key, key_or_end, label, label_or_end, colon, entry, the_map, the_record}
 use Rattle.value_grammar.proofs.Adds.{OkThen}
 
 abbrev pub place_at : List Placed → ℕ → Option ℕ
@@ -83,9 +83,11 @@ sign_parens before Tilde p below e = give_parens (before ++ (p, ASign Tilde) ∷
 sign_parens before OpenBracket p below e = tt
 sign_parens before Caret p below e = tt
 sign_parens before Less p below e = tt
-sign_parens before OpenParen p below e =
-    (tt, last_paren before (p, ASign OpenParen) (outside None [] below) false
-    (e ∙ ap length (sym (append-nil (frames_text below)) ∙ sym (append-nil (frames_text below ++ [])))))
+sign_parens before OpenParen p below e = (
+  tt,
+  last_paren before (p, ASign OpenParen) (outside None [] below) false
+      (e ∙ ap length (sym (append-nil (frames_text below)) ∙ sym (append-nil (frames_text below ++ [])))),
+)
 sign_parens before Bang p below e = (tt, tt)
 sign_parens before Percent p below e = tt
 sign_parens before s p below e = tt
@@ -129,9 +131,10 @@ list_parens before (Beyond form) p below e = tt
 
 begin_cell_parens : (before : List Placed) (base : Option Slice) (ps : List Part) (l : Lexeme) (p : ℕ) (below : List Frame)
     → length before ≡ length (outside base ps below) → PartsAt before base ps below → Kept (before ++ (p, l) ∷ []) (begin_cell base ps l p below)
-begin_cell_parens before base ps (ASign OpenParen) p below e h =
-    (parts_stay before ((p, ASign OpenParen) ∷ []) base ps below h,
-    last_paren before (p, ASign OpenParen) (outside base ps below) false (e ∙ ap length (sym (append-nil (outside base ps below)))))
+begin_cell_parens before base ps (ASign OpenParen) p below e h = (
+  parts_stay before ((p, ASign OpenParen) ∷ []) base ps below h,
+  last_paren before (p, ASign OpenParen) (outside base ps below) false (e ∙ ap length (sym (append-nil (outside base ps below)))),
+)
 begin_cell_parens before base ps (ASign Bang) p below e h = (parts_stay before ((p, ASign Bang) ∷ []) base ps below h, tt)
 begin_cell_parens before base ps l p below e h = tt
 
@@ -143,9 +146,10 @@ open_exotic_parens before base ps l p below e h = tt
 
 begin_part_parens : (before : List Placed) (base : Option Slice) (ps : List Part) (exotic : Bool) (paren : ℕ) (l : Lexeme) (p : ℕ) (below : List Frame)
     → Parens before (at (in_cell base ps (bits_due exotic paren)) below) → Kept (before ++ (p, l) ∷ []) (begin_part base ps exotic paren l p below)
-begin_part_parens before base ps exotic paren (Bits bs) p below h =
-    (parts_stay before ((p, Bits bs) ∷ []) base ps below h.0,
-    place_stays before ((p, Bits bs) ∷ []) (length (outside base ps below ++ bang exotic)) paren h.1)
+begin_part_parens before base ps exotic paren (Bits bs) p below h = (
+  parts_stay before ((p, Bits bs) ∷ []) base ps below h.0,
+  place_stays before ((p, Bits bs) ∷ []) (length (outside base ps below ++ bang exotic)) paren h.1,
+)
 begin_part_parens before base ps exotic paren l p below h = tt
 
 give_cell_parens : (before : List Placed) (t : Tree) (base : Option Slice) (ps : List Part) (below : List Frame) → PartsAt before base ps below
@@ -161,9 +165,10 @@ give_closed_parens before (Err cause) paren base ps below h = tt
 
 in_part_parens : (before : List Placed) (base : Option Slice) (ps : List Part) (q : Part) (l : Lexeme) (p : ℕ) (below : List Frame)
     → Parens before (at (in_cell base ps (after_part q)) below) → Kept (before ++ (p, l) ∷ []) (in_part base ps q l p below)
-in_part_parens before base ps q (ASign Comma) p below h =
-    (parts_stay before ((p, ASign Comma) ∷ []) base ps below h.0,
-    place_stays before ((p, ASign Comma) ∷ []) (length (outside base ps below ++ bang q.exotic)) q.place h.1)
+in_part_parens before base ps q (ASign Comma) p below h = (
+  parts_stay before ((p, ASign Comma) ∷ []) base ps below h.0,
+  place_stays before ((p, ASign Comma) ∷ []) (length (outside base ps below ++ bang q.exotic)) q.place h.1,
+)
 in_part_parens before base ps q (ASign CloseParen) p below h =
     give_closed_parens (before ++ (p, ASign CloseParen) ∷ []) (closed q) q.place base ps below (parts_stay before ((p, ASign CloseParen) ∷ []) base ps below h.0)
 in_part_parens before base ps q l p below h = tt
@@ -191,7 +196,7 @@ cell_parens before base ps (child_due q) l p below e h =
 
 in_list_parens : (before : List Placed) (vs : List Plain) (l : Lexeme) (p : ℕ) (below : List Frame) → Kept before (in_list vs l p below)
 in_list_parens before vs (ASign Comma) p below = tt
-in_list_parens before vs (ASign CloseBracket) p below = give_parens before _ below
+in_list_parens before vs (ASign CloseBracket) p below = give_parens before (list_of (vals_of vs)) below
 in_list_parens before vs l p below = tt
 
 open_record_parens : (before : List Placed) (n : List ℕ) (l : Lexeme) (p : ℕ) (below : List Frame) → Kept before (open_record n l p below)
@@ -203,7 +208,7 @@ label_parens before n fs (Name x) p below = tt
 label_parens before n fs l p below = tt
 
 record_parens : (before : List Placed) (n : Option (List ℕ)) (l : Lexeme) (p : ℕ) (below : List Frame) → Kept before (label_or_end n l p below)
-record_parens before n (ASign CloseBrace) p below = give_parens before _ below
+record_parens before n (ASign CloseBrace) p below = give_parens before (the_record n []) below
 record_parens before n (Name x) p below = tt
 record_parens before n l p below = tt
 
@@ -215,7 +220,7 @@ colon_parens before n fs x l p below = tt
 in_record_parens : (before : List Placed) (n : Option (List ℕ)) (fs : List (List ℕ × Plain)) (l : Lexeme) (p : ℕ) (below : List Frame)
     → Kept before (in_record n fs l p below)
 in_record_parens before n fs (ASign Comma) p below = tt
-in_record_parens before n fs (ASign CloseBrace) p below = give_parens before _ below
+in_record_parens before n fs (ASign CloseBrace) p below = give_parens before (the_record n fs) below
 in_record_parens before n fs l p below = tt
 
 key_parens : (before : List Placed) (ps : List (List ℕ × Plain)) (us : List (List ℕ × Hidden)) (l : Lexeme) (p : ℕ) (below : List Frame) → Kept before (key ps us l p below)
@@ -223,7 +228,7 @@ key_parens before ps us (Bits k) p below = tt
 key_parens before ps us l p below = tt
 
 map_parens : (before : List Placed) (l : Lexeme) (p : ℕ) (below : List Frame) → Kept before (key_or_end l p below)
-map_parens before (ASign Greater) p below = give_parens before _ below
+map_parens before (ASign Greater) p below = give_parens before (the_map [] []) below
 map_parens before (Bits k) p below = tt
 map_parens before l p below = tt
 
@@ -236,7 +241,7 @@ entry_parens before ps us k l p below = tt
 in_map_parens : (before : List Placed) (ps : List (List ℕ × Plain)) (us : List (List ℕ × Hidden)) (last : List ℕ) (l : Lexeme) (p : ℕ) (below : List Frame)
     → Kept before (in_map ps us last l p below)
 in_map_parens before ps us last (ASign Comma) p below = tt
-in_map_parens before ps us last (ASign Greater) p below = give_parens before _ below
+in_map_parens before ps us last (ASign Greater) p below = give_parens before (the_map ps us) below
 in_map_parens before ps us last l p below = tt
 
 open_rest_parens : (before : List Placed) (l : Lexeme) (p : ℕ) (below : List Frame) → Kept before (open_rest l p below)
@@ -249,7 +254,7 @@ begin_rest_parens before l p below = tt
 
 in_rest_parens : (before : List Placed) (r : Slice) (l : Lexeme) (p : ℕ) (below : List Frame) → Kept before (in_rest r l p below)
 in_rest_parens before r (ASign Comma) p below = tt
-in_rest_parens before r (ASign CloseParen) p below = give_parens before _ below
+in_rest_parens before r (ASign CloseParen) p below = give_parens before (rest r) below
 in_rest_parens before r l p below = tt
 
 pub parens : (before : List Placed) (spot : Spot) (l : Lexeme) (p : ℕ) (below : List Frame) → length before ≡ length (so_far (at spot below))
@@ -281,18 +286,27 @@ pub record ParenOf (before : List Placed) (byte : ℕ) (body : List Token) : Typ
   pub split : before ≡ earlier ++ (byte, ASign OpenParen) ∷ inner
   pub written : lexemes inner ≡ map lexeme_of body
 
+head_is : (l m : Lexeme) (ls ms : List Lexeme) → l ∷ ls ≡ m ∷ ms → l ≡ m
+head_is l m ls ms e = cc
+
+tail_is : (l m : Lexeme) (ls ms : List Lexeme) → l ∷ ls ≡ m ∷ ms → ls ≡ ms
+tail_is l m ls ms e = cc
+
+some_is : (x y : ℕ) → Some x ≡ Some y → x ≡ y
+some_is x y e = cc
+
 split_at : (before : List Placed) (out body : List Token) (byte : ℕ) → lexemes before ≡ map lexeme_of (out ++ mark 40 ∷ body)
     → place_at before (length out) ≡ Some byte → ParenOf before byte body
 split_at [] out body byte e p = absurd (cc)
-split_at ((x, l) ∷ ls) [] body byte e p =
-    let same : x ≡ byte = cc in
-    let paren : l ≡ ASign OpenParen = cc in
-    let after : lexemes ls ≡ map lexeme_of body = cc in
+split_at (m ∷ ls) [] body byte e p =
+    let same = some_is m.0 byte p in
+    let paren = head_is m.1 (ASign OpenParen) (lexemes ls) (map lexeme_of body) e in
+    let after = tail_is m.1 (ASign OpenParen) (lexemes ls) (map lexeme_of body) e in
     record { earlier = []; inner = ls; split = (λ i. (same i, paren i) ∷ ls); written = after }
-split_at (l ∷ ls) (t ∷ out) body byte e p =
-    let after : lexemes ls ≡ map lexeme_of (out ++ mark 40 ∷ body) = cc in
+split_at (m ∷ ls) (t ∷ out) body byte e p =
+    let after = tail_is m.1 (lexeme_of t) (lexemes ls) (map lexeme_of (out ++ mark 40 ∷ body)) e in
     let s = split_at ls out body byte after p in
-    record { earlier = l ∷ s.earlier; inner = s.inner; split = ap (λ (ms : List Placed). l ∷ ms) s.split; written = s.written }
+    record { earlier = m ∷ s.earlier; inner = s.inner; split = ap (λ (ms : List Placed). m ∷ ms) s.split; written = s.written }
 
 part_text_is : (base : Option Slice) (ps : List Part) (q : Part) (below : List Frame)
     → so_far (at (in_cell base ps (after_part q)) below) ≡ (outside base ps below ++ bang q.exotic) ++ mark 40 ∷ bits q.bits ∷ more (map cell q.refs)

@@ -12,7 +12,7 @@ use Rattle.value_text.specs.Division.{Divides, Placed, lexeme_of, lexemes, none,
 use Rattle.value_text.specs.DivisionLaws.{AreTokens, IsToken, divided_spaced}
 use Rattle.value_text.specs.Lexemes.{Spells, Stands}
 use Rattle.value_text.specs.Text.{count_before, hidden_entry, tokens}
-use Rattle.value_text.specs.Tokens.{Token}
+use Rattle.value_text.specs.Tokens.{Token, bits, mark}
 use Rattle.value_text.specs.Writes.{AreSpaces, TextWrites, in_order, is_space, keys_of, most_cells}
 use Rattle.value_grammar.specs.declared.cause.Cause.{Cause}
 use Rattle.value_grammar.specs.declared.cause.Cause.TheVariants.{BulkText, DeepText, KeyOrder, Range}
@@ -51,7 +51,8 @@ has_some (x ∷ xs) y ys = tt
 some_entry : (ps : List (List ℕ × Plain)) (us : List (List ℕ × Hidden)) → HasKey (keys_of (pairs_of ps) us) → HasSome (entry_tokens ps us)
 some_entry [] [] h = absurd h
 some_entry [] (u ∷ us) h = tt
-some_entry (p ∷ ps) us h = has_some (map hidden_entry (take (count_before p.0 us) us)) _ _
+some_entry (p ∷ ps) us h =
+    has_some (map hidden_entry (take (count_before p.0 us) us)) (bits p.0 ∷ mark 58 ∷ tokens p.1) (entry_tokens ps (drop (count_before p.0 us) us))
 
 entries_there : (ps : List (List ℕ × Plain)) (us : List (List ℕ × Hidden)) (last : List ℕ) → Ascends ps us last → HasSome (entry_tokens ps us)
 entries_there ps us last a =
@@ -123,7 +124,7 @@ made spot below values cells l place next e = by_limit (limit_of values cells sp
         → Made spot below values cells l place next
     by_limit (Some cause) f m g h = absurd (cc)
     by_limit None f (Err refusal) g h = absurd (cc)
-    by_limit None f (Ok to) g h = record { to = to; allowed = f; moved = g; is = (let s : next ≡ held_of to _ _ = cc in s) }
+    by_limit None f (Ok to) g h = record { to = to; allowed = f; moved = g; is = (let s : next ≡ held_of to (one_more (is_value_due spot && begins_value l) values) (one_more (is_cell_due spot && is_paren l) cells) = cc in s) }
 
 -- ---- what is known where the steps lead
 
@@ -160,24 +161,25 @@ known_step before spot below values cells l place next k i e =
     let text = ok_then (move spot l place below) m.to (Written (so_far (at spot below)) l)
     (adds spot l place below (ready spot (length below) k.keeps.1) (map_order below k.keeps.0)) m.moved in
     let kept = ok_then (move spot l place below) m.to Keeps (keeps spot l place below k.keeps i p.deep p.order) m.moved in
-    let n = ok_then (move spot l place below) m.to (HasBegun _ _) (counts spot l place below) m.moved in
     let v : Bool = is_value_due spot && begins_value l in
     let c : Bool = is_cell_due spot && is_paren l in
+    let n = ok_then (move spot l place below) m.to (HasBegun (one_more v (parts_begun (at spot below))) (one_more c (cells_begun (at spot below))))
+    (counts spot l place below) m.moved in
     let K : Held → Type 0 = λ h. Known (before ++ l ∷ []) h.begun h.values h.cells in
     let T : List Token → Type 0 = λ ts. AreTokens ts in
     subst K (sym m.is)
     (record {
       written =
-        ap (λ (ls : List Lexeme). ls ++ l ∷ []) k.written
-        ∙ ap (λ (x : Lexeme). map lexeme_of (so_far (at spot below)) ++ x ∷ []) (sym (lexeme_of-token l p.beyond))
-        ∙ sym (map-append lexeme_of (so_far (at spot below)) (token_of l ∷ []))
-        ∙ ap (map lexeme_of) (sym text);
+          ap (λ (ls : List Lexeme). ls ++ l ∷ []) k.written
+          ∙ ap (λ (x : Lexeme). map lexeme_of (so_far (at spot below)) ++ x ∷ []) (sym (lexeme_of-token l p.beyond))
+          ∙ sym (map-append lexeme_of (so_far (at spot below)) (token_of l ∷ []))
+          ∙ ap (map lexeme_of) (sym text);
       are_tokens = subst T (sym text) (tokens_push (so_far (at spot below)) (token_of l) k.are_tokens (lexeme_token l i p.beyond));
       keeps = kept;
       all_values = ap (one_more v) k.all_values ∙ sym n.0;
       all_cells = ap (one_more c) k.all_cells ∙ sym n.1;
-      few_values = counted_few (is_value_due spot) (begins_value l) values most_parts (or_first _ _ p.bulk) k.few_values;
-      few_cells = counted_few (is_cell_due spot) (is_paren l) cells most_cells (or_second _ _ p.bulk) k.few_cells;
+      few_values = counted_few (is_value_due spot) (begins_value l) values most_parts (or_first (is_value_due spot && begins_value l && nat_le most_parts values) (is_cell_due spot && is_paren l && nat_le most_cells cells) p.bulk) k.few_values;
+      few_cells = counted_few (is_cell_due spot) (is_paren l) cells most_cells (or_second (is_value_due spot && begins_value l && nat_le most_parts values) (is_cell_due spot && is_paren l && nat_le most_cells cells) p.bulk) k.few_cells;
     })
 
 abbrev KnownAt : List Lexeme → Held → Type 0
@@ -236,15 +238,10 @@ all_spaces (c ∷ cs) e =
       | false ↦ λ f g. absurd (cc)
     ] refl e
 
-is_true : (b : Bool) → b ≡ true → IsTrue b
-is_true true e = tt
-is_true false e = absurd (cc)
-
-known_whole : (file rest : List ℕ) (before : List Placed) (end : ℕ) (o : Open) (values cells : ℕ) (v : Plain) → Divides 0 file before end rest → AreSpaces rest
-    → Known (lexemes before) o values cells → o ≡ at (done v) [] → TextWrites file v
-known_whole file rest before end o values cells v d s k w =
-    let K : Open → Type 0 = λ x. Known (lexemes before) x values cells in
-    let q = subst K w k in
+whole_alone : (file rest : List ℕ) (before : List Placed) (end : ℕ) (below : List Frame) (values cells : ℕ) (v : Plain) → Divides 0 file before end rest → AreSpaces rest
+    → Known (lexemes before) (at (done v) below) values cells → length below ≡ 0 → TextWrites file v
+whole_alone file rest before end (f ∷ below) values cells v d s q l = absurd (omega arith)
+whole_alone file rest before end [] values cells v d s q l =
     let f = q.keeps.1 in
     let e = q.all_values in
     let g = q.all_cells in
@@ -255,8 +252,15 @@ known_whole file rest before end o values cells v d s k w =
       writable = record { formed = f.0; levels = f.1; parts = omega (arith, e, m); cells = omega (arith, g, n) };
     }
 
+known_whole : (file rest : List ℕ) (before : List Placed) (end : ℕ) (o : Open) (below : List Frame) (values cells : ℕ) (v : Plain) → Divides 0 file before end rest
+    → AreSpaces rest → Known (lexemes before) o values cells → o ≡ at (done v) below → TextWrites file v
+known_whole file rest before end o below values cells v d s k w =
+    let K : Open → Type 0 = λ x. Known (lexemes before) x values cells in
+    let q = subst K w k in
+    whole_alone file rest before end below values cells v d s q q.keeps.1.2
+
 pub finished_writes : (file : List ℕ) (v : Plain) → Finishes file v → TextWrites file v
 finished_writes file v f =
     let r = f.reaches in
-    known_whole file r.rest r.before r.end f.held.begun f.held.values f.held.cells v r.divides
-    (is_true _ (all_spaces r.rest (sym r.left ∙ f.ends))) (reached_known file f.place f.held r) f.whole
+    known_whole file r.rest r.before r.end f.held.begun f.below f.held.values f.held.cells v r.divides
+    (all_spaces r.rest (sym r.left ∙ f.ends)) (reached_known file f.place f.held r) f.whole

@@ -6,7 +6,7 @@ use Rattle.value_text.specs.Division.{Divides, Placed, space_before, without_spa
 use Rattle.value_text.specs.Lexemes.{NothingStands, Stands}
 use Rattle.value_grammar.specs.declared.cause.Cause.{Cause}
 use Rattle.value_grammar.specs.declared.cause.Cause.TheVariants.{Syntax}
-use Rattle.value_grammar.specs.Open.{Open, at, done}
+use Rattle.value_grammar.specs.Open.{Frame, Spot, at, done}
 use Rattle.value_grammar.specs.Steps.{Held, run, start, step}
 
 -- the text up to a place, and the white space before the place, is divided into lexemes that lead there
@@ -25,11 +25,12 @@ pub record Finishes (file : List ℕ) (v : Plain) : Type 0 where
   pub held : Held
   pub reaches : Reaches file place held
   pub ends : drop place file ≡ []
-  pub whole : held.begun ≡ at (done v) []
+  pub below : List Frame
+  pub whole : held.begun ≡ at (done v) below
 
-abbrev pub IsUnfinished : Open → Type 0
-IsUnfinished (at (done v) below) = ⊥
-IsUnfinished o = Unit {0}
+abbrev pub IsUnfinished : Spot → Type 0
+IsUnfinished (done v) = ⊥
+IsUnfinished spot = Unit {0}
 
 -- the text is refused
 pub data Stops (file : List ℕ) : Cause → ℕ → Type 0 where
@@ -40,4 +41,5 @@ pub data Stops (file : List ℕ) : Cause → ℕ → Type 0 where
   at_nothing : {place : ℕ} {h : Held} → Reaches file place h → drop place file ≢ [] → NothingStands (drop place file)
       → Stops file Syntax place
   -- the text ends too early
-  at_end : {place : ℕ} {h : Held} → Reaches file place h → drop place file ≡ [] → IsUnfinished h.begun → Stops file Syntax place
+  at_end : {place : ℕ} {h : Held} → Reaches file place h → drop place file ≡ [] → (spot : Spot) (below : List Frame)
+      → h.begun ≡ at spot below → IsUnfinished spot → Stops file Syntax place

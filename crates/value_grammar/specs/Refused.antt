@@ -29,7 +29,7 @@ pub data RefusedAt (held : Open) (before : List Placed) (place : ℕ) (text : Li
   at_limit : {l : Lexeme} {n : ℕ} {cause : Cause} → Stands l n text → limit held l ≡ Some cause
       → RefusedAt held before place text cause place
   -- a cell is closed that there is none of; the place is that of its `(`, after which its bits and references stand
-  at_cell : {n byte : ℕ} {cause : Cause} {earlier inner : List Placed} → Stands (ASign CloseParen) n text → (p : Part)
+  at_cell : {n byte : ℕ} {cause : Cause} → Stands (ASign CloseParen) n text → (p : Part) (earlier inner : List Placed)
       → Closes held p → closed p ≡ Err cause → before ≡ earlier ++ (byte, ASign OpenParen) ∷ inner
       → lexemes inner ≡ map lexeme_of (bits p.bits ∷ more (map cell p.refs)) → RefusedAt held before place text cause byte
   -- no value can go on with the lexeme

@@ -1,16 +1,19 @@
 -- What the steps of the program answer.
-use Rattle.std.specs.Prelude.{◌≡◌, ◌≤◌, ℕ, Result, Ok, Err}
+use Rattle.std.specs.Prelude.{◌≡◌, ◌<◌, ◌≤◌, ℕ, List, length, None, Result, Ok, Err}
 use Rattle.cell_nodes.specs.declared.tree.Tree.{Tree}
 use Rattle.typed_value.specs.Values.{most_parts}
 use Rattle.value_text.specs.Writes.{most_cells}
+use Rattle.value_text.specs.declared.lexeme.Lexeme.{Lexeme}
 use Rattle.value_grammar.specs.declared.cause.Cause.{Cause}
 use Rattle.value_grammar.specs.declared.cause.Cause.TheVariants as causes
 use Rattle.value_grammar.specs.Steps.{Outcome, Refusal, Stepped}
+use Rattle.value_grammar.specs.Reading.{Reaches}
+use Rattle.value_grammar.specs.Within.{limit_of}
 use Rattle.value_parse.specs.declared.error.TextError.{TextError}
 use Rattle.value_parse.specs.declared.error.TextError.TheVariants.{Syntax, Range, KeyOrder, DeepText, BulkText, NoMemory}
 use Rattle.value_parse.specs.declared.state.Open.{Open}
 use Rattle.value_parse.specs.declared.state.State.{State}
-use Rattle.value_parse.specs.View.{held, open_of}
+use Rattle.value_parse.specs.View.{frames, held, open_of, spot}
 
 abbrev pub error_of : Cause → ℕ → TextError
 error_of causes.Syntax place = Syntax place
@@ -46,7 +49,18 @@ Closes (Err e) out place = IfRefused e (λ cause byte. (out ≡ Err cause) × (b
 abbrev pub IsCounted : State → Type 0
 IsCounted s = (s.values ≤ most_parts) × (s.cells ≤ most_cells)
 
+-- the lexeme passes no limit
+abbrev pub IsAllowed : State → Lexeme → Type 0
+IsAllowed s l = limit_of s.values s.cells (spot s.begun.spot) (frames s.begun.below.items) l ≡ None
+
 -- what is answered for a text, unless memory runs out
 abbrev pub IfParsed : {A : Type 0} → Result A TextError → (A → Type 0) → (Cause → ℕ → Type 0) → Type 0
 IfParsed (Ok v) P Q = P v
 IfParsed (Err e) P Q = IfRefused e Q
+
+-- the steps lead from a place of a text to a further one
+pub record IsFurther (text : List ℕ) (place : ℕ) (s : State) (to : ℕ) : Type 0 where
+  pub reached : Reaches text to (held s)
+  pub counted : IsCounted s
+  pub further : place < to
+  pub within : to ≤ length text

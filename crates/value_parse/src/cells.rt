@@ -1,10 +1,11 @@
 //! Cells that are written in a text.
-ghost use Rattle.std.specs.Prelude.{◌≡◌, ◌++◌, ◌∷◌, [], ◌≤◌, map, IfOk, Some};
+ghost use Rattle.std.specs.Prelude.{◌≡◌, ◌==◌, ◌+◌, ◌++◌, ◌∷◌, [], ◌≤◌, map, if◌then◌else◌, IfOk};
 ghost use Rattle.typed_value.specs.View.{slice_of};
 ghost use Rattle.cell_nodes.specs.Layout.{exotic_kind};
-ghost use Rattle.cell_nodes.specs.Tree.{deepest, depth_over, marks, tree_of, union_of};
+ghost use Rattle.std.specs.Int.{bit_at};
+ghost use Rattle.cell_nodes.specs.Tree.{deepest, depth_over, marks, tree_of};
 ghost use Rattle.cell_nodes.specs.declared.tree.Kind.TheVariants.{Ordinary};
-ghost use Rattle.std.specs.Prelude.{List, ℕ, Ok, length};
+ghost use Rattle.std.specs.Prelude.{Ok, length};
 ghost use Rattle.value_grammar.specs.Steps as steps;
 ghost use Rattle.value_grammar.specs.Within as within;
 ghost use Rattle.value_parse.specs.Answer.{Closes, Moves};
@@ -13,7 +14,8 @@ ghost use Rattle.value_parse.specs.View as view;
 use crate::error::{TextError, no_go};
 use crate::give::give;
 use crate::state::{CellSpot, Frame, Open, Part, Spot};
-use cell_nodes::{Cell, CellError};
+use bit_slice::BitSlice;
+use cell_nodes::{Cell, CellError, Kind};
 use sqlite_items::Items;
 use std::alloc::Global;
 use tlb_memory::NoMemory;
@@ -34,30 +36,28 @@ fn depth_over(refs: &[Cell], level: u32) -> u16
     found
 }
 
-fn union_of(refs: &[Cell]) -> u8
-    ensures { result ≡ union_of (map marks refs.now) }
+// The depth at the level after level `i`, which is that of the level before where the mask doesn't have the level.
+fn depth_after(refs: &[Cell], mask: u8, i: u32, before: u16) -> u16
+    requires { i ≤ 2 }
+    ensures { result ≡ (if bit_at mask i == 1 then depth_over (i + 1) (map marks refs.now) else before) }
 {
-    let mut found: u8 = 0;
-    'refs: for child in refs {
-        found |= child.mask();
+    if (mask >> i) % 2 == 1 {
+        depth_over(refs, i + 1)
+    } else {
+        before
     }
-    found
 }
 
 // The greatest depth, at any level, of an ordinary cell with so many references.
-fn deepest(refs: &[Cell]) -> u16
-    ensures { (bits : List ℕ) → result ≡ deepest (tree_of Ordinary bits refs.now) }
+fn deepest(bits: BitSlice<'_>, refs: &[Cell]) -> u16
+    ensures { result ≡ deepest (tree_of Ordinary bits.entry refs.now) }
 {
-    let mask = union_of(refs);
-    let mut depth = depth_over(refs, 0);
-    let mut most = depth;
-    'levels: for i in 0..3u32 {
-        if (mask >> i) % 2 == 1 {
-            depth = depth_over(refs, i + 1);
-        }
-        most = most.max(depth);
-    }
-    most
+    let mask = Cell::mask_of(Kind::Ordinary, bits, refs);
+    let lowest = depth_over(refs, 0);
+    let first = depth_after(refs, mask, 0, lowest);
+    let second = depth_after(refs, mask, 1, first);
+    let third = depth_after(refs, mask, 2, second);
+    lowest.max(first).max(second).max(third)
 }
 
 fn closed_ordinary(alloc: Global, part: Part) -> Result<Cell, TextError>
@@ -70,7 +70,7 @@ fn closed_ordinary(alloc: Global, part: Part) -> Result<Cell, TextError>
             Err(CellError::TooDeep) => Err(TextError::DeepText(place)),
             Err(_) => Err(TextError::NoMemory),
         }
-    } else if deepest(part.refs.as_slice()) > 1024 {
+    } else if deepest(part.bits.slice(), part.refs.as_slice()) > 1024 {
         Err(TextError::DeepText(place))
     } else {
         Err(TextError::Range(place))

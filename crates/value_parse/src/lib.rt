@@ -5,11 +5,11 @@ mod cells;
 mod error;
 mod give;
 mod limit;
-mod parse;
 mod records;
 mod state;
 mod steps;
+mod text;
 
 pub use error::TextError;
-pub use parse::parse;
+pub use text::parse;
 pub use value_text::{PathError, parse_path, print};

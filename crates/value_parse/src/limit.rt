@@ -1,5 +1,5 @@
 //! Limits that a lexeme may pass.
-ghost use Rattle.std.specs.Prelude.{◌≡◌, bytes_eq, codes};
+ghost use Rattle.std.specs.Prelude.{◌≡◌, ◌&&◌, bytes_eq, codes};
 ghost use Rattle.value_text.specs.Writes.{comes_after};
 ghost use Rattle.value_grammar.specs.Within as within;
 ghost use Rattle.value_parse.specs.View as view;
@@ -49,8 +49,8 @@ pub(crate) fn is_x(name: &Name) -> bool
     name.text() == b"x".as_slice()
 }
 
-/// Whether a value begins with the lexeme.
-pub(crate) fn begins_value(lexeme: &Lexeme) -> bool
+// Whether a value begins with the lexeme.
+fn begins_value(lexeme: &Lexeme) -> bool
     ensures { result ≡ within.begins_value lexeme.now }
 {
     match lexeme {
@@ -69,7 +69,7 @@ fn begins_cell(lexeme: &Lexeme) -> bool
     }
 }
 
-pub(crate) fn is_paren(lexeme: &Lexeme) -> bool
+fn is_paren(lexeme: &Lexeme) -> bool
     ensures { result ≡ within.is_paren lexeme.now }
 {
     match lexeme {
@@ -87,8 +87,8 @@ fn is_beyond(lexeme: &Lexeme) -> bool
     }
 }
 
-/// Whether a value may begin there.
-pub(crate) fn is_value_due(spot: &Spot) -> bool
+// Whether a value may begin there.
+fn is_value_due(spot: &Spot) -> bool
     ensures { result ≡ within.is_value_due (view.spot spot.now) }
 {
     match spot {
@@ -106,8 +106,8 @@ fn is_part_due(spot: &CellSpot) -> bool
     }
 }
 
-/// Whether a cell's `(` may come there.
-pub(crate) fn is_cell_due(spot: &Spot) -> bool
+// Whether a cell's `(` may come there.
+fn is_cell_due(spot: &Spot) -> bool
     ensures { result ≡ within.is_cell_due (view.spot spot.now) }
 {
     match spot {
@@ -139,12 +139,26 @@ fn is_deep(spot: &Spot, below: &[Frame], lexeme: &Lexeme) -> bool
     }
 }
 
+/// Whether one more value begins there.
+pub(crate) fn is_one_value(spot: &Spot, lexeme: &Lexeme) -> bool
+    ensures { result ≡ (within.is_value_due (view.spot spot.now) && within.begins_value lexeme.now) }
+{
+    is_value_due(spot) && begins_value(lexeme)
+}
+
+/// Whether one more cell begins there.
+pub(crate) fn is_one_cell(spot: &Spot, lexeme: &Lexeme) -> bool
+    ensures { result ≡ (within.is_cell_due (view.spot spot.now) && within.is_paren lexeme.now) }
+{
+    is_cell_due(spot) && is_paren(lexeme)
+}
+
 // Whether one value or cell too many would begin.
 fn is_bulk(values: u32, cells: u32, spot: &Spot, lexeme: &Lexeme) -> bool
     ensures { result ≡ within.is_bulk values cells (view.spot spot.now) lexeme.now }
 {
-    let one_value_too_many = is_value_due(spot) && begins_value(lexeme) && values >= MOST_VALUES;
-    one_value_too_many || (is_cell_due(spot) && is_paren(lexeme) && cells >= MOST_CELLS)
+    (is_one_value(spot, lexeme) && values >= MOST_VALUES)
+        || (is_one_cell(spot, lexeme) && cells >= MOST_CELLS)
 }
 
 // Whether a key comes after the one before it, which does not begin it.

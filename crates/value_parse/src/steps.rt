@@ -1,14 +1,14 @@
 //! Steps from lexeme to lexeme.
-ghost use Rattle.std.specs.Prelude.{◌∷◌, [], IfOk};
+ghost use Rattle.std.specs.Prelude.{◌≡◌, ◌≤◌, ◌∷◌, [], IfOk};
 ghost use Rattle.value_grammar.specs.Steps as steps;
 ghost use Rattle.value_grammar.specs.Open as opened;
-ghost use Rattle.value_parse.specs.Answer.{IsCounted, Moves, Steps};
+ghost use Rattle.value_parse.specs.Answer.{IsAllowed, IsCounted, Moves, Steps};
 ghost use Rattle.value_parse.specs.View as view;
 
 use crate::cells::{begin_cell, begin_rest, in_rest, move_cell, open_rest};
 use crate::error::{TextError, no_go, refusal};
 use crate::give::{entered, give};
-use crate::limit::{begins_value, is_cell_due, is_paren, is_value_due, is_x, limit};
+use crate::limit::{is_one_cell, is_one_value, is_x, limit};
 use crate::records::{
     colon, enter, entry, in_list, in_map, in_record, key, key_or_end, label, label_or_end,
     open_record,
@@ -115,6 +115,35 @@ fn move_on(alloc: Global, begun: Open, lexeme: Lexeme, place: u64) -> Result<Ope
     }
 }
 
+fn one_more(more: bool, count: u32) -> u32
+    requires { count ≤ 1048576 }
+    ensures { result ≡ steps.one_more more count }
+{
+    if more { count + 1 } else { count }
+}
+
+// The state after a lexeme that passes no limit.
+fn go_on(alloc: Global, state: State, lexeme: Lexeme, place: u64) -> Result<State, TextError>
+    requires counted { IsCounted state }
+    requires allowed { IsAllowed state lexeme }
+    ensures steps { Steps result (steps.step (view.held state) (place, lexeme)) }
+    ensures counted { IfOk result IsCounted }
+{
+    let State {
+        begun,
+        values,
+        cells,
+    } = state;
+    let values = one_more(is_one_value(&begun.spot, &lexeme), values);
+    let cells = one_more(is_one_cell(&begun.spot, &lexeme), cells);
+    let begun = move_on(alloc, begun, lexeme, place)?;
+    Ok(State {
+        begun,
+        values,
+        cells,
+    })
+}
+
 /// The state after one more lexeme, which stands at that place.
 pub(crate) fn step(
     alloc: Global,
@@ -126,20 +155,8 @@ pub(crate) fn step(
     ensures steps { Steps result (steps.step (view.held state) (place, lexeme)) }
     ensures counted { IfOk result IsCounted }
 {
-    let State {
-        begun,
-        values,
-        cells,
-    } = state;
-    if let Some(cause) = limit(values, cells, &begun, &lexeme) {
-        return Err(refusal(cause, place));
+    match limit(state.values, state.cells, &state.begun, &lexeme) {
+        Some(cause) => Err(refusal(cause, place)),
+        None => go_on(alloc, state, lexeme, place),
     }
-    let values = values + u32::from(is_value_due(&begun.spot) && begins_value(&lexeme));
-    let cells = cells + u32::from(is_cell_due(&begun.spot) && is_paren(&lexeme));
-    let begun = move_on(alloc, begun, lexeme, place)?;
-    Ok(State {
-        begun,
-        values,
-        cells,
-    })
 }
