@@ -52,6 +52,9 @@ fn the_lines_of_dictionaries_are_the_declared_ones(rt: HostRuntime) {
 
 #[test]
 fn the_lines_of_dictionaries_pass(rt: HostRuntime) {
-    let kinded = kind_check(rt.alloc(), schema(&rt, rt.alloc(), TEXT)).expect(&rt, "accepted kinds");
+    let kinded = kind_check(rt.alloc(), schema(&rt, rt.alloc(), TEXT)).expect(
+        &rt,
+        "accepted kinds",
+    );
     assert!(rt; kinded.schema().constructors.len() == LINES.len());
 }
