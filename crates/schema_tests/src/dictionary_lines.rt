@@ -2,6 +2,7 @@
 use crate::texts::schema;
 use std::alloc::Global;
 use std::process::Abort;
+use tag_ambiguity::separate;
 use tlb_grammar::{Constructor, canonical};
 use tlb_kinds::kind_check;
 
@@ -51,10 +52,8 @@ fn the_lines_of_dictionaries_are_the_declared_ones(rt: HostRuntime) {
 }
 
 #[test]
-fn the_lines_of_dictionaries_pass(rt: HostRuntime) {
-    let kinded = kind_check(rt.alloc(), schema(&rt, rt.alloc(), TEXT)).expect(
-        &rt,
-        "accepted kinds",
-    );
-    assert!(rt; kinded.schema().constructors.len() == LINES.len());
+fn the_lines_of_dictionaries_are_accepted(rt: HostRuntime) {
+    let kinded = kind_check(rt.alloc(), schema(&rt, rt.alloc(), TEXT)).expect(&rt, "kinds");
+    let accepted = separate(rt.alloc(), kinded).expect(&rt, "separated constructors");
+    assert!(rt; accepted.counts() == (6, 11));
 }
