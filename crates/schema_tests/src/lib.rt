@@ -2,6 +2,8 @@
 #![tactic(auto)]
 
 #[cfg(test)]
+mod dictionary_lines;
+#[cfg(test)]
 mod judgements;
 #[cfg(test)]
 mod lead_rows;

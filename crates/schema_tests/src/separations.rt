@@ -97,7 +97,8 @@ static LONG: [&str; 2] = [
 
 fn is_too_long(rt: &impl Abort, alloc: Global, text: &str) -> bool {
     match separate(alloc, kinded(rt, alloc, text)) {
-        Err(TagError::TagTooLong(of, c)) => of.text() == b"A".as_slice() && c.text() == b"a".as_slice(),
+        Err(TagError::TagTooLong(of, c)) => of.text() == b"A".as_slice()
+            && c.text() == b"a".as_slice(),
         _ => false,
     }
 }
