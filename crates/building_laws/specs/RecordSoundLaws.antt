@@ -42,7 +42,6 @@ use Rattle.building_laws.specs.CompleteLaws.{check_ends, solve_ends, ended, cand
 use Rattle.building_laws.specs.GoesLaws.{Goes, goes_as, goes_then, goes_none, then_join, WasPut, was_put, goes_put, put_held, empty_held, held_good, below_of, made_same, alone_put, bits_put, bits_held}
 use Rattle.building_laws.specs.MoveLaws.{slice_eta, then_whole, IsHeld, made, or_assoc, or_false, took_same}
 use Rattle.building_laws.specs.RangeLaws.{in_range_is, pruned_good, can_hide, hidden-below}
-
 use Rattle.building_laws.specs.SoundLaws.{Keeps, AllSound, ShapeSound, IsSpelled, IsSpelledAt}
 
 -- ---- lists
@@ -171,7 +170,7 @@ fields_sound mode schema R h (an_item (field y slot c t) is) (a_val v vs) sound 
       λ z. more.2 (one.2 z),
     )
 
-same_is : (xs ys : List Word) → same_words xs ys ≡ true → xs ≡ ys
+pub same_is : (xs ys : List Word) → same_words xs ys ≡ true → xs ≡ ys
 same_is [] [] e = refl
 same_is [] (y ∷ ys) e = cc
 same_is (x ∷ xs) [] e = cc
