@@ -2,7 +2,7 @@
 --
 -- Source: this project's own, over what spells a value.
 use Rattle.std.specs.Prelude.{ℕ, zero, suc, ◌+◌, ◌≡◌, ◌≢◌, ◌<◌, ◌≤◌, ◌⊎◌, ℤ, Bool, true, false, List, [], ◌∷◌, ◌++◌, length, Option, Some, None, Result, Ok, Err}
-use Rattle.bit_slice.specs.Bits.{spelled, signed_spelled, InSignedRange}
+use Rattle.bit_slice.specs.Bits.{AreBits, spelled, signed_spelled, InSignedRange}
 use Rattle.nat_solver.specs.Number.{Expr, Compares}
 use Rattle.cell_nodes.specs.Constructed.{pruned_of}
 use Rattle.cell_nodes.specs.Good.{IsGood}
@@ -174,7 +174,7 @@ pub data UnfitTree (h : Spot) (n : ℕ) (es : Entries) (b : Grown) (p : Place) :
   hidden_tree : (x : Hidden) → es ≡ ([], hidden x) ∷ []
       → UnfitPut h (with_one (pruned_of x.hash x.depth)) (1023 < x.depth) b p → UnfitTree h n es b p
   in_edges : (f : Excess) → Exceeds n es f → p ≡ stuck h (cause_of f) → UnfitTree h n es b p
-  reference : (s : Slice) → DictTree Partial n es s → IsWithin s
+  reference : (s : Slice) → DictTree Partial n es s → IsWithin s → AreBits s.bits
       → UnfitPut h (with_one (cell_of s)) (IsDeep (cell_of s)) b p → UnfitTree h n es b p
 
 abbrev pub UnfitDictE : Mode → Misfits → Lays → Spot → ℕ → Closed → ℕ → PlainPairs → List (List ℕ × Hidden) → Grown

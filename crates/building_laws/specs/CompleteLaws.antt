@@ -227,7 +227,7 @@ fields_complete most mode schema R h (an_item (field y slot c t) is) seeks (a_va
     )
 
 -- the words of a record are those of the items
-same_on : (xs : List Word) → same_words xs xs ≡ true
+pub same_on : (xs : List Word) → same_words xs xs ≡ true
 same_on [] = refl
 same_on (x ∷ xs) = both_on (bytes_eq x x) (same_words xs xs) ((bytes_eq-Decides x x).1 refl) (same_on xs)
 
@@ -261,7 +261,7 @@ candidate_is type name args c scope e = go (bytes_eq c.of_type type) refl (bytes
     go false f y k e = cc
 
 -- the first one that is found is the one that stands there, since no other has its name
-choose_on : (type name : Word) (args : ClosedArgs) (schema : CoreSchema)
+pub choose_on : (type name : Word) (args : ClosedArgs) (schema : CoreSchema)
     → ((i j : ℕ) (c e : Declaration) → slice_get schema i ≡ Some c → slice_get schema j ≡ Some e
     → c.of_type ≡ e.of_type → c.shown ≡ e.shown → i ≡ j)
     → (at : ℕ) (c : Declaration) (scope : Scope) → Meets schema type name args at c scope

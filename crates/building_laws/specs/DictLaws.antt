@@ -121,7 +121,7 @@ unseen_partial Whole c x u = cc
 unseen_partial Lax c x u = cc
 unseen_partial Partial c x u = refl
 
-hashed_of : (mode : Mode) (es : Entries) → AreHashes (hidden_in es) → AreHashed mode es
+pub hashed_of : (mode : Mode) (es : Entries) → AreHashes (hidden_in es) → AreHashed mode es
 hashed_of mode [] h = tt
 hashed_of mode ((k, leaf c) ∷ es) h = hashed_of mode es h
 hashed_of mode ((k, hidden x) ∷ es) h = (λ c fine u. one c fine u, hashed_of mode es h.1)

@@ -62,7 +62,7 @@ after_is : (k : List ℕ) (es : Entries) → goes_before k (blank es) ≡ true �
 after_is k [] e = tt
 after_is k (f ∷ es) e = before-true k f.0 e
 
-order_is : (n : ℕ) (es : Entries) → in_order n (blank es) ≡ true → AreInOrder n es
+pub order_is : (n : ℕ) (es : Entries) → in_order n (blank es) ≡ true → AreInOrder n es
 order_is n [] e = tt
 order_is n (f ∷ es) e =
     let a = both (may_stand n f.0 (blank_part f.1)) _ e in
@@ -127,11 +127,11 @@ child_is q es a e = go (sibling q) refl e
         by p (inr h) w = let P : List ℕ → Type 0 = λ z. HasBelow z es in inr (h.0, subst P h.1 w)
 
 -- keys that are bits
-abbrev AllKeys : Entries → Type 0
+abbrev pub AllKeys : Entries → Type 0
 AllKeys [] = Unit {0}
 AllKeys (e ∷ es) = AreBits e.0 × AllKeys es
 
-keys_are : (n : ℕ) (es : Entries) → in_order n (blank es) ≡ true → AllKeys es
+pub keys_are : (n : ℕ) (es : Entries) → in_order n (blank es) ≡ true → AllKeys es
 keys_are n [] e = tt
 keys_are n (f ∷ es) e =
     let a = both (may_stand n f.0 (blank_part f.1)) _ e in
@@ -139,7 +139,7 @@ keys_are n (f ∷ es) e =
     let c = both (goes_before f.0 (blank es)) (in_order n (blank es)) b.1 in
     (AreBits-are_bits f.0 b.0, keys_are n es c.1)
 
-placed_is : (fs es : Entries) → AllKeys fs → are_placed (blank fs) (blank es) ≡ true → ArePlaced fs es
+pub placed_is : (fs es : Entries) → AllKeys fs → are_placed (blank fs) (blank es) ≡ true → ArePlaced fs es
 placed_is [] es k e q h a = absurd a
 placed_is ((p, leaf c) ∷ fs) es k e q h (inl a) = absurd (never a.1)
   where
@@ -153,11 +153,11 @@ placed_is ((p, hidden x) ∷ fs) es k e q h (inl a) =
 placed_is ((p, hidden x) ∷ fs) es k e q h (inr a) =
     placed_is fs es k.1 (both (has_some_below (sibling p) (blank es)) (are_placed (blank fs) (blank es)) e).1 q h a
 
-some_is : (es : Entries) → has_some (blank es) ≡ true → 0 < length es
+pub some_is : (es : Entries) → has_some (blank es) ≡ true → 0 < length es
 some_is [] e = cc
 some_is (f ∷ es) e = omega arith
 
-none_is : (us : Unknowns) → is_none us ≡ true → us ≡ []
+pub none_is : (us : Unknowns) → is_none us ≡ true → us ≡ []
 none_is [] e = refl
 none_is (u ∷ us) e = cc
 
@@ -170,7 +170,7 @@ admitted Whole es e = inl (none_is (hidden_in (blank es)) e)
 admitted Partial es e = inr refl
 admitted Lax es e = inl (none_is (hidden_in (blank es)) e)
 
-hidden_blank : (es : Entries) → hidden_in (blank es) ≡ hidden_in es
+pub hidden_blank : (es : Entries) → hidden_in (blank es) ≡ hidden_in es
 hidden_blank [] = refl
 hidden_blank ((k, leaf c) ∷ es) = hidden_blank es
 hidden_blank ((k, hidden x) ∷ es) = ap (λ (l : Unknowns). (k, x) ∷ l) (hidden_blank es)

@@ -1,5 +1,5 @@
 -- What the laws say: facts about the definitions alone.
-use Rattle.std.specs.Prelude.{◌≡◌, ◌≤◌, ◌↔◌, Ok}
+use Rattle.std.specs.Prelude.{◌≡◌, ◌≤◌, ◌↔◌, Ok, Err}
 use Rattle.cell_nodes.specs.Good.{IsGood}
 use Rattle.cell_nodes.specs.Tree.{unfolded}
 use Rattle.cell_nodes.specs.declared.tree.Mode.{Mode}
@@ -9,10 +9,12 @@ use Rattle.hashmap_tree.specs.Dict.{forms_of}
 use Rattle.typed_value.specs.Values.{Plain}
 use Rattle.core_form.specs.Core.{CoreSchema}
 use Rattle.core_form.specs.Closed.{Closed}
+use Rattle.spelling.specs.Places.{Place}
 use Rattle.spelling.specs.PlainReader.{read}
 use Rattle.spelling.specs.Spells.{Reading}
 use Rattle.building.specs.Buildable.{IsBuildable, InRange}
 use Rattle.building.specs.PlainBuilder.{most_cells, build}
+use Rattle.building.specs.Unfit.{Unfit}
 
 -- a good tree within the limit of cells that has the value as its reading
 pub record IsTreeOf (mode : Mode) (schema : CoreSchema) (t : Closed) (v : Plain) (c : Tree) : Type 0 where
@@ -56,3 +58,23 @@ ReadThenBuild =
     (mode : Mode) → forms_of mode ≡ Required → (schema : CoreSchema) → IsBuildable schema → (t : Closed) (v : Plain)
     → InRange v → (c : Tree) → IsGood c → unfolded c ≤ most_cells → read mode schema t c ≡ Ok v
     → build mode schema t v ≡ Ok c
+
+-- ---- where a value doesn't fit
+
+-- where a value is unfit the plain builder stops at that place
+abbrev pub UnfitStops : Type 0
+UnfitStops =
+    (mode : Mode) → forms_of mode ≡ Required → (schema : CoreSchema) → IsBuildable schema → (t : Closed) (v : Plain)
+    → InRange v → (p : Place) → Unfit mode schema t v p → build mode schema t v ≡ Err p
+
+-- so it is unfit at one place at most
+abbrev pub OnePlace : Type 0
+OnePlace =
+    (mode : Mode) → forms_of mode ≡ Required → (schema : CoreSchema) → IsBuildable schema → (t : Closed) (v : Plain)
+    → InRange v → (p q : Place) → Unfit mode schema t v p → Unfit mode schema t v q → p ≡ q
+
+-- and has no tree then
+abbrev pub NoTreeWhereUnfit : Type 0
+NoTreeWhereUnfit =
+    (mode : Mode) → forms_of mode ≡ Required → (schema : CoreSchema) → IsBuildable schema → (t : Closed) (v : Plain)
+    → InRange v → (c : Tree) (p : Place) → IsTreeOf mode schema t v c → Unfit mode schema t v p → ⊥

@@ -3,11 +3,14 @@ pub mod BuiltRootLaws
 pub mod CompleteLaws
 pub mod DictLaws
 pub mod DictSoundLaws
+pub mod DictStandsLaws
 pub mod GoesLaws
 pub mod Laws
 pub mod MapLaws
+pub mod MapStandsLaws
 pub mod MoveLaws
 pub mod OneTreeLaws
+pub mod PlaceLaws
 pub mod PlantLaws
 pub mod PlantSoundLaws
 pub mod RangeLaws
@@ -18,3 +21,5 @@ pub mod ShapeLaws
 pub mod SizeLaws
 pub mod SoundLaws
 pub mod SpelledLaws
+pub mod StandsLaws
+pub mod UnfitLaws

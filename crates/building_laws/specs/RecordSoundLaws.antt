@@ -170,7 +170,7 @@ fields_sound mode schema R h (an_item (field y slot c t) is) (a_val v vs) sound 
       λ z. more.2 (one.2 z),
     )
 
-same_is : (xs ys : List Word) → same_words xs ys ≡ true → xs ≡ ys
+pub same_is : (xs ys : List Word) → same_words xs ys ≡ true → xs ≡ ys
 same_is [] [] e = refl
 same_is [] (y ∷ ys) e = cc
 same_is (x ∷ xs) [] e = cc

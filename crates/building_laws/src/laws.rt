@@ -1,5 +1,5 @@
 //! What follows from the definitions alone. Each function states one law; its body is empty.
-ghost use Rattle.building_laws.specs.Laws.{BuildIsExact, BuildThenRead, BuiltIsTree, OneTree, ReadThenBuild, TreeIsBuilt};
+ghost use Rattle.building_laws.specs.Laws.{BuildIsExact, BuildThenRead, BuiltIsTree, NoTreeWhereUnfit, OnePlace, OneTree, ReadThenBuild, TreeIsBuilt, UnfitStops};
 
 /// In modes Whole and Partial two good trees with one reading are equal.
 pub fn one_tree()
@@ -29,4 +29,19 @@ pub fn build_then_read()
 /// What is read of a good tree within the limit of cells is built to the same tree.
 pub fn read_then_build()
     ensures { ReadThenBuild }
+{}
+
+/// Where a value is unfit the plain builder stops at that place.
+pub fn unfit_stops()
+    ensures { UnfitStops }
+{}
+
+/// So it is unfit at one place at most.
+pub fn one_place()
+    ensures { OnePlace }
+{}
+
+/// And has no tree then.
+pub fn no_tree_where_unfit()
+    ensures { NoTreeWhereUnfit }
 {}
