@@ -1,0 +1,7 @@
+pub mod Blanked
+pub mod Cut
+pub mod Knowing
+pub mod Laid
+pub mod Lies
+pub mod Spots
+pub mod Thinned

@@ -1,0 +1,10 @@
+pub mod ChoiceLaws
+pub mod CleanLaws
+pub mod KeyLaws
+pub mod KnownLaws
+pub mod LaidLaws
+pub mod PlaceLaws
+pub mod ReadsLaws
+pub mod RootLaws
+pub mod SizeLaws
+pub mod TrieLaws
