@@ -197,16 +197,16 @@ one_content schema (a_pair l v no_pairs) able t k c h =
 one_content schema (a_pair l v (a_pair m w ps)) able t k c h = absurd h.3
 
 -- the pairs of the entries below these bits, without them, and the pairs of the others
-split_contents : (schema : CoreSchema) (p : List ℕ) (zs rest : Entries) (ps : PlainPairs) → ByAble schema ps
-    → (t : Closed) → Contents (EachPair Whole schema ps) t (pairs_in (under p zs ++ rest))
+split_contents : (schema : CoreSchema) (p : List ℕ) (zs others : Entries) (ps : PlainPairs) → ByAble schema ps
+    → (t : Closed) → Contents (EachPair Whole schema ps) t (pairs_in (under p zs ++ others))
     → (xs : PlainPairs) × (ys : PlainPairs) × (ps ≡ join (below p xs) ys) × ByAble schema xs × ByAble schema ys
-    × Contents (EachPair Whole schema xs) t (pairs_in zs) × Contents (EachPair Whole schema ys) t (pairs_in rest)
-split_contents schema p [] rest ps able t h = (no_pairs, ps, refl, tt, able, refl, h)
-split_contents schema p ((k, leaf c) ∷ zs) rest no_pairs able t h = absurd (cc)
-split_contents schema p ((k, leaf c) ∷ zs) rest (a_pair l v ps) able t h =
-    let r = split_contents schema p zs rest ps able.1 t h.3 in
+    × Contents (EachPair Whole schema xs) t (pairs_in zs) × Contents (EachPair Whole schema ys) t (pairs_in others)
+split_contents schema p [] others ps able t h = (no_pairs, ps, refl, tt, able, refl, h)
+split_contents schema p ((k, leaf c) ∷ zs) others no_pairs able t h = absurd (cc)
+split_contents schema p ((k, leaf c) ∷ zs) others (a_pair l v ps) able t h =
+    let r = split_contents schema p zs others ps able.1 t h.3 in
     (a_pair k v r.0, r.1, (λ i. a_pair ((sym h.1) i) v (r.2 i)), (able.0, r.3), r.4, (h.0, refl, h.2, r.5), r.6)
-split_contents schema p ((k, hidden u) ∷ zs) rest ps able t h = split_contents schema p zs rest ps able t h
+split_contents schema p ((k, hidden u) ∷ zs) others ps able t h = split_contents schema p zs others ps able t h
 
 lift_contents : (schema : CoreSchema) (p : List ℕ) (zs : Entries) (ps : PlainPairs) → ByAble schema ps → (t : Closed)
     → Contents (EachPair Whole schema ps) t (pairs_in (under p zs))
@@ -219,10 +219,10 @@ lift_contents schema p ((k, leaf c) ∷ zs) (a_pair l v ps) able t h =
     (a_pair k v r.0, (λ i. a_pair ((sym h.1) i) v (r.1 i)), (able.0, r.2), (h.0, refl, h.2, r.3))
 lift_contents schema p ((k, hidden u) ∷ zs) ps able t h = lift_contents schema p zs ps able t h
 
-no_hidden : (p : List ℕ) (zs rest : Entries) → hidden_in zs ≡ [] → hidden_in (under p zs ++ rest) ≡ hidden_in rest
-no_hidden p [] rest h = refl
-no_hidden p ((k, leaf c) ∷ zs) rest h = no_hidden p zs rest h
-no_hidden p ((k, hidden u) ∷ zs) rest h = absurd (cc)
+no_hidden : (p : List ℕ) (zs others : Entries) → hidden_in zs ≡ [] → hidden_in (under p zs ++ others) ≡ hidden_in others
+no_hidden p [] others h = refl
+no_hidden p ((k, leaf c) ∷ zs) others h = no_hidden p zs others h
+no_hidden p ((k, hidden u) ∷ zs) others h = absurd (cc)
 
 none_hidden : (p : List ℕ) (zs : Entries) → hidden_in zs ≡ [] → hidden_in (under p zs) ≡ []
 none_hidden p [] h = refl

@@ -1,3 +1,4 @@
+pub mod BlankedLaws
 pub mod ChoiceLaws
 pub mod CleanLaws
 pub mod KeyLaws

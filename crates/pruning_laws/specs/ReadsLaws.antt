@@ -1,6 +1,6 @@
 -- A laid value with parts hidden: the references that it then takes prune those that it takes, and spell it with these
 -- parts hidden.
-use Rattle.std.proofs.Common.{◌≡◌, ◌⊎◌, inl, inr, ℕ, suc, ◌+◌, Bool, true, false, ◌||◌, nat_lt, List, [], ◌∷◌, ◌++◌, length, Option, Some, None, Ok, refl, sym, ap, ◌∙◌, subst, arith, append_assoc, length-append}
+use Rattle.std.proofs.Common.{◌≡◌, ◌⊎◌, inl, inr, ℕ, suc, ◌+◌, Bool, true, false, ◌||◌, ◌≤◌, nat_lt, List, [], ◌∷◌, ◌++◌, length, Option, Some, None, Ok, refl, sym, ap, ◌∙◌, subst, arith, append_assoc, length-append}
 use Rattle.std.proofs.lemmas.List.{append-nil, nil_from_length}
 use Rattle.cell_nodes.specs.Constructed.{stub}
 use Rattle.cell_nodes.specs.Equations.{out-tree_of}
@@ -233,16 +233,16 @@ cell_prunes c s qs e a =
     let Q : Tree → Type 0 = λ p. Prunes c p 0 in
     subst Q (sym (cell-same c s qs e)) (subst P (sym e) (ordinary s.bits s.refs qs 0 a))
 
-cell_opens : (taken : Slice → Type 0) (c : Tree) (s : Slice) (qs : List Tree) → c ≡ cell_of s
-    → Goes (λ rs. taken (with_refs s (qs ++ rs))) qs s nothing → Opened taken c s qs
-cell_opens taken c s qs e x =
+cell_opens : (taken : Slice → Type 0) (before : List Tree → Type 0) (c : Tree) (s : Slice) (qs : List Tree)
+    → c ≡ cell_of s → Goes before qs s nothing → (before [] → taken (with_refs s (qs ++ []))) → Opened taken c s qs
+cell_opens taken before c s qs e x all =
     let S : List Tree → Type 0 = λ os. AllPrune os qs 0 in
     let T : List Tree → Type 0 = λ l. taken (with_refs s l) in
     let same : x.front ≡ s.refs = sym (append-nil x.front) ∙ sym x.parts in
     record {
       prunes = cell_prunes c s qs e (subst S same x.prune);
       cell = cell-same c s qs e;
-      spells = subst T (append-nil qs) (x.spells [] refl);
+      spells = subst T (append-nil qs) (all (x.spells [] refl));
     }
 
 pub record Held (schema : CoreSchema) (g : Goal) (c : Tree) (qs : List Tree) (u : Plain) : Type 0 where
@@ -275,11 +275,13 @@ holds_go schema K R d reads at_cell c clean k qs u cuts =
     absurd (no_cell schema d (only_ref c) k.0 nothing (subst P (sym (ok_cell k.2.0 k.2.1)) k.2.2))
 holds_go schema K R d reads (at_type t) c clean k qs u cuts =
     let x = at_goal schema K R d reads (at_type t) k.0 k.1 nothing qs u (clean-cell c k.0 k.2 clean) k.3 cuts in
-    let y = cell_opens (λ z. Spells Partial schema u (at_type t) z k.1 nothing) c k.0 qs k.2 x in
+    let y = cell_opens (λ z. Spells Partial schema u (at_type t) z k.1 nothing)
+    (λ rs. Spells Partial schema u (at_type t) (with_refs k.0 (qs ++ rs)) k.1 (with_refs nothing rs)) c k.0 qs k.2 x (λ h. h) in
     record { prunes = y.prunes; holds = (with_refs k.0 qs, k.1, y.cell, y.spells) }
 holds_go schema K R d reads (at_field e t scope) c clean k qs u cuts =
     let x = at_goal schema K R d reads (at_field e t scope) k.0 k.1 nothing qs u (clean-cell c k.0 k.2 clean) k.3 cuts in
-    let y = cell_opens (λ z. Spells Partial schema u (at_field e t scope) z k.1 nothing) c k.0 qs k.2 x in
+    let y = cell_opens (λ z. Spells Partial schema u (at_field e t scope) z k.1 nothing)
+    (λ rs. Spells Partial schema u (at_field e t scope) (with_refs k.0 (qs ++ rs)) k.1 (with_refs nothing rs)) c k.0 qs k.2 x (λ h. h) in
     record { prunes = y.prunes; holds = (with_refs k.0 qs, k.1, y.cell, y.spells) }
 
 -- ---- references
