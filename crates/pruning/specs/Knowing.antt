@@ -49,6 +49,11 @@ abbrev pub known : Plain → List Stride → Knowledge
 known v [] = if is_hidden v then NotKnown else Known
 known v (s ∷ steps) = if hides v s then NotKnown else known_at (step_at v s) (λ u. known u steps)
 
+-- what is known of a path on which nothing is hidden, by what it leads to
+abbrev pub as_named : Option Plain → Knowledge
+as_named None = KnownAbsent
+as_named (Some u) = Known
+
 -- ---- what a path names
 
 abbrev pub is_none : Option Plain → Bool

@@ -147,5 +147,8 @@ not true = false
 not false = true
 
 -- those that no chosen path keeps
+abbrev pub unless_kept : List (List Stride) → Spot → Bool
+unless_kept paths x = not (kept paths x)
+
 abbrev pub unkept : List (List Stride) → List Spot → List Spot
-unkept paths xs = chosen (λ x. not (kept paths x)) xs
+unkept paths xs = chosen (unless_kept paths) xs

@@ -6,6 +6,10 @@ use Rattle.cell_nodes.specs.declared.tree.Hidden.{Hidden}
 use Rattle.cell_nodes.specs.declared.tree.Kind.{Kind}
 use Rattle.cell_nodes.specs.declared.tree.Kind.TheVariants.{Ordinary, Pruned, Library, Proof, Update}
 use Rattle.cell_nodes.specs.declared.tree.Tree.{Tree, out-Tree}
+use Rattle.cell_nodes.specs.declared.tree.Mode.TheVariants.{Partial}
+use Rattle.core_form.specs.Core.{CoreSchema}
+use Rattle.core_form.specs.Closed.{Closed}
+use Rattle.spelling.specs.Spells.{Reading}
 use Rattle.typed_value.specs.Values.{Plain, Plains, PlainPairs, number, bit_string, record_of, absent, list_of, ref_to, unknown, map_of, raw, rest, no_vals, a_val, no_pairs, a_pair}
 use Rattle.pruning.specs.Spots.{Spot}
 
@@ -55,3 +59,9 @@ is_pruned (Some t) = is_pruned_kind (out-Tree t).kind
 -- whether the tree has a pruned branch at the position of the spot
 abbrev pub pruned_in : Tree → Spot → Bool
 pruned_in p x = is_pruned (subtree p x.position)
+
+-- the tree reads as the value, but that trees in a Raw or a Rest may be pruned
+pub record ReadsThinned (schema : CoreSchema) (t : Closed) (p : Tree) (v : Plain) : Type 0 where
+  pub value : Plain
+  pub reads : Reading Partial schema t p value
+  pub thins : Thins v value

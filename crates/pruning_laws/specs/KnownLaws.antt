@@ -12,9 +12,9 @@ use Rattle.pruning.specs.declared.Knowledge.{Knowledge}
 use Rattle.pruning.specs.declared.Knowledge.TheVariants.{Known, KnownAbsent, NotKnown}
 use Rattle.pruning.specs.Laid.{Laid, number, bit_string, record_of, absent, list_of, ref_to, ref_to_raw, no_map, map_under, map_here, rest, Laids, no_laids, a_laid, LaidEdge, a_leaf, a_fork, join, below, plain, plain_all, plain_pairs, trees}
 use Rattle.pruning.specs.Lies.{LaidRoot, as_it_is, laid, plain_root}
-use Rattle.pruning.specs.Spots.{Spot, Where, at_root, stepped, past, in_edge, in_ref, spot, first_name, other_names, same_stride, leads, takes_key, enters, needs, kept, not}
+use Rattle.pruning.specs.Spots.{Spot, Where, at_root, stepped, past, in_edge, in_ref, spot, first_name, other_names, same_stride, leads, takes_key, enters, needs, kept, not, unless_kept}
 use Rattle.pruning.specs.Blanked.{KeyPart, hidden_of, some_begin}
-use Rattle.pruning.specs.Knowing.{is_hidden, hides, hides_key, known_at, known}
+use Rattle.pruning.specs.Knowing.{is_hidden, hides, hides_key, known_at, known, as_named}
 use Rattle.pruning.specs.Cut.{Choice, Parts, below_parts, hidden_part, map_with, fork_part, blank, blank_fields, blank_items, blank_edge, blank_root}
 use Rattle.pruning_laws.specs.KeyLaws.{begins-append, stripped, zero-not_one, one-not_zero, some_begin-append, some_begin-same, some_begin-other, or_else, entry-join, entry-below, entry-other, GoesOn, to_zero, to_one, nowhere, goes_on}
 
@@ -278,11 +278,6 @@ shown_here f w (map_under c e) refs = refl
 shown_here f w (map_here e) refs = refl
 shown_here f w (rest r) refs = refl
 
--- what is known where nothing on the way is hidden
-abbrev pub as_named : Option Plain → Knowledge
-as_named None = KnownAbsent
-as_named (Some u) = Known
-
 pub known_way : (f : Choice) (steps : List Stride) (w : Where) (d : Laid) → WayKept f w.path steps
     → known (blank f w d) steps ≡ as_named (at_path (plain d) steps)
 known_way f [] w d kept = ap (λ (b : Bool). cond b NotKnown Known) (shown_here f w d kept)
@@ -330,10 +325,6 @@ is_kept (p ∷ paths) zero path x e h =
     let P : List Stride → Type 0 = λ p. (needs p x x.prefix || kept paths x) ≡ true in
     subst P (sym same) (ap (λ b. b || kept paths x) h)
 is_kept (p ∷ paths) (suc i) path x e h = or-right (needs p x x.prefix) (kept paths x) (is_kept paths i path x e h)
-
--- a choice that hides what no path keeps
-abbrev pub unless_kept : List (List Stride) → Choice
-unless_kept paths x = not (kept paths x)
 
 refs_kept : (paths : List (List Stride)) (i : ℕ) (path : List Stride) → slice_get paths i ≡ Some path
     → (m steps : List Stride) → path ≡ m ++ steps → RefsKept (unless_kept paths) m

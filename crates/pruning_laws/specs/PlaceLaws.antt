@@ -7,16 +7,13 @@ use Rattle.std.proofs.lemmas.Slice.Eq.{bytes_eq-Decides}
 use Rattle.cell_nodes.specs.declared.tree.Tree.{Tree}
 use Rattle.typed_value.specs.Paths.{Stride, named, item, keyed}
 use Rattle.pruning.specs.Laid.{Laid, number, bit_string, record_of, absent, list_of, ref_to, ref_to_raw, no_map, map_under, map_here, rest, Laids, no_laids, a_laid, LaidEdge, a_leaf, a_fork, trees}
+use Rattle.pruning.specs.Names.{NotAmong}
 use Rattle.pruning.specs.Spots.{Spot, Where, stepped, past, in_edge, in_ref, spot, first_name, other_names, spots, spots_fields, spots_items, edge_spots, value_spots, same_stride, chosen}
 use Rattle.pruning.specs.Blanked.{KeyPart, hidden_of, same_path, is_ref_at, ref_at, with_prefix, edges_at}
 use Rattle.pruning.specs.Cut.{Choice}
 use Rattle.pruning_laws.specs.KeyLaws.{stripped, stripped-some, zero-not_one}
 
 -- ---- names
-
-abbrev pub NotAmong : List ℕ → List (List ℕ) → Type 0
-NotAmong x [] = Unit {0}
-NotAmong x (y ∷ ys) = (x ≡ y → ⊥) × NotAmong x ys
 
 abbrev pub IsAmong : List ℕ → List (List ℕ) → Type 0
 IsAmong x [] = ⊥

@@ -211,7 +211,7 @@ fields_read schema K R (an_item (field g slot e t) is) (a_laid d ds) reads scope
 
 -- ---- cells
 
-bits-cell : (c : Tree) (s : Slice) → c ≡ cell_of s → (out-Tree c).bits ≡ s.bits
+pub bits-cell : (c : Tree) (s : Slice) → c ≡ cell_of s → (out-Tree c).bits ≡ s.bits
 bits-cell c s e = ap (λ (c : Tree). (out-Tree c).bits) e ∙ (λ i. (out-tree_of Ordinary s.bits s.refs i).bits)
 
 cell-same : (c : Tree) (s : Slice) (qs : List Tree) → c ≡ cell_of s → cell_with c qs ≡ cell_of (with_refs s qs)
@@ -249,7 +249,7 @@ pub record Held (schema : CoreSchema) (g : Goal) (c : Tree) (qs : List Tree) (u 
   pub prunes : Prunes c (cell_with c qs) 0
   pub holds : Holds Partial (Spells Partial schema u) g (cell_with c qs)
 
-no_cell : (schema : CoreSchema) (d : Laid) (s : Slice) (outs : List ℕ) (after : Slice)
+pub no_cell : (schema : CoreSchema) (d : Laid) (s : Slice) (outs : List ℕ) (after : Slice)
     → LiesShape schema d as_cell s outs after → ⊥
 no_cell schema (number negative size) s outs after e = e
 no_cell schema (bit_string bits) s outs after e = e
@@ -264,7 +264,7 @@ no_cell schema (map_under c e) s outs after h = h
 no_cell schema (map_here e) s outs after h = h
 no_cell schema (rest r) s outs after e = e
 
-ok_cell : (c : Shape) → shape_of at_cell ≡ Ok c → as_cell ≡ c
+pub ok_cell : (c : Shape) → shape_of at_cell ≡ Ok c → as_cell ≡ c
 ok_cell c h = cc
 
 pub holds_go : (schema : CoreSchema) (K : ForRest) (R : ForRaw) (d : Laid) → Reads schema K R d → (g : Goal) (c : Tree)
@@ -289,7 +289,7 @@ holds_go schema K R d reads (at_field e t scope) c clean k qs u cuts =
 no_level : 0 ≤ 2
 no_level = omega arith
 
-one_prunes : (c p : Tree) → Prunes c p 0 → AllPrune (c ∷ []) (p ∷ []) 0
+pub one_prunes : (c p : Tree) → Prunes c p 0 → AllPrune (c ∷ []) (p ∷ []) 0
 one_prunes c p a = more c p [] [] 0 a (none 0)
 
 -- one reference goes for another
