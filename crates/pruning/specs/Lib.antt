@@ -1,5 +1,6 @@
 pub mod Blanked
 pub mod Cut
+pub mod Examples
 pub mod Knowing
 pub mod Laid
 pub mod Lies

@@ -48,20 +48,20 @@ at_root_commutes schema names t c r clean small lies paths =
     })
 
 pub commutes : PruningCommutes
-commutes schema names t c v good level reading r same lies paths =
+commutes schema names t c v sound level reading r same lies paths =
     let P : Plain → Type 0 = λ v.
     Commutes schema t c (cut_root (unless_kept paths) r c) v (Blanked v (unkept paths (spots_of r))) paths in
     let Q : Plain → Type 0 = IsSmall in
     let small : IsSmall v = record { deep = reading.deep; large = reading.large } in
     subst P same
-    (at_root_commutes schema names t c r (record { good = good; level = level }) (subst Q (sym same) small) lies paths)
+    (at_root_commutes schema names t c r (record { good = sound; level = level }) (subst Q (sym same) small) lies paths)
 
 pub thinned : PrunedTreeReads
-thinned schema names t c v good level reading r same lies p prunes =
+thinned schema names t c v sound level reading r same lies p prunes =
     let P : Plain → Type 0 = λ v.
     (p ≡ stub c 0) ⊎ ReadsThinned schema t p (Blanked v (chosen (pruned_in p) (spots_of r))) in
     let Q : Plain → Type 0 = IsSmall in
     let small : IsSmall v = record { deep = reading.deep; large = reading.large } in
     subst P same
-    (root_thins schema t c p r (record { good = good; level = level }) lies (subst Q (sym same) small)
+    (root_thins schema t c p r (record { good = sound; level = level }) lies (subst Q (sym same) small)
     (root_apart schema names t c r lies) prunes)

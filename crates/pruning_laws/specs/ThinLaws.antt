@@ -152,17 +152,18 @@ pub record Placed (root : Tree) (w : Where) (ps : List Tree) : Type 0 where
 child_at : Tree → ℕ → Option Tree
 child_at t i = below_child (slice_get (out-Tree t).children i) (λ c. Some c)
 
+below-both : (o : Option Tree) (f : Tree → Option Tree) (g : Tree → Option Tree) (h : Tree → Option Tree)
+    → ((c : Tree) → h c ≡ below_child (f c) g) → below_child o h ≡ below_child (below_child o f) g
+below-both None f g h e = refl
+below-both (Some c) f g h e = e c
+
 subtree-last : (root : Tree) (position : List ℕ) (i : ℕ)
     → subtree root (position ++ i ∷ []) ≡ below_child (subtree root position) (λ t. child_at t i)
 unfolding child_at
 subtree-last root [] i = refl
-subtree-last root (j ∷ position) i = go (slice_get (out-Tree root).children j)
-  where
-    go : (o : Option Tree)
-        → below_child o (λ c. subtree c (position ++ i ∷ []))
-        ≡ below_child (below_child o (λ c. subtree c position)) (λ t. child_at t i)
-    go None = refl
-    go (Some c) = subtree-last c position i
+subtree-last root (j ∷ position) i =
+    below-both (slice_get (out-Tree root).children j) (λ c. subtree c position) (λ t. child_at t i)
+    (λ c. subtree c (position ++ i ∷ [])) (λ c. subtree-last c position i)
 
 get-after : (before : List Tree) (p : Tree) (others : List Tree)
     → slice_get (before ++ p ∷ others) (length before) ≡ Some p
@@ -274,8 +275,8 @@ pub record ThinEdge (root : Tree) (w : Where) (q : List ℕ) (e : LaidEdge) (ps 
 
 pub record ThinAll (ds : Laids) (us : Plains) (ps : List Tree) : Type 0 where
   pub vals : Plains
-  pub cuts : CutsAll for_rest for_raw ds ps values
-  pub thins : AllThin us values
+  pub cuts : CutsAll for_rest for_raw ds ps vals
+  pub thins : AllThin us vals
 
 pairs-same : (ps : PlainPairs) → PairsThin ps ps
 pairs-same no_pairs = no_pair
@@ -379,9 +380,9 @@ fork_thin root w q l z a o b y u ps e x t = record {
 
 under_thin : (root : Tree) (w : Where) (c : Tree) (e : LaidEdge) (p : Tree) (ps : List Tree) → ps ≡ p ∷ []
     → ThinCell root w [] c e (blank_edge (pruned_in root) (in_edge w) [] e) p → Thin root w (map_under c e) ps
-under_thin root w c e p ps same x = record {
+under_thin root w c e p ps are x = record {
   value = map_with x.parts;
-  cuts = (p, x.parts, same, refl, x.cuts);
+  cuts = (p, x.parts, are, refl, x.cuts);
   thins = thin-map (cond (pruned_in root (spot w (Some []) c)) (hidden_part c) (blank_edge (pruned_in root) (in_edge w) [] e)) x.parts x.thins;
 }
 
