@@ -1,5 +1,5 @@
 -- A laid value with spots hidden: the references that it then takes, and the value that these spell.
-use Rattle.std.specs.Prelude.{Bool, true, false, if◌then◌else◌, ◌≡◌, ◌⊎◌, ℕ, suc, List, [], ◌∷◌, ◌++◌, length, Option, Some, None}
+use Rattle.std.specs.Prelude.{Bool, if◌then◌else◌, ◌≡◌, ◌⊎◌, ℕ, suc, List, [], ◌∷◌, ◌++◌, length, Some, None}
 use Rattle.cell_nodes.specs.Constructed.{stub}
 use Rattle.cell_nodes.specs.Tree.{tree_of}
 use Rattle.cell_nodes.specs.declared.tree.Kind.TheVariants.{Ordinary}

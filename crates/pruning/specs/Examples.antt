@@ -32,9 +32,9 @@ two c =
     (a_laid (ref_to c five) (a_laid (ref_to c five) no_laids))
 
 pub two_has_spots : (c : Tree) → (◌≡◌ {A = List Spot} (spots at_root (two c)) (
-  record { position = 0 ∷ []; path = at_name (codes "a"); around = 0; prefix = None; tree = c }
-  ∷ record { position = 1 ∷ []; path = at_name (codes "b"); around = 0; prefix = None; tree = c } ∷ []
-))
+    record { position = 0 ∷ []; path = at_name (codes "a"); around = 0; prefix = None; tree = c }
+    ∷ record { position = 1 ∷ []; path = at_name (codes "b"); around = 0; prefix = None; tree = c } ∷ []
+    ))
 two_has_spots c = refl
 
 -- /a shows two{a:^u{v:5},b:?H.D}, and the second reference goes for a pruned branch

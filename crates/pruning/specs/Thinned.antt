@@ -1,6 +1,6 @@
 -- A value whose cells as they are, and the references of whose rests, are pruned; and what a pruned tree hides at a
 -- position.
-use Rattle.std.specs.Prelude.{Bool, true, false, ◌≡◌, ℕ, List, [], ◌∷◌, Option, Some, None, slice_get}
+use Rattle.std.specs.Prelude.{Bool, true, false, ℕ, List, [], ◌∷◌, Option, Some, None, slice_get}
 use Rattle.cell_nodes.specs.Prunes.{Prunes, AllPrune}
 use Rattle.cell_nodes.specs.declared.tree.Hidden.{Hidden}
 use Rattle.cell_nodes.specs.declared.tree.Kind.{Kind}
@@ -10,7 +10,7 @@ use Rattle.cell_nodes.specs.declared.tree.Mode.TheVariants.{Partial}
 use Rattle.core_form.specs.Core.{CoreSchema}
 use Rattle.core_form.specs.Closed.{Closed}
 use Rattle.spelling.specs.Spells.{Reading}
-use Rattle.typed_value.specs.Values.{Plain, Plains, PlainPairs, number, bit_string, record_of, absent, list_of, ref_to, unknown, map_of, raw, rest, no_vals, a_val, no_pairs, a_pair}
+use Rattle.typed_value.specs.Values.{Plain, Plains, PlainPairs, record_of, list_of, ref_to, map_of, raw, rest, no_vals, a_val, no_pairs, a_pair}
 use Rattle.pruning.specs.Spots.{Spot}
 
 -- the second value is the first, but that each tree in a Raw or a Rest of the first prunes to the one in the second
