@@ -9,8 +9,8 @@ use Rattle.typed_value.specs.Values as values
 use Rattle.pruning.specs.Laid.{Laid, number, bit_string, record_of, absent, list_of, ref_to, ref_to_raw, no_map, map_under, map_here, rest, Laids, no_laids, a_laid, LaidEdge, a_leaf, a_fork, join, below, plain, plain_all, plain_pairs, trees}
 use Rattle.pruning.specs.Lies.{LaidRoot, as_it_is, laid, plain_root}
 use Rattle.pruning.specs.Spots.{Spot, Where, at_root, stepped, past, in_edge, in_ref, spot, first_name, other_names, spots, edge_spots, spots_of, chosen}
-use Rattle.pruning.specs.Blanked.{KeyPart, hidden_of, ref_at, blanked_ref, with_prefix, edges_at, some_begin, outermost, put_all, blanked, blanked_fields, blanked_items, blanked_pairs, Blanked}
-use Rattle.pruning.specs.Cut.{Choice, Parts, below_parts, leaf_part, fork_part, hidden_part, map_with, blank, blank_fields, blank_items, blank_edge, blank_root}
+use Rattle.pruning.specs.Blanked.{KeyPart, hidden_of, blanked_ref, with_prefix, edges_at, some_begin, outermost, put_all, blanked, blanked_fields, blanked_items, blanked_pairs, Blanked}
+use Rattle.pruning.specs.Cut.{Choice, Parts, below_parts, fork_part, hidden_part, map_with, blank, blank_fields, blank_items, blank_edge, blank_root}
 use Rattle.pruning_laws.specs.KeyLaws.{begins-append, some_begin-append}
 use Rattle.pruning_laws.specs.KnownLaws.{left_part, right_part}
 use Rattle.pruning_laws.specs.TrieLaws.{AllBelow, AllDeeper, below-append, deeper-append, below-deeper, deeper-below, below-parts, Sides, sides-left, sides-right, outermost-append, outermost-one, InOrder, put-order, order-fork, below-below, parts-append, parts-nothing, pairs-below, pairs-join, pairs-nothing}
@@ -43,7 +43,7 @@ cell_outer f w q c xs x deep o = go (f (spot w (Some q) c))
     go true = record {
       all_below = (([], sym (append-nil q)), deeper-below q (key_parts (chosen f xs)) deep);
       outer = outermost-one (q, hidden_of c) (key_parts (chosen f xs)) deep
-      ∙ (λ i. ((sym (append-nil q)) i, hidden_of c) ∷ []);
+          ∙ (λ i. ((sym (append-nil q)) i, hidden_of c) ∷ []);
       order = tt;
     }
     go false = o
@@ -60,9 +60,9 @@ fork_outer q l us vs X Y x y =
     record {
       all_below = below-append q us vs (shorter q (l ++ 0 ∷ []) us x.all_below) (shorter q (l ++ 1 ∷ []) vs y.all_below);
       outer = outermost-append p r (sides-left q l) (sides-right q l) us vs x.all_below y.all_below
-      ∙ (λ i. x.outer i ++ y.outer i) ∙ sym same;
+          ∙ (λ i. x.outer i ++ y.outer i) ∙ sym same;
       order = subst InOrder (sym same)
-      (order-fork q l (below_parts p X.unknown) (below_parts r Y.unknown) (below-parts p X.unknown) (below-parts r Y.unknown) x.order y.order);
+          (order-fork q l (below_parts p X.unknown) (below_parts r Y.unknown) (below-parts p X.unknown) (below-parts r Y.unknown) x.order y.order);
     }
   where
     shorter : (q p : List ℕ) (us : List KeyPart) → AllBelow (q ++ p) us → AllBelow q us

@@ -1,9 +1,8 @@
 -- A choice of spots cuts a laid value, and what is kept stays as it is.
-use Rattle.std.proofs.Common.{◌≡◌, ◌⊎◌, inl, inr, ℕ, suc, Bool, true, false, cond, List, [], ◌∷◌, ◌++◌, length, Some, None, refl, sym, ap, ◌∙◌, subst}
+use Rattle.std.proofs.Common.{◌≡◌, inl, inr, ℕ, suc, Bool, true, false, cond, List, [], ◌∷◌, ◌++◌, length, Some, None, refl, sym, ap, ◌∙◌, subst}
 use Rattle.cell_nodes.specs.Constructed.{stub}
 use Rattle.cell_nodes.specs.HiddenParts.{hidden_by}
 use Rattle.cell_nodes.specs.Prunes.{Prunes, same, AllPrune, none, more}
-use Rattle.cell_nodes.specs.declared.tree.Hidden.{Hidden}
 use Rattle.cell_nodes.specs.declared.tree.Kind.{Kind}
 use Rattle.cell_nodes.specs.declared.tree.Kind.TheVariants.{Ordinary, Pruned, Library, Proof, Update}
 use Rattle.cell_nodes.specs.declared.tree.Mode.TheVariants.{Partial}
@@ -14,7 +13,7 @@ use Rattle.typed_value.specs.Values as values
 use Rattle.pruning.specs.Laid.{Laid, number, bit_string, record_of, absent, list_of, ref_to, ref_to_raw, no_map, map_under, map_here, rest, Laids, no_laids, a_laid, LaidEdge, a_leaf, a_fork, trees}
 use Rattle.pruning.specs.Spots.{Where, stepped, past, in_edge, in_ref, spot, first_name, other_names}
 use Rattle.pruning.specs.Blanked.{hidden_of}
-use Rattle.pruning.specs.Cut.{Choice, cell_with, cut_cell, cut, cut_fields, cut_items, cut_edge, Parts, hidden_part, blank, blank_fields, blank_items, blank_edge, ForRest, ForRaw, CutsCell, Cuts, CutsAll, CutsEdge}
+use Rattle.pruning.specs.Cut.{Choice, cut_cell, cut, cut_fields, cut_items, cut_edge, Parts, hidden_part, blank, blank_fields, blank_items, blank_edge, ForRest, ForRaw, CutsCell, Cuts, CutsAll, CutsEdge}
 use Rattle.pruning_laws.specs.CleanLaws.{IsClean}
 use Rattle.pruning_laws.specs.ReadsLaws.{Trusts}
 
@@ -56,7 +55,7 @@ mutual
     refl,
     refl,
     cuts_cell (CutsEdge kept_rest kept_raw e) (f (spot w (Some []) c)) c (cut_edge f (in_edge w) [] e)
-    (blank_edge f (in_edge w) [] e) (chooses_edge f (in_edge w) [] e),
+        (blank_edge f (in_edge w) [] e) (chooses_edge f (in_edge w) [] e),
   )
   chooses f w (map_here e) = (blank_edge f w [] e, refl, chooses_edge f w [] e)
   chooses f w (rest s) = (refl, refl)
@@ -95,8 +94,7 @@ mutual
       (blank f (stepped w (keyed (q ++ l))) d, refl, chooses f (stepped w (keyed (q ++ l))) d)
   chooses_edge f w q (a_fork l z a o b) =
       let x = q ++ (l ++ 0 ∷ []) in
-      let y = q ++ (l ++ 1 ∷ []) in
-      (
+      let y = q ++ (l ++ 1 ∷ []) in (
         cut_cell (f (spot w (Some x) z)) z (cut_edge f (in_edge w) x a),
         cut_cell (f (spot (past w 1) (Some y) o)) o (cut_edge f (in_edge (past w 1)) y b),
         cond (f (spot w (Some x) z)) (hidden_part z) (blank_edge f (in_edge w) x a),
@@ -104,9 +102,9 @@ mutual
         refl,
         refl,
         cuts_cell (CutsEdge kept_rest kept_raw a) (f (spot w (Some x) z)) z (cut_edge f (in_edge w) x a)
-        (blank_edge f (in_edge w) x a) (chooses_edge f (in_edge w) x a),
+            (blank_edge f (in_edge w) x a) (chooses_edge f (in_edge w) x a),
         cuts_cell (CutsEdge kept_rest kept_raw b) (f (spot (past w 1) (Some y) o)) o (cut_edge f (in_edge (past w 1)) y b)
-        (blank_edge f (in_edge (past w 1)) y b) (chooses_edge f (in_edge (past w 1)) y b),
+            (blank_edge f (in_edge (past w 1)) y b) (chooses_edge f (in_edge (past w 1)) y b),
       )
 
 -- ---- what is kept

@@ -1,14 +1,12 @@
 -- Good trees of mask 0, and the pruned branches that stand for them.
-use Rattle.std.proofs.Common.{◌≡◌, ℕ, ◌+◌, ◌*◌, ◌%◌, ◌^◌, ◌≤◌, List, [], ◌∷◌, ◌++◌, length, map, Option, Some, None, refl, sym, ap, ◌∙◌, subst, arith}
+use Rattle.std.proofs.Common.{◌≡◌, ℕ, ◌+◌, ◌%◌, ◌^◌, List, [], ◌∷◌, ◌++◌, map, Some, sym, ap, ◌∙◌, subst, arith}
 use Rattle.std.proofs.lemmas.Nat.{le_or_l, le_or_r}
-use Rattle.cell_hash.specs.declared.ChildMark.{ChildMark}
 use Rattle.cell_nodes.specs.BytesLaws.{ArePairs}
 use Rattle.cell_nodes.specs.Constructed.{pruned_with, pruned_of, stub}
 use Rattle.cell_nodes.specs.ConstructedLaws.{marks-pairs}
 use Rattle.cell_nodes.specs.Equations.{mask-tree_of}
 use Rattle.cell_nodes.specs.Good.{IsGood, AllGood}
 use Rattle.cell_nodes.specs.GoodParts.{good-depth, all_good-head, all_good-tail}
-use Rattle.cell_nodes.specs.Levels.{levels_in}
 use Rattle.cell_nodes.specs.LevelsLaws.{levels_in-zero}
 use Rattle.cell_nodes.specs.PrunesLaws.{AreBytes-hash, good-below}
 use Rattle.cell_nodes.specs.Tree.{tree_of, mark_at, marks, mask, union_of}
@@ -40,8 +38,7 @@ all-clean : (ts : List Tree) → AllGood ts → union_of (map marks ts) ≡ 0 �
 all-clean [] g h = tt
 all-clean (t ∷ ts) g h =
     let l = le_or_l (mask t) (union_of (map marks ts)) in
-    let r = le_or_r (mask t) (union_of (map marks ts)) in
-    (
+    let r = le_or_r (mask t) (union_of (map marks ts)) in (
       record { good = all_good-head t ts g; level = omega (arith, h, l) },
       all-clean ts (all_good-tail t ts g) (omega (arith, h, r)),
     )

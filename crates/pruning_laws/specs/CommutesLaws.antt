@@ -1,16 +1,13 @@
 -- Pruning commutes with reading.
-use Rattle.std.proofs.Common.{◌≡◌, ◌⊎◌, ℕ, ◌^◌, ◌<◌, List, Some, slice_get, refl, sym, ap, ◌∙◌, subst, arith}
+use Rattle.std.proofs.Common.{◌≡◌, ◌⊎◌, ◌^◌, ◌<◌, List, sym, ap, subst, arith}
 use Rattle.cell_hash.specs.declared.ChildMark.{ChildMark}
 use Rattle.cell_nodes.specs.Constructed.{stub}
-use Rattle.cell_nodes.specs.Prunes.{Prunes}
 use Rattle.cell_nodes.specs.PrunesGoodLaws.{prunes-good}
 use Rattle.cell_nodes.specs.PrunesLaws.{prunes-keeps}
 use Rattle.cell_nodes.specs.Tree.{mask}
-use Rattle.cell_nodes.specs.declared.tree.Mode.TheVariants.{Partial}
 use Rattle.cell_nodes.specs.declared.tree.Tree.{Tree}
 use Rattle.core_form.specs.Core.{CoreSchema}
 use Rattle.core_form.specs.Closed.{Closed}
-use Rattle.spelling.specs.Spells.{Reading}
 use Rattle.typed_value.specs.Paths.{Stride}
 use Rattle.typed_value.specs.Values.{Plain}
 use Rattle.pruning.specs.Blanked.{Blanked}

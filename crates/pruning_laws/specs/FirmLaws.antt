@@ -1,21 +1,21 @@
 -- The references of a laid value, and the cells beside it, as its cells have them.
-use Rattle.std.proofs.Common.{◌≡◌, ℕ, suc, Bool, true, false, List, [], ◌∷◌, ◌++◌, Option, Some, None, refl, sym, ap, ◌∙◌, subst, append_assoc}
+use Rattle.std.proofs.Common.{◌≡◌, ℕ, Bool, List, [], ◌∷◌, ◌++◌, Some, None, sym, ap, ◌∙◌, subst, append_assoc}
 use Rattle.std.proofs.lemmas.List.{append-nil}
 use Rattle.cell_nodes.specs.Tree.{tree_of}
 use Rattle.cell_nodes.specs.declared.tree.Kind.TheVariants.{Ordinary}
 use Rattle.cell_nodes.specs.declared.tree.Mode.TheVariants.{Whole}
-use Rattle.cell_nodes.specs.declared.tree.Tree.{Tree, out-Tree}
+use Rattle.cell_nodes.specs.declared.tree.Tree.{Tree}
 use Rattle.hashmap_tree.specs.Entries.{Slice, cell_of, Then}
 use Rattle.core_form.specs.Core.{Items, CoreSchema, no_items, an_item, check, solve, field, sets}
 use Rattle.core_form.specs.Closed.{Closed}
 use Rattle.core_form.specs.Closed as closed
 use Rattle.core_form.specs.Scope.{Scope, with_number, bind}
 use Rattle.spelling.specs.Slices.{nothing, only_ref}
-use Rattle.spelling.specs.Goals.{Row, natural, integer, string, no_row, row, Goal, at_type, at_field, at_cell, Shape, typed, fields_here, fields_under, left_out, as_cell, at_fields, under_ref}
+use Rattle.spelling.specs.Goals.{Row, natural, integer, string, no_row, row, Goal, at_type, at_field, at_cell, Shape, typed, fields_here, fields_under, left_out, at_fields, under_ref}
 use Rattle.spelling.specs.Spells.{Repeats, Fields, SpellsNumber, SpellsString, Holds}
 use Rattle.typed_value.specs.Values as values
 use Rattle.pruning.specs.Laid.{Laid, number, bit_string, record_of, absent, list_of, ref_to, ref_to_raw, no_map, map_under, map_here, rest, Laids, no_laids, a_laid, LaidEdge, a_leaf, a_fork, trees, trees_all, edge_trees}
-use Rattle.pruning.specs.Lies.{BeginsWith, EdgeCell, LiesShape, Lies, EachLies, EdgeLies}
+use Rattle.pruning.specs.Lies.{BeginsWith, LiesShape, Lies, EachLies, EdgeLies}
 use Rattle.pruning.specs.Cut.{cell_with}
 use Rattle.pruning_laws.specs.ReadsLaws.{bits-cell, no_cell, ok_cell}
 
@@ -176,7 +176,7 @@ mutual
   takes schema (map_here x) _ s outs after e = absurd e
   takes schema (rest r) (typed closed.whole) s outs after e = record {
     refs = sym (append-nil s.refs)
-    ∙ (λ i. (ap (λ (x : values.Slice). x.refs) (sym e.1)) i ++ (ap (λ (x : Slice). x.refs) (sym e.2)) i);
+        ∙ (λ i. (ap (λ (x : values.Slice). x.refs) (sym e.1)) i ++ (ap (λ (x : Slice). x.refs) (sym e.2)) i);
     is_firm = tt;
   }
   takes schema (rest r) _ s outs after e = absurd e

@@ -1,9 +1,8 @@
 -- Bits that begin a key, and pairs below bits.
-use Rattle.std.proofs.Common.{◌≡◌, ℕ, Bool, true, false, cond, ◌&&◌, ◌||◌, nat_eq, List, [], ◌∷◌, ◌++◌, Option, Some, None, refl, sym, ap, ◌∙◌, subst, append_assoc}
+use Rattle.std.proofs.Common.{◌≡◌, ℕ, Bool, true, false, cond, ◌&&◌, ◌||◌, nat_eq, List, [], ◌∷◌, ◌++◌, Option, Some, None, refl, sym, ap, ◌∙◌, subst}
 use Rattle.std.specs.Prelude.{bytes_eq}
 use Rattle.std.proofs.lemmas.Bool.{eqb-true, eq-eqb}
 use Rattle.std.proofs.lemmas.Slice.Eq.{bytes_eq-Decides}
-use Rattle.cell_nodes.specs.declared.tree.Hidden.{Hidden}
 use Rattle.schema_leads.specs.Leads.{begins}
 use Rattle.typed_value.specs.Paths.{entry_at}
 use Rattle.typed_value.specs.Values.{Plain, PlainPairs, no_pairs, a_pair}

@@ -1,20 +1,19 @@
 -- What is known of a path all of whose spots are kept.
-use Rattle.std.proofs.Common.{◌≡◌, ℕ, zero, suc, ◌+◌, Bool, true, false, cond, ◌&&◌, ◌||◌, nat_eq, List, [], ◌∷◌, ◌++◌, length, Option, Some, None, slice_get, refl, sym, ap, ◌∙◌, subst, append_assoc, arith}
+use Rattle.std.proofs.Common.{◌≡◌, ℕ, zero, suc, ◌+◌, Bool, true, false, cond, ◌&&◌, ◌||◌, List, [], ◌∷◌, ◌++◌, length, Option, Some, None, slice_get, refl, sym, ap, ◌∙◌, subst, append_assoc, arith}
 use Rattle.std.specs.Prelude.{bytes_eq}
 use Rattle.std.proofs.lemmas.Bool.{eq-eqb}
 use Rattle.std.proofs.lemmas.Slice.Eq.{bytes_eq-Decides}
 use Rattle.cell_nodes.specs.declared.tree.Tree.{Tree}
 use Rattle.schema_leads.specs.Leads.{begins}
-use Rattle.typed_value.specs.Paths.{Stride, named, item, keyed, field_at, item_at, entry_at, in_record, in_list, in_map, step_at, onward, at_path}
+use Rattle.typed_value.specs.Paths.{Stride, named, item, keyed, field_at, item_at, entry_at, step_at, onward, at_path}
 use Rattle.typed_value.specs.Values.{Plain, PlainPairs, no_pairs, a_pair}
 use Rattle.typed_value.specs.Values as values
-use Rattle.pruning.specs.declared.Knowledge.{Knowledge}
-use Rattle.pruning.specs.declared.Knowledge.TheVariants.{Known, KnownAbsent, NotKnown}
+use Rattle.pruning.specs.declared.Knowledge.TheVariants.{Known, NotKnown}
 use Rattle.pruning.specs.Laid.{Laid, number, bit_string, record_of, absent, list_of, ref_to, ref_to_raw, no_map, map_under, map_here, rest, Laids, no_laids, a_laid, LaidEdge, a_leaf, a_fork, join, below, plain, plain_all, plain_pairs, trees}
 use Rattle.pruning.specs.Lies.{LaidRoot, as_it_is, laid, plain_root}
-use Rattle.pruning.specs.Spots.{Spot, Where, at_root, stepped, past, in_edge, in_ref, spot, first_name, other_names, same_stride, leads, takes_key, enters, needs, kept, not, unless_kept}
-use Rattle.pruning.specs.Blanked.{KeyPart, hidden_of, some_begin}
-use Rattle.pruning.specs.Knowing.{is_hidden, hides, hides_key, known_at, known, as_named}
+use Rattle.pruning.specs.Spots.{Spot, Where, at_root, stepped, past, in_edge, in_ref, spot, same_stride, leads, enters, needs, kept, not, unless_kept}
+use Rattle.pruning.specs.Blanked.{hidden_of, some_begin}
+use Rattle.pruning.specs.Knowing.{is_hidden, hides, known_at, known, as_named}
 use Rattle.pruning.specs.Cut.{Choice, Parts, below_parts, hidden_part, map_with, fork_part, blank, blank_fields, blank_items, blank_edge, blank_root}
 use Rattle.pruning_laws.specs.KeyLaws.{begins-append, stripped, zero-not_one, one-not_zero, some_begin-append, some_begin-same, some_begin-other, or_else, entry-join, entry-below, entry-other, GoesOn, to_zero, to_one, nowhere, goes_on}
 
@@ -94,7 +93,7 @@ zero_matches f m l z o a b A B r h =
     ∙ or-none (entry_at ps r) in
     record {
       shown = some_begin-append (below_parts (l ++ 0 ∷ []) A.unknown) (below_parts (l ++ 1 ∷ []) B.unknown) k
-      ∙ (λ i. (some_begin-same (l ++ 0 ∷ []) A.unknown r ∙ h.shown) i || some_begin-other (l ++ 1 ∷ []) B.unknown k (zero-not_one l r) i);
+          ∙ (λ i. (some_begin-same (l ++ 0 ∷ []) A.unknown r ∙ h.shown) i || some_begin-other (l ++ 1 ∷ []) B.unknown k (zero-not_one l r) i);
       there = subst P (sym (value (plain_pairs a) (plain_pairs b))) (subst Q (sym (value A.pairs B.pairs)) h.there);
     }
 
@@ -109,7 +108,7 @@ one_matches f m l z o a b A B r h =
     ∙ (λ i. or_else (entry-other (l ++ 0 ∷ []) ps k (one-not_zero l r) i) (entry-below (l ++ 1 ∷ []) qs r i)) in
     record {
       shown = some_begin-append (below_parts (l ++ 0 ∷ []) A.unknown) (below_parts (l ++ 1 ∷ []) B.unknown) k
-      ∙ (λ i. some_begin-other (l ++ 0 ∷ []) A.unknown k (one-not_zero l r) i || (some_begin-same (l ++ 1 ∷ []) B.unknown r ∙ h.shown) i);
+          ∙ (λ i. some_begin-other (l ++ 0 ∷ []) A.unknown k (one-not_zero l r) i || (some_begin-same (l ++ 1 ∷ []) B.unknown r ∙ h.shown) i);
       there = subst P (sym (value (plain_pairs a) (plain_pairs b))) (subst Q (sym (value A.pairs B.pairs)) h.there);
     }
 
@@ -124,7 +123,7 @@ no_matches f m l z o a b A B k x y =
     ∙ (λ i. or_else (entry-other (l ++ 0 ∷ []) ps k x i) (entry-other (l ++ 1 ∷ []) qs k y i)) in
     record {
       shown = some_begin-append (below_parts (l ++ 0 ∷ []) A.unknown) (below_parts (l ++ 1 ∷ []) B.unknown) k
-      ∙ (λ i. some_begin-other (l ++ 0 ∷ []) A.unknown k x i || some_begin-other (l ++ 1 ∷ []) B.unknown k y i);
+          ∙ (λ i. some_begin-other (l ++ 0 ∷ []) A.unknown k x i || some_begin-other (l ++ 1 ∷ []) B.unknown k y i);
       there = subst P (sym (value (plain_pairs a) (plain_pairs b))) (subst Q (sym (value A.pairs B.pairs)) tt);
     }
 

@@ -1,11 +1,10 @@
 -- Each value that is spelled in mode Whole lies so in its cells.
-use Rattle.std.proofs.Common.{◌≡◌, ◌⊎◌, inl, inr, ℕ, suc, Bool, true, false, cond, List, [], ◌∷◌, ◌++◌, Option, Some, None, Result, Ok, Err, refl, sym, ap, ◌∙◌, subst}
-use Rattle.std.proofs.lemmas.List.{append-nil}
+use Rattle.std.proofs.Common.{◌≡◌, inl, inr, ℕ, Bool, true, false, cond, List, [], ◌∷◌, ◌++◌, Option, Some, None, Result, Ok, Err, refl, sym, ap, ◌∙◌, subst}
 use Rattle.cell_nodes.specs.declared.tree.Hidden.{Hidden}
 use Rattle.cell_nodes.specs.declared.tree.Mode.TheVariants.{Whole}
 use Rattle.cell_nodes.specs.declared.tree.Tree.{Tree}
 use Rattle.hashmap_tree.specs.Dict.{DictTree, one, two, Branch, open_edge, hidden_edge}
-use Rattle.hashmap_tree.specs.Entries.{Slice, Part, leaf, hidden, Entries, Then, under, fork, pairs_in, hidden_in}
+use Rattle.hashmap_tree.specs.Entries.{Slice, leaf, hidden, Entries, Then, under, fork, pairs_in, hidden_in}
 use Rattle.hashmap_tree.specs.First.{Fork, forked}
 use Rattle.typed_value.specs.Values.{Plain, Plains, PlainPairs, no_vals, a_val, no_pairs, a_pair}
 use Rattle.typed_value.specs.Values as values
@@ -19,7 +18,7 @@ use Rattle.spelling.specs.Slices.{nothing, only_ref}
 use Rattle.spelling.specs.Goals.{Goal, at_type, at_field, at_cell, Shape, typed, fields_here, fields_under, left_out, as_cell, at_fields, under_ref, typed_or, laid, in_table, in_width, judged, passes, tested, shape_of}
 use Rattle.spelling.specs.Spells.{Repeats, Fields, SpellsShape, Spells, Each, EachPair, Holds, Contents, SpellsDict, SpellsDictE, no_entries, some_entries, IsRootOf, Reading}
 use Rattle.spelling.specs.declared.Cause.{Cause}
-use Rattle.spelling.specs.declared.Cause.TheVariants.{Width, Overflow}
+use Rattle.spelling.specs.declared.Cause.TheVariants.{Width}
 use Rattle.pruning.specs.Laid.{Laid, number, bit_string, record_of, absent, list_of, ref_to, ref_to_raw, no_map, map_under, map_here, rest, Laids, no_laids, a_laid, LaidEdge, a_leaf, a_fork, join, below, plain, plain_all, plain_pairs}
 use Rattle.pruning.specs.Lies.{EdgeCell, LiesShape, Lies, EachLies, EdgeLies, LaidRoot, as_it_is, laid as laid_root, plain_root, LiesAtRoot}
 
@@ -250,7 +249,7 @@ fork_laid schema p zs os ps able t A B left right h =
       a.0,
       b.0,
       (λ i. join (below (p ++ 0 ∷ []) (a.1 i)) (below (p ++ 1 ∷ []) (b.1 i)))
-      ∙ ap (join (below (p ++ 0 ∷ []) x.0)) (sym y.1) ∙ sym x.2,
+          ∙ ap (join (below (p ++ 0 ∷ []) x.0)) (sym y.1) ∙ sym x.2,
       no_hidden (p ++ 0 ∷ []) zs (under (p ++ 1 ∷ []) os) a.2 ∙ none_hidden (p ++ 1 ∷ []) os b.2,
       a.3,
       b.3,

@@ -28,13 +28,13 @@ ReadingIsLaid =
 -- The tree p prunes c and keeps its hash and depth at level 0; it reads as the value w; and of each path it is known
 -- whether it leads to a value of v.
 pub record Commutes (schema : CoreSchema) (t : Closed) (c p : Tree) (v w : Plain) (paths : List (List Stride)) : Type 0
-    where
-  pub prunes : Prunes c p 0
-  pub good : IsGood p
-  pub same_hash : hash p 0 ≡ hash c 0
-  pub same_depth : depth p 0 ≡ depth c 0
-  pub reads : Reading Partial schema t p w
-  pub knows : (i : ℕ) (path : List Stride) → slice_get paths i ≡ Some path → known w path ≡ as_named (at_path v path)
+  where
+    pub prunes : Prunes c p 0
+    pub good : IsGood p
+    pub same_hash : hash p 0 ≡ hash c 0
+    pub same_depth : depth p 0 ≡ depth c 0
+    pub reads : Reading Partial schema t p w
+    pub knows : (i : ℕ) (path : List Stride) → slice_get paths i ≡ Some path → known w path ≡ as_named (at_path v path)
 
 -- Pruning commutes with reading: where the spots that no path keeps are hidden, the tree reads as the value blanked there.
 abbrev pub PruningCommutes : Type 0

@@ -1,5 +1,5 @@
 -- Where a schema names the fields of each record apart, so does each laid value.
-use Rattle.std.proofs.Common.{◌≡◌, ℕ, Bool, true, false, cond, List, [], ◌∷◌, Option, Some, None, Result, Ok, Err, refl, sym, subst}
+use Rattle.std.proofs.Common.{ℕ, Bool, true, false, cond, List, Option, Some, None, Result, Ok, Err, sym, subst}
 use Rattle.cell_nodes.specs.declared.tree.Tree.{Tree}
 use Rattle.hashmap_tree.specs.Entries.{Slice}
 use Rattle.cell_nodes.specs.declared.tree.Mode.TheVariants.{Whole}
@@ -15,7 +15,7 @@ use Rattle.spelling.specs.Spells.{Repeats, Fields, Holds}
 use Rattle.spelling.specs.declared.Cause.{Cause}
 use Rattle.spelling.specs.declared.Cause.TheVariants.{Width}
 use Rattle.pruning.specs.Laid.{Laid, number, bit_string, record_of, absent, list_of, ref_to, ref_to_raw, no_map, map_under, map_here, rest, Laids, no_laids, a_laid, LaidEdge, a_leaf, a_fork}
-use Rattle.pruning.specs.Lies.{EdgeCell, LiesShape, Lies, EachLies, EdgeLies, LaidRoot, as_it_is, laid as laid_root, LiesAtRoot}
+use Rattle.pruning.specs.Lies.{LiesShape, Lies, EachLies, EdgeLies, LaidRoot, as_it_is, laid as laid_root, LiesAtRoot}
 use Rattle.pruning.specs.Names.{AreApart, AreApartIn, NamesFieldsApart}
 use Rattle.pruning_laws.specs.PlaceLaws.{NamesApart, FieldsApart, ItemsApart, EdgeApart}
 use Rattle.pruning_laws.specs.BlankedLaws.{RootApart}

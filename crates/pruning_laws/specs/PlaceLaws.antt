@@ -1,6 +1,5 @@
 -- Each spot of a laid value has a place of its own, so what a list of its spots has at a place is what was chosen there.
-use Rattle.std.proofs.Common.{◌≡◌, ◌⊎◌, inl, inr, ℕ, zero, suc, ◌+◌, ◌<◌, ◌≤◌, Bool, true, false, cond, ◌&&◌, nat_eq, List, [], ◌∷◌, ◌++◌, length, Option, Some, None, refl, sym, ap, ◌∙◌, subst, append_assoc, length-append, arith}
-use Rattle.std.specs.Prelude.{bytes_eq}
+use Rattle.std.proofs.Common.{◌≡◌, ◌⊎◌, inl, inr, ℕ, suc, ◌<◌, ◌≤◌, Bool, true, false, cond, ◌&&◌, nat_eq, List, [], ◌∷◌, ◌++◌, length, Option, Some, None, refl, sym, ap, ◌∙◌, subst, append_assoc, length-append, arith}
 use Rattle.std.proofs.lemmas.Bool.{eq-eqb, eqb-true}
 use Rattle.std.proofs.lemmas.List.{append_cancel_left}
 use Rattle.std.proofs.lemmas.Slice.Eq.{bytes_eq-Decides}
@@ -9,9 +8,8 @@ use Rattle.typed_value.specs.Paths.{Stride, named, item, keyed}
 use Rattle.pruning.specs.Laid.{Laid, number, bit_string, record_of, absent, list_of, ref_to, ref_to_raw, no_map, map_under, map_here, rest, Laids, no_laids, a_laid, LaidEdge, a_leaf, a_fork, trees}
 use Rattle.pruning.specs.Names.{NotAmong}
 use Rattle.pruning.specs.Spots.{Spot, Where, stepped, past, in_edge, in_ref, spot, first_name, other_names, spots, spots_fields, spots_items, edge_spots, value_spots, same_stride, chosen}
-use Rattle.pruning.specs.Blanked.{KeyPart, hidden_of, same_path, is_ref_at, ref_at, with_prefix, edges_at}
+use Rattle.pruning.specs.Blanked.{KeyPart, same_path, is_ref_at, ref_at, with_prefix, edges_at}
 use Rattle.pruning.specs.Cut.{Choice}
-use Rattle.pruning_laws.specs.KeyLaws.{stripped, stripped-some, zero-not_one}
 
 -- ---- names
 
@@ -338,15 +336,15 @@ mutual
   below-spots w (ref_to c d) apart = (
     under-here w.path w.around,
     all-map (IsBelow w.path (suc w.around)) (IsBelow w.path w.around) (λ x. under-ref w.path w.around x.path x.around)
-    (spots (in_ref w) d) (below-spots (in_ref w) d apart),
+        (spots (in_ref w) d) (below-spots (in_ref w) d apart),
   )
   below-spots w (ref_to_raw c) apart = (under-here w.path w.around, tt)
   below-spots w no_map apart = tt
   below-spots w (map_under c e) apart = (
     under-here w.path w.around,
     all-append (IsBelow w.path w.around) (edge_spots (in_edge w) [] e) (value_spots (in_edge w) [] e)
-    (all-map (AtEdges w.path w.around []) (IsBelow w.path w.around) (edges-below w.path w.around []) (edge_spots (in_edge w) [] e) (edges-at (in_edge w) [] e))
-    (all-map (InValues w.path []) (IsBelow w.path w.around) (values-below w.path w.around []) (value_spots (in_edge w) [] e) (in-values (in_edge w) [] e apart)),
+        (all-map (AtEdges w.path w.around []) (IsBelow w.path w.around) (edges-below w.path w.around []) (edge_spots (in_edge w) [] e) (edges-at (in_edge w) [] e))
+        (all-map (InValues w.path []) (IsBelow w.path w.around) (values-below w.path w.around []) (value_spots (in_edge w) [] e) (in-values (in_edge w) [] e apart)),
   )
   below-spots w (map_here e) apart =
       all-append (IsBelow w.path w.around) (edge_spots w [] e) (value_spots w [] e)
@@ -524,9 +522,9 @@ field-agrees m y xs S below names no_laids shape apart = tt
 field-agrees m y xs S below [] (a_laid d ds) shape apart = absurd shape
 field-agrees m y xs S below (z ∷ names) (a_laid d ds) shape apart = (
   agree-before (m ++ named z ∷ []) 0 xs S
-  (all-map (IsBelow (m ++ named y ∷ []) 0) (Foreign (m ++ named z ∷ []) 0) (λ x h.
-  let u = within m (named y) x.path x.around h in
-  step-foreign m (named y) (named z) (λ e. apart.0 (ap name e)) x u.0 u.1) xs below),
+      (all-map (IsBelow (m ++ named y ∷ []) 0) (Foreign (m ++ named z ∷ []) 0) (λ x h.
+      let u = within m (named y) x.path x.around h in
+      step-foreign m (named y) (named z) (λ e. apart.0 (ap name e)) x u.0 u.1) xs below),
   field-agrees m y xs S below names ds shape.2 apart.1,
 )
   where
@@ -590,9 +588,9 @@ map-right f w v es e same edges values right =
     subst P (sym both) (
       sym (edges-after w.path A B (values-none w.path [] B vb)) ∙ edges-all w.path w.around [] A ea,
       edge-same f B (A ++ B) v [] e (λ r.
-      agree-before (v.path ++ keyed r ∷ []) 0 A B
-      (all-map (AtEdges w.path w.around []) (Foreign (v.path ++ keyed r ∷ []) 0)
-      (λ x h. here-foreign v.path (keyed r) x (h.0 ∙ sym same)) A ea)) right,
+          agree-before (v.path ++ keyed r ∷ []) 0 A B
+          (all-map (AtEdges w.path w.around []) (Foreign (v.path ++ keyed r ∷ []) 0)
+          (λ x h. here-foreign v.path (keyed r) x (h.0 ∙ sym same)) A ea)) right,
     )
 
 mutual
@@ -643,7 +641,7 @@ mutual
       go true r h = (
         ap (λ (t : Bool). cond t (Some c) (ref_at w.path w.around (chosen f (spots (in_ref w) d)))) self,
         right-same f (chosen f (spots (in_ref w) d)) (spot w None c ∷ chosen f (spots (in_ref w) d)) (in_ref w) d
-        (agree-before w.path (suc w.around) (spot w None c ∷ []) (chosen f (spots (in_ref w) d)) (ref-foreign w c, tt)) r,
+            (agree-before w.path (suc w.around) (spot w None c ∷ []) (chosen f (spots (in_ref w) d)) (ref-foreign w c, tt)) r,
       )
       go false r h = (absent-here (chosen f (spots (in_ref w) d)) h, r)
   right-spots f w (ref_to_raw c) apart = go (f (spot w None c))
@@ -678,9 +676,9 @@ mutual
       let b = all-chosen f (InFields w.path names) (spots_fields (past w (length (trees d))) names ds) (in-fields (past w (length (trees d))) names ds apart.2) in
       subst P (sym both) (
         right-same f A (A ++ B) (stepped w (named y)) d
-        (agree-after (w.path ++ named y ∷ []) 0 A B (fields-foreign w.path y names B apart.0 b)) (right-spots f (stepped w (named y)) d apart.1),
+            (agree-after (w.path ++ named y ∷ []) 0 A B (fields-foreign w.path y names B apart.0 b)) (right-spots f (stepped w (named y)) d apart.1),
         fields-same f B (A ++ B) (past w (length (trees d))) names ds (field-agrees w.path y A B a names ds apart.2 apart.0)
-        (right-fields f (past w (length (trees d))) names ds apart.2),
+            (right-fields f (past w (length (trees d))) names ds apart.2),
       )
 
   right-items : (f : Choice) (w : Where) (i : ℕ) (ds : Laids) → ItemsApart ds
@@ -696,16 +694,16 @@ mutual
       let b = all-chosen f (InItems w.path (suc i)) (spots_items (past w (length (trees d))) (suc i) ds) (in-items (past w (length (trees d))) (suc i) ds apart.1) in
       subst P (sym both) (
         right-same f A (A ++ B) (stepped w (item i)) d
-        (agree-after (w.path ++ item i ∷ []) 0 A B
-        (all-map (InItems w.path (suc i)) (Foreign (w.path ++ item i ∷ []) 0)
-        (λ x h. step-foreign w.path (item h.0) (item i) (λ e. let l = h.3 in other-item i h.0 (omega (arith, l)) e) x h.1 h.2) B b))
-        (right-spots f (stepped w (item i)) d apart.0),
+            (agree-after (w.path ++ item i ∷ []) 0 A B
+            (all-map (InItems w.path (suc i)) (Foreign (w.path ++ item i ∷ []) 0)
+            (λ x h. step-foreign w.path (item h.0) (item i) (λ e. let l = h.3 in other-item i h.0 (omega (arith, l)) e) x h.1 h.2) B b))
+            (right-spots f (stepped w (item i)) d apart.0),
         items-same f B (A ++ B) (past w (length (trees d))) (suc i) ds
-        (λ j l. agree-before (w.path ++ item j ∷ []) 0 A B
-        (all-map (IsBelow (w.path ++ item i ∷ []) 0) (Foreign (w.path ++ item j ∷ []) 0)
-        (λ x h. let u = within w.path (item i) x.path x.around h in
-        step-foreign w.path (item i) (item j) (λ e. other-item i j (omega (arith, l)) (sym e)) x u.0 u.1) A a))
-        (right-items f (past w (length (trees d))) (suc i) ds apart.1),
+            (λ j l. agree-before (w.path ++ item j ∷ []) 0 A B
+            (all-map (IsBelow (w.path ++ item i ∷ []) 0) (Foreign (w.path ++ item j ∷ []) 0)
+            (λ x h. let u = within w.path (item i) x.path x.around h in
+            step-foreign w.path (item i) (item j) (λ e. other-item i j (omega (arith, l)) (sym e)) x u.0 u.1) A a))
+            (right-items f (past w (length (trees d))) (suc i) ds apart.1),
       )
 
   right-edge : (f : Choice) (w : Where) (q : List ℕ) (e : LaidEdge) → EdgeApart e
@@ -723,13 +721,13 @@ mutual
       let b = all-chosen f (InValues w.path r) (value_spots (in_edge (past w 1)) (q ++ (l ++ 1 ∷ [])) y) (in-values (in_edge (past w 1)) r y apart.1) in
       subst P (sym both) (
         edge-same f A (A ++ B) (in_edge w) p x (λ k.
-        agree-after (w.path ++ keyed (p ++ k) ∷ []) 0 A B
-        (all-map (InValues w.path r) (Foreign (w.path ++ keyed (p ++ k) ∷ []) 0)
-        (λ s h. step-foreign w.path (keyed (r ++ h.0)) (keyed (p ++ k)) (other-key q l h.0 k) s h.1 h.2) B b))
-        (right-edge f (in_edge w) p x apart.0),
+            agree-after (w.path ++ keyed (p ++ k) ∷ []) 0 A B
+            (all-map (InValues w.path r) (Foreign (w.path ++ keyed (p ++ k) ∷ []) 0)
+            (λ s h. step-foreign w.path (keyed (r ++ h.0)) (keyed (p ++ k)) (other-key q l h.0 k) s h.1 h.2) B b))
+            (right-edge f (in_edge w) p x apart.0),
         edge-same f B (A ++ B) (in_edge (past w 1)) r y (λ k.
-        agree-before (w.path ++ keyed (r ++ k) ∷ []) 0 A B
-        (all-map (InValues w.path p) (Foreign (w.path ++ keyed (r ++ k) ∷ []) 0)
-        (λ s h. step-foreign w.path (keyed (p ++ h.0)) (keyed (r ++ k)) (λ e. other-key q l k h.0 (sym e)) s h.1 h.2) A a))
-        (right-edge f (in_edge (past w 1)) r y apart.1),
+            agree-before (w.path ++ keyed (r ++ k) ∷ []) 0 A B
+            (all-map (InValues w.path p) (Foreign (w.path ++ keyed (r ++ k) ∷ []) 0)
+            (λ s h. step-foreign w.path (keyed (p ++ h.0)) (keyed (r ++ k)) (λ e. other-key q l k h.0 (sym e)) s h.1 h.2) A a))
+            (right-edge f (in_edge (past w 1)) r y apart.1),
       )

@@ -1,6 +1,6 @@
 -- A laid value with parts hidden: the references that it then takes prune those that it takes, and spell it with these
 -- parts hidden.
-use Rattle.std.proofs.Common.{◌≡◌, ◌⊎◌, inl, inr, ℕ, suc, ◌+◌, Bool, true, false, ◌||◌, ◌≤◌, nat_lt, List, [], ◌∷◌, ◌++◌, length, Option, Some, None, Ok, refl, sym, ap, ◌∙◌, subst, arith, append_assoc, length-append}
+use Rattle.std.proofs.Common.{◌≡◌, inl, inr, ℕ, suc, ◌+◌, Bool, true, ◌||◌, ◌≤◌, nat_lt, List, [], ◌∷◌, ◌++◌, length, Some, None, Ok, refl, sym, ap, ◌∙◌, subst, arith, append_assoc, length-append}
 use Rattle.std.proofs.lemmas.List.{append-nil, nil_from_length}
 use Rattle.cell_nodes.specs.Constructed.{stub}
 use Rattle.cell_nodes.specs.Equations.{out-tree_of}
@@ -12,7 +12,7 @@ use Rattle.cell_nodes.specs.declared.tree.Mode.TheVariants.{Whole, Partial}
 use Rattle.cell_nodes.specs.declared.tree.Tree.{Tree, out-Tree}
 use Rattle.hashmap_tree.specs.Dict.{unseen, DictTree, one, two, Branch, open_edge, hidden_edge}
 use Rattle.hashmap_tree.specs.Entries.{Slice, leaf, hidden, Entries, cell_of, Then, under, fork, pairs_in, hidden_in}
-use Rattle.hashmap_tree.specs.First.{Fork, forked}
+use Rattle.hashmap_tree.specs.First.{forked}
 use Rattle.typed_value.specs.Values.{Plain, Plains, PlainPairs, no_vals, a_val, no_pairs, a_pair}
 use Rattle.typed_value.specs.Values as values
 use Rattle.core_form.specs.Core.{Items, CoreSchema, no_items, an_item, check, solve, field, sets}
@@ -21,11 +21,11 @@ use Rattle.core_form.specs.Closed as closed
 use Rattle.core_form.specs.Scope.{Scope, with_number, bind}
 use Rattle.spelling.specs.Slices.{nothing, only_bits, only_ref, took}
 use Rattle.spelling.specs.Goals.{Row, natural, integer, string, no_row, row, Goal, at_type, at_field, at_cell, Shape, typed, fields_here, fields_under, left_out, as_cell, at_fields, under_ref, shape_of}
-use Rattle.spelling.specs.Spells.{Repeats, Fields, SpellsNumber, SpellsString, SpellsShape, Spells, Each, EachPair, Holds, Contents, EntriesHold, no_entries, some_entries, next_bit}
+use Rattle.spelling.specs.Spells.{Repeats, Fields, SpellsNumber, SpellsString, SpellsShape, Spells, Each, EachPair, Holds, Contents, EntriesHold, no_entries, some_entries}
 use Rattle.pruning.specs.Laid.{Laid, number, bit_string, record_of, absent, list_of, ref_to, ref_to_raw, no_map, map_under, map_here, rest, Laids, no_laids, a_laid, LaidEdge, a_leaf, a_fork, join, below}
 use Rattle.pruning.specs.Lies.{BeginsWith, EdgeCell, LiesShape, Lies, EachLies, EdgeLies}
 use Rattle.pruning.specs.Blanked.{KeyPart, hidden_of}
-use Rattle.pruning.specs.Cut.{cell_with, Parts, below_parts, leaf_part, fork_part, hidden_part, map_with, ForRest, ForRaw, CutsCell, Cuts, CutsAll, CutsEdge}
+use Rattle.pruning.specs.Cut.{cell_with, Parts, below_parts, fork_part, map_with, ForRest, ForRaw, CutsCell, Cuts, CutsAll, CutsEdge}
 use Rattle.pruning_laws.specs.CleanLaws.{IsClean, AllClean, clean-right, clean-below, stub-hides}
 
 -- ---- lists of trees
@@ -411,11 +411,11 @@ fork_hold : (schema : CoreSchema) (l : List ℕ) (A B : Parts) (zs os : Entries)
     → Hold schema B t os → Hold schema (fork_part l A B) t (fork l zs os)
 fork_hold schema l A B zs os t h k = (
   contents_join schema (under (l ++ 0 ∷ []) zs) (under (l ++ 1 ∷ []) os) (below (l ++ 0 ∷ []) A.pairs)
-  (below (l ++ 1 ∷ []) B.pairs) t (contents_below schema (l ++ 0 ∷ []) zs A.pairs t h.0)
-  (contents_below schema (l ++ 1 ∷ []) os B.pairs t k.0),
+      (below (l ++ 1 ∷ []) B.pairs) t (contents_below schema (l ++ 0 ∷ []) zs A.pairs t h.0)
+      (contents_below schema (l ++ 1 ∷ []) os B.pairs t k.0),
   hidden-append (under (l ++ 0 ∷ []) zs) (under (l ++ 1 ∷ []) os)
-  ∙ (λ i. (hidden-under (l ++ 0 ∷ []) zs ∙ ap (below_parts (l ++ 0 ∷ [])) h.1) i
-  ++ (hidden-under (l ++ 1 ∷ []) os ∙ ap (below_parts (l ++ 1 ∷ [])) k.1) i),
+      ∙ (λ i. (hidden-under (l ++ 0 ∷ []) zs ∙ ap (below_parts (l ++ 0 ∷ [])) h.1) i
+      ++ (hidden-under (l ++ 1 ∷ []) os ∙ ap (below_parts (l ++ 1 ∷ [])) k.1) i),
 )
 
 -- the cell of an edge, hidden or with other references

@@ -1,12 +1,11 @@
 -- A root cell with parts hidden reads as its value with these parts hidden.
-use Rattle.std.proofs.Common.{◌≡◌, inl, inr, ℕ, ◌≤◌, List, [], ◌∷◌, Some, None, refl, sym, ap, ◌∙◌, subst, arith}
+use Rattle.std.proofs.Common.{◌≡◌, inl, ◌≤◌, List, [], None, refl, sym, subst, arith}
 use Rattle.cell_nodes.specs.Prunes.{Prunes, same}
 use Rattle.cell_nodes.specs.declared.tree.Mode.TheVariants.{Partial}
 use Rattle.cell_nodes.specs.declared.tree.Tree.{Tree}
 use Rattle.hashmap_tree.specs.Dict.{unseen}
 use Rattle.core_form.specs.Core.{CoreSchema}
 use Rattle.core_form.specs.Closed.{Closed}
-use Rattle.spelling.specs.Slices.{only_ref, nothing}
 use Rattle.spelling.specs.Goals.{Goal, at_cell, as_cell, under_ref}
 use Rattle.spelling.specs.Spells.{Spells, Holds, Reading}
 use Rattle.typed_value.specs.Values.{Plain, levels, parts, most_levels, most_parts}
@@ -16,7 +15,7 @@ use Rattle.pruning.specs.Lies.{LaidRoot, as_it_is, laid, plain_root, LiesAtRoot}
 use Rattle.pruning.specs.Spots.{at_root}
 use Rattle.pruning.specs.Cut.{Choice, cell_with, cut, cut_root, blank, blank_root, ForRest, ForRaw, Cuts}
 use Rattle.pruning_laws.specs.CleanLaws.{IsClean}
-use Rattle.pruning_laws.specs.ReadsLaws.{Trusts, Held, holds_go, reads}
+use Rattle.pruning_laws.specs.ReadsLaws.{Trusts, holds_go, reads}
 use Rattle.pruning_laws.specs.ChoiceLaws.{kept_rest, kept_raw, chooses, clean-seen, trusts_kept}
 use Rattle.pruning_laws.specs.SizeLaws.{no_larger}
 

@@ -1,10 +1,10 @@
 -- Where parts are hidden, a value has no more levels and no more parts.
-use Rattle.std.proofs.Common.{◌≡◌, ◌⊎◌, inl, inr, ℕ, ◌+◌, ◌≤◌, max, List, [], ◌∷◌, ◌++◌, refl, sym, ap, ◌∙◌, subst, arith}
+use Rattle.std.proofs.Common.{◌≡◌, inl, inr, ℕ, ◌+◌, ◌≤◌, max, List, [], ◌∷◌, ◌++◌, refl, sym, ap, subst, arith}
 use Rattle.cell_nodes.specs.declared.tree.Tree.{Tree}
 use Rattle.typed_value.specs.Values.{Plain, Plains, PlainPairs, no_pairs, a_pair, no_vals, a_val, levels, levels_in, levels_by, parts, parts_in, parts_by}
 use Rattle.typed_value.specs.Values as values
 use Rattle.pruning.specs.Laid.{Laid, number, bit_string, record_of, absent, list_of, ref_to, ref_to_raw, no_map, map_under, map_here, rest, Laids, no_laids, a_laid, LaidEdge, a_leaf, a_fork, join, below, plain, plain_all, plain_pairs}
-use Rattle.pruning.specs.Cut.{Parts, leaf_part, fork_part, hidden_part, map_with, ForRest, ForRaw, CutsCell, Cuts, CutsAll, CutsEdge}
+use Rattle.pruning.specs.Cut.{Parts, fork_part, map_with, ForRest, ForRaw, CutsCell, Cuts, CutsAll, CutsEdge}
 
 pub record NoLarger (w v : Plain) : Type 0 where
   pub deep : levels w ≤ levels v

@@ -1,10 +1,9 @@
 -- Any pruned tree of a tree that reads is the stub, or reads as the value blanked where it is pruned, but that each tree in
 -- a Raw or a Rest prunes to the one there.
-use Rattle.std.proofs.Common.{◌≡◌, ◌⊎◌, inl, inr, ℕ, zero, suc, ◌+◌, ◌≤◌, Bool, true, false, cond, IsTrue, List, [], ◌∷◌, ◌++◌, length, map, Option, Some, None, slice_get, refl, sym, ap, ◌∙◌, subst, append_assoc, length-append, arith}
+use Rattle.std.proofs.Common.{◌≡◌, ◌⊎◌, inl, inr, ℕ, suc, Bool, true, false, cond, IsTrue, List, [], ◌∷◌, ◌++◌, length, map, Option, Some, None, slice_get, refl, sym, ap, ◌∙◌, subst, append_assoc, length-append, arith}
 use Rattle.std.proofs.lemmas.List.{append-nil}
-use Rattle.cell_nodes.specs.Constructed.{pruned_bits, stub}
+use Rattle.cell_nodes.specs.Constructed.{stub}
 use Rattle.cell_nodes.specs.Equations.{out-tree_of, marks-out}
-use Rattle.cell_nodes.specs.Good.{IsGood}
 use Rattle.cell_nodes.specs.GoodParts.{good-sound}
 use Rattle.cell_nodes.specs.HiddenParts.{hidden_by}
 use Rattle.cell_nodes.specs.Layout.{has_layout, stored_mask}
@@ -25,9 +24,9 @@ use Rattle.typed_value.specs.Values.{Plain, Plains, PlainPairs, no_vals, a_val, 
 use Rattle.typed_value.specs.Values as values
 use Rattle.pruning.specs.Laid.{Laid, number, bit_string, record_of, absent, list_of, ref_to, ref_to_raw, no_map, map_under, map_here, rest, Laids, no_laids, a_laid, LaidEdge, a_leaf, a_fork, join, below, plain, trees, trees_all, edge_trees}
 use Rattle.pruning.specs.Lies.{LaidRoot, as_it_is, laid, plain_root, LiesAtRoot}
-use Rattle.pruning.specs.Spots.{Spot, Where, at_root, stepped, past, in_edge, in_ref, spot, first_name, other_names, spots_of, chosen}
+use Rattle.pruning.specs.Spots.{Where, at_root, stepped, past, in_edge, in_ref, spot, first_name, other_names, spots_of, chosen}
 use Rattle.pruning.specs.Blanked.{KeyPart, hidden_of, Blanked}
-use Rattle.pruning.specs.Cut.{Choice, cell_with, Parts, below_parts, leaf_part, fork_part, hidden_part, map_with, blank, blank_fields, blank_items, blank_edge, blank_root, ForRest, ForRaw, CutsCell, Cuts, CutsAll, CutsEdge}
+use Rattle.pruning.specs.Cut.{cell_with, Parts, below_parts, leaf_part, fork_part, hidden_part, map_with, blank, blank_fields, blank_items, blank_edge, ForRest, ForRaw, CutsCell, Cuts, CutsAll, CutsEdge}
 use Rattle.pruning.specs.Thinned.{Thins, same as thins_same, record_thins, list_thins, ref_thins, map_thins, raw_thins, rest_thins, AllThin, no_more, one_more, PairsThin, no_pair, one_pair, below_child, subtree, is_pruned_kind, is_pruned, pruned_in, ReadsThinned}
 use Rattle.pruning_laws.specs.BlankedLaws.{RootApart, blanks}
 use Rattle.pruning_laws.specs.ChoiceLaws.{all_same, clean-seen}
@@ -35,7 +34,7 @@ use Rattle.pruning_laws.specs.CleanLaws.{IsClean, AllClean, clean-left, clean-ri
 use Rattle.pruning_laws.specs.FirmLaws.{Firm, AllFirm, FirmEdge, cell_firm, takes}
 use Rattle.pruning_laws.specs.KnownLaws.{left_part, right_part}
 use Rattle.pruning_laws.specs.ReadsLaws.{Trusts, all-length}
-use Rattle.pruning_laws.specs.RootLaws.{IsSmall, Shows, raw_holds, cut_shows}
+use Rattle.pruning_laws.specs.RootLaws.{IsSmall, raw_holds, cut_shows}
 
 abbrev pub for_rest : ForRest
 for_rest ts ps = AllPrune ts ps 0
@@ -204,7 +203,7 @@ placed-right root w n qs rs e x =
       before = x.before ++ qs;
       after = x.after;
       children = x.children ∙ ap (λ (l : List Tree). x.before ++ l) (append_assoc qs rs x.after)
-      ∙ sym (append_assoc x.before qs (rs ++ x.after));
+          ∙ sym (append_assoc x.before qs (rs ++ x.after));
       next = omega (arith, l, k, e);
     }
 
@@ -252,7 +251,7 @@ thin-map X x h =
 thin-fork : (l : List ℕ) (X x Y y : Parts) → PartsThin X x → PartsThin Y y → PartsThin (fork_part l X Y) (fork_part l x y)
 thin-fork l X x Y y h k = record {
   pairs = thin-join (below (l ++ 0 ∷ []) X.pairs) (below (l ++ 0 ∷ []) x.pairs) (below (l ++ 1 ∷ []) Y.pairs) (below (l ++ 1 ∷ []) y.pairs)
-  (thin-below (l ++ 0 ∷ []) X.pairs x.pairs h.pairs) (thin-below (l ++ 1 ∷ []) Y.pairs y.pairs k.pairs);
+      (thin-below (l ++ 0 ∷ []) X.pairs x.pairs h.pairs) (thin-below (l ++ 1 ∷ []) Y.pairs y.pairs k.pairs);
   unknown = λ i. below_parts (l ++ 0 ∷ []) (h.unknown i) ++ below_parts (l ++ 1 ∷ []) (k.unknown i);
 }
 

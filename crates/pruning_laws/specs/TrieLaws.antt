@@ -1,14 +1,11 @@
 -- The hidden edges of a map: of those that a choice names, the outermost hide its keys.
-use Rattle.std.proofs.Common.{◌≡◌, ◌⊎◌, inl, inr, ℕ, zero, suc, ◌+◌, ◌<◌, ◌≤◌, Bool, true, false, cond, ◌&&◌, ◌||◌, nat_eq, nat_lt, List, [], ◌∷◌, ◌++◌, length, Option, Some, None, refl, sym, ap, ◌∙◌, subst, append_assoc, length-append, arith}
+use Rattle.std.proofs.Common.{◌≡◌, ℕ, suc, ◌+◌, Bool, true, false, cond, ◌&&◌, ◌||◌, nat_eq, nat_lt, List, [], ◌∷◌, ◌++◌, length, refl, sym, ap, ◌∙◌, append_assoc, length-append, arith}
 use Rattle.std.proofs.lemmas.Bool.{eq-eqb, lt-ltb, ltb-true}
-use Rattle.std.proofs.lemmas.List.{append-nil}
-use Rattle.cell_nodes.specs.declared.tree.Hidden.{Hidden}
-use Rattle.cell_nodes.specs.declared.tree.Tree.{Tree}
 use Rattle.hashmap_tree.specs.Merged.{is_before}
 use Rattle.schema_leads.specs.Leads.{begins}
-use Rattle.typed_value.specs.Values.{Plain, PlainPairs, no_pairs, a_pair}
+use Rattle.typed_value.specs.Values.{PlainPairs, no_pairs, a_pair}
 use Rattle.pruning.specs.Laid.{join, below}
-use Rattle.pruning.specs.Blanked.{KeyPart, hidden_of, some_begin, others_begin, outer_among, outermost, put, put_all}
+use Rattle.pruning.specs.Blanked.{KeyPart, others_begin, outer_among, outermost, put, put_all}
 use Rattle.pruning.specs.Cut.{below_parts}
 use Rattle.pruning_laws.specs.KeyLaws.{begins-append, begins-same}
 
