@@ -1,5 +1,7 @@
 -- In an accepted schema no two fields of a record are shown by one name.
-use Rattle.std.proofs.Common.{◌≡◌, ◌⊎◌, inl, inr, ℕ, zero, suc, ◌+◌, ◌<◌, ◌≤◌, ◌^◌, List, [], ◌∷◌, ◌++◌, length, Option, Some, None, Bool, true, false, ◌||◌, ◌&&◌, cond, nat_eq, refl, sym, ap, ◌∙◌, subst, arith, slice_get}
+use Rattle.std.proofs.Common.{◌≡◌, ◌⊎◌, inl, inr, ℕ, zero, suc, ◌+◌, ◌<◌, ◌≤◌, ◌^◌, List, [], ◌∷◌, ◌++◌, length}
+use Rattle.std.proofs.Common.{Option, Some, None, Bool, true, false, ◌||◌, ◌&&◌, cond, nat_eq, refl, sym, ap, ◌∙◌}
+use Rattle.std.proofs.Common.{subst, arith, slice_get}
 use Rattle.std.specs.Prelude.{bytes_eq, codes, decimal}
 use Rattle.std.specs.List.{list_any}
 use Rattle.std.proofs.lemmas.Bool.{or_parts, eqb-true, eqb-false}
@@ -8,8 +10,11 @@ use Rattle.std.proofs.lemmas.List.Folds.{list_any-append}
 use Rattle.std.proofs.lemmas.Slice.Eq.{bytes_eq-Decides}
 use Rattle.nat_solver.specs.declared.compare.Op.{Op}
 use Rattle.tlb_lexer.specs.Spelling.{is_name}
-use Rattle.tlb_syntax.specs.Limits.{IsWord, IsWordOrNone, IsExpr, IsType, AreItems, item_count, IsConstructor, AreConstructors}
-use Rattle.tlb_syntax.specs.Tree.{ExprView, ExprList, ItemView, ItemList, TypeView, ConstructorView, SchemaView, lit, named, nat32, bits, below, up_to, plus, star, out, ref, group, plain, when, when_bit, implicit, check, explicit, no_items, an_item, no_exprs, an_expr}
+use Rattle.tlb_syntax.specs.Limits.{IsWord, IsWordOrNone, IsExpr, IsType, AreItems, item_count, IsConstructor}
+use Rattle.tlb_syntax.specs.Limits.{AreConstructors}
+use Rattle.tlb_syntax.specs.Tree.{ExprView, ExprList, ItemView, ItemList, TypeView, ConstructorView, SchemaView, lit}
+use Rattle.tlb_syntax.specs.Tree.{named, nat32, bits, below, up_to, plus, star, out, ref, group, plain, when}
+use Rattle.tlb_syntax.specs.Tree.{when_bit, implicit, check, explicit, no_items, an_item, no_exprs, an_expr}
 use Rattle.kind_rules.specs.declared.expected.TypePosition.{TypePosition}
 use Rattle.kind_rules.specs.declared.expected.TypePosition.TheVariants.{Whole, Conditional}
 use Rattle.kind_rules.specs.FieldNames.{names_inside}
@@ -21,21 +26,28 @@ use Rattle.kind_terms.specs.Params.{greatest, option_list}
 use Rattle.kind_terms.specs.Forms.{is_field_of_numbers}
 use Rattle.kind_terms.specs.Positions.{unnamed_name, shown, is_unnamed}
 use Rattle.kind_terms.specs.Scopes.{field_names}
-use Rattle.kind_declarations.specs.Nodes.{RecordContext, ItemContext, Judged, at, first, first_inside, expr_nodes, type_nodes, item_nodes, record_nodes, name_at, record_and_outputs, constructor_nodes}
+use Rattle.kind_declarations.specs.Nodes.{RecordContext, ItemContext, Judged, at, first, first_inside, expr_nodes}
+use Rattle.kind_declarations.specs.Nodes.{type_nodes, item_nodes, record_nodes, name_at, record_and_outputs}
+use Rattle.kind_declarations.specs.Nodes.{constructor_nodes}
 use Rattle.kind_declarations.specs.Nodes as nodes
 use Rattle.kind_declarations.specs.Faults.{faults}
 use Rattle.tlb_kinds.specs.Laws.{KeptStaysWithin}
-use Rattle.tlb_kinds.specs.Refusals.{IsKinded, kept_of, ordinary, refusals, refusals_within, of_headings, of_contents, of_guard}
+use Rattle.tlb_kinds.specs.Refusals.{IsKinded, kept_of, ordinary, refusals, refusals_within, of_headings, of_contents}
+use Rattle.tlb_kinds.specs.Refusals.{of_guard}
 use Rattle.tlb_kinds.specs.Spots.{heading, refusal_at, refusals_at}
 use Rattle.core_form.specs.Core.{Ty, Items, Args, Item, Declaration}
 use Rattle.nat_solver.specs.Number.{Expr}
 use Rattle.nat_solver.specs.Number as num
 use Rattle.core_form.specs.Core as core
-use Rattle.schema_core.specs.Names.{Names, Variable, TypeName, no_type, type_word, anything, family, family_of, hashmap_type, hashmap_e_type, declared, declares, meaning, type_called, other, declared_kinds}
+use Rattle.schema_core.specs.Names.{Names, Variable, TypeName, no_type, type_word, anything, family, family_of}
+use Rattle.schema_core.specs.Names.{hashmap_type, hashmap_e_type, declared, declares, meaning, type_called, other}
+use Rattle.schema_core.specs.Names.{declared_kinds}
 use Rattle.schema_core.specs.Names as names_in
 use Rattle.schema_core.specs.Numbers.{number_of, no_number, side_of, unknown_by}
 use Rattle.schema_core.specs.Slots.{next_slot, field_slots}
-use Rattle.schema_core.specs.CoreOf.{no_meaning, of_family, applied, alone, type_of, first_type, args_of, own_slot, constraint_by, constraint_of, unnamed_by, items_of, item_of, field_of, body_of, under_ref, core_of}
+use Rattle.schema_core.specs.CoreOf.{no_meaning, of_family, applied, alone, type_of, first_type, args_of, own_slot}
+use Rattle.schema_core.specs.CoreOf.{constraint_by, constraint_of, unnamed_by, items_of, item_of, field_of, body_of}
+use Rattle.schema_core.specs.CoreOf.{under_ref, core_of}
 use Rattle.schema_leads.specs.Tags.{tag_of}
 use Rattle.kinded_core.specs.Clean.{AreClean}
 use Rattle.kinded_core.specs.CleanLaws.{clean_both, clean_nodes, append_none, map_none}
@@ -105,7 +117,8 @@ AllLater others u most (y ∷ ys) = IsLater others u most y × AllLater others u
 fewer : (f a n b : List Word) (y : Word) → is_among ((f ++ a) ++ (n ++ b)) y ≡ false
     → (is_among (f ++ n) y ≡ false) × (is_among a y ≡ false)
 fewer f a n b y h =
-    let x = or_parts (is_among (f ++ a) y) (is_among (n ++ b) y) (sym (list_any-append (bytes_eq y) (f ++ a) (n ++ b)) ∙ h) in
+    let x = or_parts (is_among (f ++ a) y) (is_among (n ++ b) y)
+        (sym (list_any-append (bytes_eq y) (f ++ a) (n ++ b)) ∙ h) in
     let l = or_parts (is_among f y) (is_among a y) (sym (list_any-append (bytes_eq y) f a) ∙ x.0) in
     let r = or_parts (is_among n y) (is_among b y) (sym (list_any-append (bytes_eq y) n b) ∙ x.1) in
     (list_any-append (bytes_eq y) f n ∙ (λ i. l.0 i || r.0 i), l.1)
@@ -171,7 +184,8 @@ later (an_item (implicit x k) is) types h names next place u most c w low =
     let n = nodes.next h (implicit x k) in
     sooner h.fields (field_names (implicit x k)) h.inner (names_inside (implicit x k)) u u most
     (core.field_names (further is types names next place u (implicit x k))) (omega arith)
-    (later is types (nodes.next h (implicit x k)) (names ++ declares (implicit x k) next) (next_slot next (implicit x k))
+    (later is types (nodes.next h (implicit x k)) (names ++ declares (implicit x k) next)
+        (next_slot next (implicit x k))
     (place + 1) u most p.1 w.1 (omega (arith, low)))
 later (an_item (check a op b) is) types h names next place u most c w low =
     let p = clean_both (item_nodes (check a op b) (at h (check a op b)) (h.fields ++ h.inner)) _ c in
@@ -180,7 +194,8 @@ later (an_item (check a op b) is) types h names next place u most c w low =
     (further is types names next place u (check a op b))))
     (sooner h.fields (field_names (check a op b)) h.inner (names_inside (check a op b)) u u most
     (core.field_names (further is types names next place u (check a op b))) (omega arith)
-    (later is types (nodes.next h (check a op b)) (names ++ declares (check a op b) next) (next_slot next (check a op b))
+    (later is types (nodes.next h (check a op b)) (names ++ declares (check a op b) next)
+        (next_slot next (check a op b))
     (place + 1) u most p.1 w.1 (omega (arith, low))))
 later (an_item (explicit None t) is) types h names next place u most c w low =
     let p = clean_both (item_nodes (explicit None t) (at h (explicit None t)) (h.fields ++ h.inner)) _ c in
@@ -190,7 +205,8 @@ later (an_item (explicit None t) is) types h names next place u most c w low =
       inl (u + 1, omega arith, omega (arith, low), refl),
       sooner h.fields (field_names (explicit None t)) h.inner (names_inside (explicit None t)) u (u + 1) most
     (core.field_names (further is types names next place u (explicit None t))) (omega arith)
-      (later is types (nodes.next h (explicit None t)) (names ++ declares (explicit None t) next) (next_slot next (explicit None t))
+      (later is types (nodes.next h (explicit None t)) (names ++ declares (explicit None t) next)
+          (next_slot next (explicit None t))
       (place + 1) (u + 1) most p.1 w.1 (omega (arith, low))),
     )
 later (an_item (explicit (Some z) t) is) types h names next place u most c w low =
@@ -198,11 +214,13 @@ later (an_item (explicit (Some z) t) is) types h names next place u most c w low
     let q = clean_both (name_at (at h (explicit (Some z) t)).path (h.fields ++ h.inner) (Some z)) _ p.0 in
     let P : List Word → Type 0 = AllLater (h.fields ++ h.inner) u most in
     subst P (sym (field-head types names (shown (Some z) u) (own_slot (Some z) (is_field_of_numbers t) next)
-    (next + field_slots (Some z) (is_field_of_numbers t)) t (further is types names next place u (explicit (Some z) t)))) (
+    (next + field_slots (Some z) (is_field_of_numbers t)) t (further is types names next place u
+        (explicit (Some z) t)))) (
       inr (w.0.0, new_name (h.fields ++ h.inner) (at h (explicit (Some z) t)).path z q.0),
       sooner h.fields (field_names (explicit (Some z) t)) h.inner (names_inside (explicit (Some z) t)) u u most
     (core.field_names (further is types names next place u (explicit (Some z) t))) (omega arith)
-      (later is types (nodes.next h (explicit (Some z) t)) (names ++ declares (explicit (Some z) t) next) (next_slot next (explicit (Some z) t))
+      (later is types (nodes.next h (explicit (Some z) t)) (names ++ declares (explicit (Some z) t) next)
+          (next_slot next (explicit (Some z) t))
       (place + 1) u most p.1 w.1 (omega (arith, low))),
     )
 
@@ -298,10 +316,12 @@ mutual
       let l = later is types (nodes.next h (explicit (Some z) t)) (names ++ declares (explicit (Some z) t) next)
       (next_slot next (explicit (Some z) t)) (place + 1) u most p.1 w.1 (omega (arith, low)) in
       field-apart types names (shown (Some z) u) (own_slot (Some z) (is_field_of_numbers t) next)
-      (next + field_slots (Some z) (is_field_of_numbers t)) t (further is types names next place u (explicit (Some z) t))
+      (next + field_slots (Some z) (is_field_of_numbers t)) t
+          (further is types names next place u (explicit (Some z) t))
       (named-apart h.fields h.inner (names_inside (explicit (Some z) t)) z w.0.0 u most
       (core.field_names (further is types names next place u (explicit (Some z) t))) l)
-      (view-apart t types (at h (explicit (Some z) t)) names (next + field_slots (Some z) (is_field_of_numbers t)) q.1 w.0.1)
+      (view-apart t types (at h (explicit (Some z) t)) names (next + field_slots (Some z) (is_field_of_numbers t))
+          q.1 w.0.1)
       (items-apart is types (nodes.next h (explicit (Some z) t)) (names ++ declares (explicit (Some z) t) next)
       (next_slot next (explicit (Some z) t)) (place + 1) u most p.1 w.1 (omega (arith, low)) few)
 

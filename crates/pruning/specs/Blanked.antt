@@ -1,12 +1,14 @@
 -- A value with spots blanked: hidden parts stand in the place of references. This project's own.
-use Rattle.std.specs.Prelude.{Bool, true, false, ◌&&◌, ◌||◌, if◌then◌else◌, ℕ, suc, nat_eq, nat_lt, List, [], ◌∷◌, ◌++◌, length, Option, Some, None}
+use Rattle.std.specs.Prelude.{Bool, true, false, ◌&&◌, ◌||◌, if◌then◌else◌, ℕ, suc, nat_eq, nat_lt, List, [], ◌∷◌}
+use Rattle.std.specs.Prelude.{◌++◌, length, Option, Some, None}
 use Rattle.cell_nodes.specs.Tree.{hash, depth}
 use Rattle.cell_nodes.specs.declared.tree.Hidden.{Hidden}
 use Rattle.cell_nodes.specs.declared.tree.Tree.{Tree}
 use Rattle.hashmap_tree.specs.Merged.{is_before}
 use Rattle.schema_leads.specs.Leads.{begins}
 use Rattle.typed_value.specs.Paths.{Stride, named, item, keyed}
-use Rattle.typed_value.specs.Values.{Plain, Plains, PlainPairs, number, bit_string, record_of, absent, list_of, ref_to, unknown, map_of, raw, rest, no_vals, a_val, no_pairs, a_pair}
+use Rattle.typed_value.specs.Values.{Plain, Plains, PlainPairs, number, bit_string, record_of, absent, list_of}
+use Rattle.typed_value.specs.Values.{ref_to, unknown, map_of, raw, rest, no_vals, a_val, no_pairs, a_pair}
 use Rattle.pruning.specs.Spots.{Spot, first_name, other_names, same_stride}
 
 -- what stands in the place of a cell

@@ -7,7 +7,9 @@ use Rattle.cell_nodes.specs.declared.tree.Tree.{Tree, out-Tree}
 use Rattle.typed_value.specs.Paths.{named, item, keyed}
 use Rattle.typed_value.specs.Values.{Plain, Plains, PlainPairs, no_vals, a_val, no_pairs, a_pair}
 use Rattle.typed_value.specs.Values as values
-use Rattle.pruning.specs.Laid.{Laid, number, bit_string, record_of, absent, list_of, ref_to, ref_to_raw, no_map, map_under, map_here, rest, Laids, no_laids, a_laid, LaidEdge, a_leaf, a_fork, join, below, trees}
+use Rattle.pruning.specs.Laid.{Laid, number, bit_string, record_of, absent, list_of, ref_to, ref_to_raw, no_map}
+use Rattle.pruning.specs.Laid.{map_under, map_here, rest, Laids, no_laids, a_laid, LaidEdge, a_leaf, a_fork, join}
+use Rattle.pruning.specs.Laid.{below, trees}
 use Rattle.pruning.specs.Lies.{LaidRoot, as_it_is, laid}
 use Rattle.pruning.specs.Spots.{Spot, Where, at_root, stepped, past, in_edge, in_ref, spot, first_name, other_names}
 use Rattle.pruning.specs.Blanked.{KeyPart, hidden_of}
@@ -51,7 +53,8 @@ abbrev mutual
   cut_edge f w q (a_leaf l d) = cut f (stepped w (keyed (q ++ l))) d
   cut_edge f w q (a_fork l z a o b) =
       cut_cell (f (spot w (Some (q ++ (l ++ 0 ∷ []))) z)) z (cut_edge f (in_edge w) (q ++ (l ++ 0 ∷ [])) a)
-      ∷ (cut_cell (f (spot (past w 1) (Some (q ++ (l ++ 1 ∷ []))) o)) o (cut_edge f (in_edge (past w 1)) (q ++ (l ++ 1 ∷ [])) b)
+      ∷ (cut_cell (f (spot (past w 1) (Some (q ++ (l ++ 1 ∷ []))) o)) o
+          (cut_edge f (in_edge (past w 1)) (q ++ (l ++ 1 ∷ [])) b)
       ∷ [])
 
 -- the tree with spots hidden

@@ -9,7 +9,8 @@ use Rattle.pruning.specs.declared.Knowledge.TheVariants.{Known, KnownAbsent, Not
 use Rattle.pruning.specs.Blanked.{hidden_of, Blanked}
 use Rattle.pruning.specs.Cut.{cell_with, cut}
 use Rattle.pruning.specs.Knowing.{known, names_absence}
-use Rattle.pruning.specs.Laid.{Laid, number, record_of, ref_to, ref_to_raw, map_under, no_laids, a_laid, a_leaf, a_fork, plain}
+use Rattle.pruning.specs.Laid.{Laid, number, record_of, ref_to, ref_to_raw, map_under, no_laids, a_laid, a_leaf}
+use Rattle.pruning.specs.Laid.{a_fork, plain}
 use Rattle.pruning.specs.Spots.{Spot, at_root, spots, unless_kept, unkept}
 
 -- what a chosen path shows of a value

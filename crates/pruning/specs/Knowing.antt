@@ -1,7 +1,8 @@
 -- What is known of a path in a value with hidden parts, and what a path names. This project's own.
 use Rattle.std.specs.Prelude.{◌≡◌, ◌⊎◌, Bool, true, false, if◌then◌else◌, List, [], ◌∷◌, Option, Some, None}
 use Rattle.typed_value.specs.Paths.{Stride, named, item, keyed, entry_at, step_at, at_path}
-use Rattle.typed_value.specs.Values.{Plain, PlainPairs, number, bit_string, record_of, absent, list_of, ref_to, unknown, map_of, raw, rest}
+use Rattle.typed_value.specs.Values.{Plain, PlainPairs, number, bit_string, record_of, absent, list_of, ref_to}
+use Rattle.typed_value.specs.Values.{unknown, map_of, raw, rest}
 use Rattle.pruning.specs.declared.Knowledge.{Knowledge}
 use Rattle.pruning.specs.declared.Knowledge.TheVariants.{Known, KnownAbsent, NotKnown}
 use Rattle.pruning.specs.Blanked.{KeyPart, some_begin}

@@ -1,5 +1,5 @@
--- A value as it lies in a tree: beside each reference stands the cell that it leads to, and a map stands as the edges of
--- its dictionary.
+-- A value as it lies in a tree: beside each reference stands the cell that it leads to, and a map stands as the edges
+-- of its dictionary.
 use Rattle.std.specs.Prelude.{Bool, ℕ, List, [], ◌∷◌, ◌++◌, Option}
 use Rattle.cell_nodes.specs.declared.tree.Tree.{Tree}
 use Rattle.typed_value.specs.Values.{Slice, Plain, Plains, PlainPairs, no_vals, a_val, no_pairs, a_pair}

@@ -1,5 +1,5 @@
--- What a laid value is spelled by, in mode Whole: what `Spells` says of its value, and that the cells and the edges beside
--- it are those of the tree.
+-- What a laid value is spelled by, in mode Whole: what `Spells` says of its value, and that the cells and the edges
+-- beside it are those of the tree.
 --
 -- Source: TON documentation, "TL-B language"; TVM whitepaper, 3.3, and the TON documentation on hashmaps.
 use Rattle.std.specs.Prelude.{◌≡◌, ℕ, suc, ◌+◌, List, [], ◌∷◌, length}
@@ -14,10 +14,13 @@ use Rattle.core_form.specs.Closed.{Closed}
 use Rattle.core_form.specs.Closed as closed
 use Rattle.spelling.specs.Slices.{nothing, only_bits, only_ref}
 use Rattle.spelling.specs.Goals.{at_type, at_cell, typed, under_ref}
-use Rattle.spelling.specs.Spells.{Meaning, Closing, Meanings, no_meanings, a_meaning, SpellsNumber, SpellsString, SpellsRecord, SpellsAbsent, SpellsList, SpellsRef, SpellsRest, AtRow, ByShape, Holds}
+use Rattle.spelling.specs.Spells.{Meaning, Closing, Meanings, no_meanings, a_meaning, SpellsNumber, SpellsString}
+use Rattle.spelling.specs.Spells.{SpellsRecord, SpellsAbsent, SpellsList, SpellsRef, SpellsRest, AtRow, ByShape}
+use Rattle.spelling.specs.Spells.{Holds}
 use Rattle.typed_value.specs.Values.{Plain}
 use Rattle.typed_value.specs.Values as values
-use Rattle.pruning.specs.Laid.{Laid, number, bit_string, record_of, absent, list_of, ref_to, ref_to_raw, no_map, map_under, map_here, rest, Laids, no_laids, a_laid, LaidEdge, a_leaf, a_fork, plain}
+use Rattle.pruning.specs.Laid.{Laid, number, bit_string, record_of, absent, list_of, ref_to, ref_to_raw, no_map}
+use Rattle.pruning.specs.Laid.{map_under, map_here, rest, Laids, no_laids, a_laid, LaidEdge, a_leaf, a_fork, plain}
 
 -- this cell is the first reference
 abbrev pub BeginsWith : Tree → Slice → Type 0

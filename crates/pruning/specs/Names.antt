@@ -2,7 +2,8 @@
 --
 -- Source: this project's own. An accepted schema is so: two fields of one name are refused there.
 use Rattle.std.specs.Prelude.{◌≡◌, ℕ, List, [], ◌∷◌, Some, slice_get}
-use Rattle.core_form.specs.Core.{Word, Ty, Items, Declaration, CoreSchema, check, solve, field, no_items, an_item, field_names}
+use Rattle.core_form.specs.Core.{Word, Ty, Items, Declaration, CoreSchema, check, solve, field, no_items, an_item}
+use Rattle.core_form.specs.Core.{field_names}
 use Rattle.core_form.specs.Core as core
 
 abbrev pub NotAmong : Word → List Word → Type 0

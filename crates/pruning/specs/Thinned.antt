@@ -10,7 +10,8 @@ use Rattle.cell_nodes.specs.declared.tree.Mode.TheVariants.{Partial}
 use Rattle.core_form.specs.Core.{CoreSchema}
 use Rattle.core_form.specs.Closed.{Closed}
 use Rattle.spelling.specs.Spells.{Reading}
-use Rattle.typed_value.specs.Values.{Plain, Plains, PlainPairs, record_of, list_of, ref_to, map_of, raw, rest, no_vals, a_val, no_pairs, a_pair}
+use Rattle.typed_value.specs.Values.{Plain, Plains, PlainPairs, record_of, list_of, ref_to, map_of, raw, rest}
+use Rattle.typed_value.specs.Values.{no_vals, a_val, no_pairs, a_pair}
 use Rattle.pruning.specs.Spots.{Spot}
 
 -- the second value is the first, but that each tree in a Raw or a Rest of the first prunes to the one in the second

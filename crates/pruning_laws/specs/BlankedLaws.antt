@@ -1,20 +1,30 @@
 -- A value blanked at a list of its spots is the value with just these spots hidden.
-use Rattle.std.proofs.Common.{◌≡◌, ℕ, suc, Bool, true, false, cond, ◌||◌, List, [], ◌∷◌, ◌++◌, length, Option, Some, None, refl, sym, ap, ◌∙◌, subst, append_assoc}
+use Rattle.std.proofs.Common.{◌≡◌, ℕ, suc, Bool, true, false, cond, ◌||◌, List, [], ◌∷◌, ◌++◌, length, Option, Some}
+use Rattle.std.proofs.Common.{None, refl, sym, ap, ◌∙◌, subst, append_assoc}
 use Rattle.std.proofs.lemmas.List.{append-nil}
 use Rattle.cell_nodes.specs.declared.tree.Tree.{Tree}
 use Rattle.schema_leads.specs.Leads.{begins}
 use Rattle.typed_value.specs.Paths.{Stride, named, item, keyed}
 use Rattle.typed_value.specs.Values.{Plain, Plains, PlainPairs, no_vals, a_val, no_pairs, a_pair}
 use Rattle.typed_value.specs.Values as values
-use Rattle.pruning.specs.Laid.{Laid, number, bit_string, record_of, absent, list_of, ref_to, ref_to_raw, no_map, map_under, map_here, rest, Laids, no_laids, a_laid, LaidEdge, a_leaf, a_fork, join, below, plain, plain_all, plain_pairs, trees}
+use Rattle.pruning.specs.Laid.{Laid, number, bit_string, record_of, absent, list_of, ref_to, ref_to_raw, no_map}
+use Rattle.pruning.specs.Laid.{map_under, map_here, rest, Laids, no_laids, a_laid, LaidEdge, a_leaf, a_fork, join}
+use Rattle.pruning.specs.Laid.{below, plain, plain_all, plain_pairs, trees}
 use Rattle.pruning.specs.Lies.{LaidRoot, as_it_is, laid, plain_root}
-use Rattle.pruning.specs.Spots.{Spot, Where, at_root, stepped, past, in_edge, in_ref, spot, first_name, other_names, spots, edge_spots, spots_of, chosen}
-use Rattle.pruning.specs.Blanked.{KeyPart, hidden_of, blanked_ref, with_prefix, edges_at, some_begin, outermost, put_all, blanked, blanked_fields, blanked_items, blanked_pairs, Blanked}
-use Rattle.pruning.specs.Cut.{Choice, Parts, below_parts, fork_part, hidden_part, map_with, blank, blank_fields, blank_items, blank_edge, blank_root}
+use Rattle.pruning.specs.Spots.{Spot, Where, at_root, stepped, past, in_edge, in_ref, spot, first_name, other_names}
+use Rattle.pruning.specs.Spots.{spots, edge_spots, spots_of, chosen}
+use Rattle.pruning.specs.Blanked.{KeyPart, hidden_of, blanked_ref, with_prefix, edges_at, some_begin, outermost}
+use Rattle.pruning.specs.Blanked.{put_all, blanked, blanked_fields, blanked_items, blanked_pairs, Blanked}
+use Rattle.pruning.specs.Cut.{Choice, Parts, below_parts, fork_part, hidden_part, map_with, blank, blank_fields}
+use Rattle.pruning.specs.Cut.{blank_items, blank_edge, blank_root}
 use Rattle.pruning_laws.specs.KeyLaws.{begins-append, some_begin-append}
 use Rattle.pruning_laws.specs.KnownLaws.{left_part, right_part}
-use Rattle.pruning_laws.specs.TrieLaws.{AllBelow, AllDeeper, below-append, deeper-append, below-deeper, deeper-below, below-parts, Sides, sides-left, sides-right, outermost-append, outermost-one, InOrder, put-order, order-fork, below-below, parts-append, parts-nothing, pairs-below, pairs-join, pairs-nothing}
-use Rattle.pruning_laws.specs.PlaceLaws.{NamesApart, chosen-append, key_parts, RightAt, RightFields, RightItems, RightEdge, right-spots}
+use Rattle.pruning_laws.specs.TrieLaws.{AllBelow, AllDeeper, below-append, deeper-append, below-deeper, deeper-below}
+use Rattle.pruning_laws.specs.TrieLaws.{below-parts, Sides, sides-left, sides-right, outermost-append, outermost-one}
+use Rattle.pruning_laws.specs.TrieLaws.{InOrder, put-order, order-fork, below-below, parts-append, parts-nothing}
+use Rattle.pruning_laws.specs.TrieLaws.{pairs-below, pairs-join, pairs-nothing}
+use Rattle.pruning_laws.specs.PlaceLaws.{NamesApart, chosen-append, key_parts, RightAt, RightFields, RightItems}
+use Rattle.pruning_laws.specs.PlaceLaws.{RightEdge, right-spots}
 
 -- ---- the edges that are hidden
 
@@ -39,7 +49,8 @@ cell_outer : (f : Choice) (w : Where) (q : List ℕ) (c : Tree) (xs : List Spot)
     → Outer q (key_parts (chosen f (spot w (Some q) c ∷ xs))) (cond (f (spot w (Some q) c)) (hidden_part c) x)
 cell_outer f w q c xs x deep o = go (f (spot w (Some q) c))
   where
-    go : (b : Bool) → Outer q (key_parts (cond b (spot w (Some q) c ∷ chosen f xs) (chosen f xs))) (cond b (hidden_part c) x)
+    go : (b : Bool) → Outer q (key_parts (cond b (spot w (Some q) c ∷ chosen f xs) (chosen f xs)))
+        (cond b (hidden_part c) x)
     go true = record {
       all_below = (([], sym (append-nil q)), deeper-below q (key_parts (chosen f xs)) deep);
       outer = outermost-one (q, hidden_of c) (key_parts (chosen f xs)) deep
@@ -58,11 +69,13 @@ fork_outer q l us vs X Y x y =
     parts-append q (below_parts (l ++ 0 ∷ []) X.unknown) (below_parts (l ++ 1 ∷ []) Y.unknown)
     ∙ (λ i. below-below q (l ++ 0 ∷ []) X.unknown i ++ below-below q (l ++ 1 ∷ []) Y.unknown i) in
     record {
-      all_below = below-append q us vs (shorter q (l ++ 0 ∷ []) us x.all_below) (shorter q (l ++ 1 ∷ []) vs y.all_below);
+      all_below = below-append q us vs (shorter q (l ++ 0 ∷ []) us x.all_below)
+          (shorter q (l ++ 1 ∷ []) vs y.all_below);
       outer = outermost-append p r (sides-left q l) (sides-right q l) us vs x.all_below y.all_below
           ∙ (λ i. x.outer i ++ y.outer i) ∙ sym same;
       order = subst InOrder (sym same)
-          (order-fork q l (below_parts p X.unknown) (below_parts r Y.unknown) (below-parts p X.unknown) (below-parts r Y.unknown) x.order y.order);
+          (order-fork q l (below_parts p X.unknown) (below_parts r Y.unknown) (below-parts p X.unknown)
+              (below-parts r Y.unknown) x.order y.order);
     }
   where
     shorter : (q p : List ℕ) (us : List KeyPart) → AllBelow (q ++ p) us → AllBelow q us
@@ -87,16 +100,21 @@ edge_outer f w q (a_fork l z a o b) =
     let A = spot w (Some p) z ∷ edge_spots (in_edge w) p a in
     let B = spot (past w 1) (Some r) o ∷ edge_spots (in_edge (past w 1)) r b in
     let left = cell_outer f w p z (edge_spots (in_edge w) p a) (blank_edge f (in_edge w) p a) x.deep x.outer in
-    let right = cell_outer f (past w 1) r o (edge_spots (in_edge (past w 1)) r b) (blank_edge f (in_edge (past w 1)) r b) y.deep y.outer in
+    let right = cell_outer f (past w 1) r o (edge_spots (in_edge (past w 1)) r b)
+        (blank_edge f (in_edge (past w 1)) r b) y.deep y.outer in
     let us = key_parts (chosen f (spot w (Some p) z ∷ edge_spots (in_edge w) p a)) in
     let vs = key_parts (chosen f (spot (past w 1) (Some r) o ∷ edge_spots (in_edge (past w 1)) r b)) in
-    let same : key_parts (chosen f ((spot w (Some p) z ∷ edge_spots (in_edge w) p a) ++ (spot (past w 1) (Some r) o ∷ edge_spots (in_edge (past w 1)) r b))) ≡ us ++ vs =
-    ap key_parts (chosen-append f (spot w (Some p) z ∷ edge_spots (in_edge w) p a) (spot (past w 1) (Some r) o ∷ edge_spots (in_edge (past w 1)) r b))
-    ∙ key_parts-append (chosen f (spot w (Some p) z ∷ edge_spots (in_edge w) p a)) (chosen f (spot (past w 1) (Some r) o ∷ edge_spots (in_edge (past w 1)) r b)) in
+    let same : key_parts (chosen f ((spot w (Some p) z ∷ edge_spots (in_edge w) p a) ++
+        (spot (past w 1) (Some r) o ∷ edge_spots (in_edge (past w 1)) r b))) ≡ us ++ vs =
+    ap key_parts (chosen-append f (spot w (Some p) z ∷ edge_spots (in_edge w) p a)
+        (spot (past w 1) (Some r) o ∷ edge_spots (in_edge (past w 1)) r b))
+    ∙ key_parts-append (chosen f (spot w (Some p) z ∷ edge_spots (in_edge w) p a))
+        (chosen f (spot (past w 1) (Some r) o ∷ edge_spots (in_edge (past w 1)) r b)) in
     let P : List KeyPart → Type 0 = λ ks. AllDeeper q ks in
     let Q : List KeyPart → Type 0 = λ ks. Outer q ks (fork_part l (left_part f w q l z a) (right_part f w q l o b)) in
     record {
-      deep = subst P (sym same) (deeper-append q us vs (after_bit q l 0 us left.all_below) (after_bit q l 1 vs right.all_below));
+      deep = subst P (sym same) (deeper-append q us vs (after_bit q l 0 us left.all_below)
+          (after_bit q l 1 vs right.all_below));
       outer = subst Q (sym same) (fork_outer q l us vs (left_part f w q l z a) (right_part f w q l o b) left right);
     }
 
@@ -108,8 +126,10 @@ pairs-two S m us no_pairs qs = refl
 pairs-two S m us (a_pair k v ps) qs = go (some_begin us k) (pairs-two S m us ps qs)
   where
     go : (b : Bool) → blanked_pairs S m us (join ps qs) ≡ join (blanked_pairs S m us ps) (blanked_pairs S m us qs)
-        → cond b (blanked_pairs S m us (join ps qs)) (a_pair k (blanked S (m ++ keyed k ∷ []) 0 v) (blanked_pairs S m us (join ps qs)))
-        ≡ join (cond b (blanked_pairs S m us ps) (a_pair k (blanked S (m ++ keyed k ∷ []) 0 v) (blanked_pairs S m us ps))) (blanked_pairs S m us qs)
+        → cond b (blanked_pairs S m us (join ps qs)) (a_pair k (blanked S (m ++ keyed k ∷ []) 0 v)
+            (blanked_pairs S m us (join ps qs)))
+        ≡ join (cond b (blanked_pairs S m us ps) (a_pair k (blanked S (m ++ keyed k ∷ []) 0 v)
+            (blanked_pairs S m us ps))) (blanked_pairs S m us qs)
     go true h = h
     go false h = ap (a_pair k (blanked S (m ++ keyed k ∷ []) 0 v)) h
 
@@ -130,7 +150,8 @@ pairs-left S m p q sides us vs h no_pairs = refl
 pairs-left S m p q sides us vs h (a_pair k v ps) =
     let e : some_begin (us ++ vs) (p ++ k) ≡ some_begin us (p ++ k) =
     some_begin-append us vs (p ++ k)
-    ∙ ap (λ (b : Bool). some_begin us (p ++ k) || b) (none-begin q p sides vs h k) ∙ or-false (some_begin us (p ++ k)) in
+    ∙ ap (λ (b : Bool). some_begin us (p ++ k) || b) (none-begin q p sides vs h k) ∙ or-false
+        (some_begin us (p ++ k)) in
     λ i. cond (e i) (pairs-left S m p q sides us vs h ps i)
     (a_pair (p ++ k) (blanked S (m ++ keyed (p ++ k) ∷ []) 0 v) (pairs-left S m p q sides us vs h ps i))
 
@@ -153,7 +174,8 @@ pairs-hidden S m p c (a_pair k v ps) =
     ap (λ (x : List ℕ). begins x (p ++ k) || false) (append-nil p)
     ∙ ap (λ (b : Bool). b || false) (begins-append p k) in
     ap (λ (b : Bool). cond b (blanked_pairs S m (below_parts p (([], hidden_of c) ∷ [])) (below p ps))
-    (a_pair (p ++ k) (blanked S (m ++ keyed (p ++ k) ∷ []) 0 v) (blanked_pairs S m (below_parts p (([], hidden_of c) ∷ [])) (below p ps)))) e
+    (a_pair (p ++ k) (blanked S (m ++ keyed (p ++ k) ∷ []) 0 v)
+        (blanked_pairs S m (below_parts p (([], hidden_of c) ∷ [])) (below p ps)))) e
     ∙ pairs-hidden S m p c ps
 
 -- the pairs below q of what is left are those that blanking leaves
@@ -176,7 +198,8 @@ fork_stays S m q l ps qs X Y x y =
     let parts : below_parts q (fork_part l X Y).unknown ≡ us ++ vs =
     parts-append q (below_parts (l ++ 0 ∷ []) X.unknown) (below_parts (l ++ 1 ∷ []) Y.unknown)
     ∙ (λ i. below-below q (l ++ 0 ∷ []) X.unknown i ++ below-below q (l ++ 1 ∷ []) Y.unknown i) in
-    let pairs : (as2 bs : PlainPairs) → below q (join (below (l ++ 0 ∷ []) as2) (below (l ++ 1 ∷ []) bs)) ≡ join (below p as2) (below r bs) =
+    let pairs : (as2 bs : PlainPairs) → below q (join (below (l ++ 0 ∷ []) as2) (below (l ++ 1 ∷ []) bs)) ≡ join
+        (below p as2) (below r bs) =
     λ as2 bs. pairs-join q (below (l ++ 0 ∷ []) as2) (below (l ++ 1 ∷ []) bs)
     ∙ (λ i. join (pairs-below q (l ++ 0 ∷ []) as2 i) (pairs-below q (l ++ 1 ∷ []) bs i)) in
     (λ i. blanked_pairs S m (parts i) (pairs ps qs i))
@@ -191,7 +214,8 @@ fork_stays S m q l ps qs X Y x y =
 -- a map by its edges
 map_blanked : (S : List Spot) (m : List Stride) (us : List KeyPart) (ps : PlainPairs) (x : Parts) → edges_at m S ≡ us
     → Outer [] us x → PairsStay S m [] ps x
-    → (◌≡◌ {A = Plain} (values.map_of tt (blanked_pairs S m (outermost (edges_at m S)) ps) (put_all (outermost (edges_at m S)) [])) (map_with x))
+    → (◌≡◌ {A = Plain} (values.map_of tt (blanked_pairs S m (outermost (edges_at m S)) ps)
+        (put_all (outermost (edges_at m S)) [])) (map_with x))
 map_blanked S m us ps x e o stay =
     let out : outermost (edges_at m S) ≡ below_parts [] x.unknown = ap outermost e ∙ o.outer in
     let pairs : blanked_pairs S m (below_parts [] x.unknown) ps ≡ x.pairs =
@@ -245,7 +269,8 @@ mutual
       → blanked_items S w.path n (plain_all ds) ≡ blank_items f w n ds
   items_right f S w n no_laids h = refl
   items_right f S w n (a_laid d ds) h =
-      λ i. a_val (blank_right f S (stepped w (item n)) d h.0 i) (items_right f S (past w (length (trees d))) (suc n) ds h.1 i)
+      λ i. a_val (blank_right f S (stepped w (item n)) d h.0 i)
+          (items_right f S (past w (length (trees d))) (suc n) ds h.1 i)
 
   edge_right : (f : Choice) (S : List Spot) (w : Where) (q : List ℕ) (e : LaidEdge) → RightEdge f S w q e
       → PairsStay S w.path q (plain_pairs e) (blank_edge f w q e)
@@ -255,8 +280,10 @@ mutual
       fork_stays S w.path q l (plain_pairs a) (plain_pairs b) (left_part f w q l z a) (right_part f w q l o b)
       (cell_stays S w.path (q ++ (l ++ 0 ∷ [])) z (plain_pairs a) (blank_edge f (in_edge w) (q ++ (l ++ 0 ∷ [])) a)
       (f (spot w (Some (q ++ (l ++ 0 ∷ []))) z)) (edge_right f S (in_edge w) (q ++ (l ++ 0 ∷ [])) a h.0))
-      (cell_stays S w.path (q ++ (l ++ 1 ∷ [])) o (plain_pairs b) (blank_edge f (in_edge (past w 1)) (q ++ (l ++ 1 ∷ [])) b)
-      (f (spot (past w 1) (Some (q ++ (l ++ 1 ∷ []))) o)) (edge_right f S (in_edge (past w 1)) (q ++ (l ++ 1 ∷ [])) b h.1))
+      (cell_stays S w.path (q ++ (l ++ 1 ∷ [])) o (plain_pairs b)
+          (blank_edge f (in_edge (past w 1)) (q ++ (l ++ 1 ∷ [])) b)
+      (f (spot (past w 1) (Some (q ++ (l ++ 1 ∷ []))) o)) (edge_right f S (in_edge (past w 1)) (q ++ (l ++ 1 ∷ [])) b
+          h.1))
 
 -- each record of the value has a name of its own for each field
 abbrev pub RootApart : LaidRoot → Type 0

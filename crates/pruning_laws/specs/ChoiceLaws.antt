@@ -1,5 +1,6 @@
 -- A choice of spots cuts a laid value, and what is kept stays as it is.
-use Rattle.std.proofs.Common.{◌≡◌, inl, inr, ℕ, suc, Bool, true, false, cond, List, [], ◌∷◌, ◌++◌, length, Some, None, refl, sym, ap, ◌∙◌, subst}
+use Rattle.std.proofs.Common.{◌≡◌, inl, inr, ℕ, suc, Bool, true, false, cond, List, [], ◌∷◌, ◌++◌, length, Some, None}
+use Rattle.std.proofs.Common.{refl, sym, ap, ◌∙◌, subst}
 use Rattle.cell_nodes.specs.Constructed.{stub}
 use Rattle.cell_nodes.specs.HiddenParts.{hidden_by}
 use Rattle.cell_nodes.specs.Prunes.{Prunes, same, AllPrune, none, more}
@@ -10,10 +11,13 @@ use Rattle.cell_nodes.specs.declared.tree.Tree.{Tree, out-Tree}
 use Rattle.hashmap_tree.specs.Dict.{unseen}
 use Rattle.typed_value.specs.Paths.{named, item, keyed}
 use Rattle.typed_value.specs.Values as values
-use Rattle.pruning.specs.Laid.{Laid, number, bit_string, record_of, absent, list_of, ref_to, ref_to_raw, no_map, map_under, map_here, rest, Laids, no_laids, a_laid, LaidEdge, a_leaf, a_fork, trees}
+use Rattle.pruning.specs.Laid.{Laid, number, bit_string, record_of, absent, list_of, ref_to, ref_to_raw, no_map}
+use Rattle.pruning.specs.Laid.{map_under, map_here, rest, Laids, no_laids, a_laid, LaidEdge, a_leaf, a_fork, trees}
 use Rattle.pruning.specs.Spots.{Where, stepped, past, in_edge, in_ref, spot, first_name, other_names}
 use Rattle.pruning.specs.Blanked.{hidden_of}
-use Rattle.pruning.specs.Cut.{Choice, cut_cell, cut, cut_fields, cut_items, cut_edge, Parts, hidden_part, blank, blank_fields, blank_items, blank_edge, ForRest, ForRaw, CutsCell, Cuts, CutsAll, CutsEdge}
+use Rattle.pruning.specs.Cut.{Choice, cut_cell, cut, cut_fields, cut_items, cut_edge, Parts, hidden_part, blank}
+use Rattle.pruning.specs.Cut.{blank_fields, blank_items, blank_edge, ForRest, ForRaw, CutsCell, Cuts, CutsAll}
+use Rattle.pruning.specs.Cut.{CutsEdge}
 use Rattle.pruning_laws.specs.CleanLaws.{IsClean}
 use Rattle.pruning_laws.specs.ReadsLaws.{Trusts}
 
@@ -103,7 +107,8 @@ mutual
         refl,
         cuts_cell (CutsEdge kept_rest kept_raw a) (f (spot w (Some x) z)) z (cut_edge f (in_edge w) x a)
             (blank_edge f (in_edge w) x a) (chooses_edge f (in_edge w) x a),
-        cuts_cell (CutsEdge kept_rest kept_raw b) (f (spot (past w 1) (Some y) o)) o (cut_edge f (in_edge (past w 1)) y b)
+        cuts_cell (CutsEdge kept_rest kept_raw b) (f (spot (past w 1) (Some y) o)) o
+            (cut_edge f (in_edge (past w 1)) y b)
             (blank_edge f (in_edge (past w 1)) y b) (chooses_edge f (in_edge (past w 1)) y b),
       )
 

@@ -11,10 +11,13 @@ use Rattle.core_form.specs.Closed.{Closed}
 use Rattle.core_form.specs.Closed as closed
 use Rattle.core_form.specs.Scope.{Scope, with_number, bind}
 use Rattle.spelling.specs.Slices.{nothing, only_ref}
-use Rattle.spelling.specs.Goals.{Row, natural, integer, string, no_row, row, Goal, at_type, at_field, at_cell, Shape, typed, fields_here, fields_under, left_out, at_fields, under_ref}
+use Rattle.spelling.specs.Goals.{Row, natural, integer, string, no_row, row, Goal, at_type, at_field, at_cell, Shape}
+use Rattle.spelling.specs.Goals.{typed, fields_here, fields_under, left_out, at_fields, under_ref}
 use Rattle.spelling.specs.Spells.{Repeats, Fields, SpellsNumber, SpellsString, Holds}
 use Rattle.typed_value.specs.Values as values
-use Rattle.pruning.specs.Laid.{Laid, number, bit_string, record_of, absent, list_of, ref_to, ref_to_raw, no_map, map_under, map_here, rest, Laids, no_laids, a_laid, LaidEdge, a_leaf, a_fork, trees, trees_all, edge_trees}
+use Rattle.pruning.specs.Laid.{Laid, number, bit_string, record_of, absent, list_of, ref_to, ref_to_raw, no_map}
+use Rattle.pruning.specs.Laid.{map_under, map_here, rest, Laids, no_laids, a_laid, LaidEdge, a_leaf, a_fork, trees}
+use Rattle.pruning.specs.Laid.{trees_all, edge_trees}
 use Rattle.pruning.specs.Lies.{BeginsWith, LiesShape, Lies, EachLies, EdgeLies}
 use Rattle.pruning.specs.Cut.{cell_with}
 use Rattle.pruning_laws.specs.ReadsLaws.{bits-cell, no_cell, ok_cell}
@@ -164,7 +167,8 @@ mutual
   takes schema (ref_to a d) (fields_under is scope) s outs after e =
       ref_takes schema a d (takes schema d) (at_fields is scope) s after e.0 e.2 e.3 e.4
   takes schema (ref_to a d) _ s outs after e = absurd e
-  takes schema (ref_to_raw a) (typed (closed.ref closed.whole)) s outs after e = record { refs = e.1.refs; is_firm = tt }
+  takes schema (ref_to_raw a) (typed (closed.ref closed.whole)) s outs after e = record
+      { refs = e.1.refs; is_firm = tt }
   takes schema (ref_to_raw a) _ s outs after e = absurd e
   takes schema no_map (typed (closed.dict_e n t)) s outs after e = record { refs = e.1.refs; is_firm = tt }
   takes schema no_map _ s outs after e = absurd e
@@ -185,7 +189,8 @@ mutual
   all_take schema no_laids = tt
   all_take schema (a_laid d ds) = (takes schema d, all_take schema ds)
 
-  edge_takes : (schema : CoreSchema) (e : LaidEdge) (n : ℕ) (t : Closed) (s after : Slice) → EdgeLies schema e n t s after
+  edge_takes : (schema : CoreSchema) (e : LaidEdge) (n : ℕ) (t : Closed) (s after : Slice) → EdgeLies schema e n t s
+      after
       → Takes (edge_trees e) (FirmEdge e) s after
   edge_takes schema (a_leaf l d) n t s after k =
       let x = takes schema d k.3.0 k.0 k.1 after k.3.2 in

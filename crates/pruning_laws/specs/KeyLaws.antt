@@ -1,5 +1,6 @@
 -- Bits that begin a key, and pairs below bits.
-use Rattle.std.proofs.Common.{◌≡◌, ℕ, Bool, true, false, cond, ◌&&◌, ◌||◌, nat_eq, List, [], ◌∷◌, ◌++◌, Option, Some, None, refl, sym, ap, ◌∙◌, subst}
+use Rattle.std.proofs.Common.{◌≡◌, ℕ, Bool, true, false, cond, ◌&&◌, ◌||◌, nat_eq, List, [], ◌∷◌, ◌++◌, Option, Some}
+use Rattle.std.proofs.Common.{None, refl, sym, ap, ◌∙◌, subst}
 use Rattle.std.specs.Prelude.{bytes_eq}
 use Rattle.std.proofs.lemmas.Bool.{eqb-true, eq-eqb}
 use Rattle.std.proofs.lemmas.Slice.Eq.{bytes_eq-Decides}
@@ -57,7 +58,8 @@ one-not_zero (b ∷ l) k =
 
 -- ---- hidden parts below bits
 
-pub some_begin-append : (us vs : List KeyPart) (k : List ℕ) → some_begin (us ++ vs) k ≡ (some_begin us k || some_begin vs k)
+pub some_begin-append : (us vs : List KeyPart) (k : List ℕ) → some_begin (us ++ vs) k ≡
+    (some_begin us k || some_begin vs k)
 some_begin-append [] vs k = refl
 some_begin-append (u ∷ us) vs k =
     ap (λ t. begins u.0 k || t) (some_begin-append us vs k) ∙ go (begins u.0 k) (some_begin us k) (some_begin vs k)
@@ -124,12 +126,14 @@ same-bytes (b ∷ p) l k = go (bytes_eq l k) refl
     drop (x ∷ p) l k e = drop p l k (ap tail e)
 
     go : (t : Bool) → bytes_eq l k ≡ t → bytes_eq (b ∷ (p ++ l)) (b ∷ (p ++ k)) ≡ t
-    go true f = (bytes_eq-Decides (b ∷ (p ++ l)) (b ∷ (p ++ k))).1 (ap (λ (x : List ℕ). b ∷ (p ++ x)) ((bytes_eq-Decides l k).0 f))
+    go true f = (bytes_eq-Decides (b ∷ (p ++ l)) (b ∷ (p ++ k))).1
+        (ap (λ (x : List ℕ). b ∷ (p ++ x)) ((bytes_eq-Decides l k).0 f))
     go false f = other (bytes_eq (b ∷ (p ++ l)) (b ∷ (p ++ k))) refl
       where
         other : (t : Bool) → bytes_eq (b ∷ (p ++ l)) (b ∷ (p ++ k)) ≡ t → t ≡ false
         other true g =
-            let h = (bytes_eq-Decides l k).1 (drop (b ∷ p) l k ((bytes_eq-Decides (b ∷ (p ++ l)) (b ∷ (p ++ k))).0 g)) in
+            let h = (bytes_eq-Decides l k).1 (drop (b ∷ p) l k
+                ((bytes_eq-Decides (b ∷ (p ++ l)) (b ∷ (p ++ k))).0 g)) in
             absurd (cc)
         other false g = refl
 

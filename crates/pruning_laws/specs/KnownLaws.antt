@@ -1,5 +1,6 @@
 -- What is known of a path all of whose spots are kept.
-use Rattle.std.proofs.Common.{◌≡◌, ℕ, zero, suc, ◌+◌, Bool, true, false, cond, ◌&&◌, ◌||◌, List, [], ◌∷◌, ◌++◌, length, Option, Some, None, slice_get, refl, sym, ap, ◌∙◌, subst, append_assoc, arith}
+use Rattle.std.proofs.Common.{◌≡◌, ℕ, zero, suc, ◌+◌, Bool, true, false, cond, ◌&&◌, ◌||◌, List, [], ◌∷◌, ◌++◌}
+use Rattle.std.proofs.Common.{length, Option, Some, None, slice_get, refl, sym, ap, ◌∙◌, subst, append_assoc, arith}
 use Rattle.std.specs.Prelude.{bytes_eq}
 use Rattle.std.proofs.lemmas.Bool.{eq-eqb}
 use Rattle.std.proofs.lemmas.Slice.Eq.{bytes_eq-Decides}
@@ -9,13 +10,19 @@ use Rattle.typed_value.specs.Paths.{Stride, named, item, keyed, field_at, item_a
 use Rattle.typed_value.specs.Values.{Plain, PlainPairs, no_pairs, a_pair}
 use Rattle.typed_value.specs.Values as values
 use Rattle.pruning.specs.declared.Knowledge.TheVariants.{Known, NotKnown}
-use Rattle.pruning.specs.Laid.{Laid, number, bit_string, record_of, absent, list_of, ref_to, ref_to_raw, no_map, map_under, map_here, rest, Laids, no_laids, a_laid, LaidEdge, a_leaf, a_fork, join, below, plain, plain_all, plain_pairs, trees}
+use Rattle.pruning.specs.Laid.{Laid, number, bit_string, record_of, absent, list_of, ref_to, ref_to_raw, no_map}
+use Rattle.pruning.specs.Laid.{map_under, map_here, rest, Laids, no_laids, a_laid, LaidEdge, a_leaf, a_fork, join}
+use Rattle.pruning.specs.Laid.{below, plain, plain_all, plain_pairs, trees}
 use Rattle.pruning.specs.Lies.{LaidRoot, as_it_is, laid, plain_root}
-use Rattle.pruning.specs.Spots.{Spot, Where, at_root, stepped, past, in_edge, in_ref, spot, same_stride, leads, enters, needs, kept, not, unless_kept}
+use Rattle.pruning.specs.Spots.{Spot, Where, at_root, stepped, past, in_edge, in_ref, spot, same_stride, leads}
+use Rattle.pruning.specs.Spots.{enters, needs, kept, not, unless_kept}
 use Rattle.pruning.specs.Blanked.{hidden_of, some_begin}
 use Rattle.pruning.specs.Knowing.{is_hidden, hides, known_at, known, as_named}
-use Rattle.pruning.specs.Cut.{Choice, Parts, below_parts, hidden_part, map_with, fork_part, blank, blank_fields, blank_items, blank_edge, blank_root}
-use Rattle.pruning_laws.specs.KeyLaws.{begins-append, stripped, zero-not_one, one-not_zero, some_begin-append, some_begin-same, some_begin-other, or_else, entry-join, entry-below, entry-other, GoesOn, to_zero, to_one, nowhere, goes_on}
+use Rattle.pruning.specs.Cut.{Choice, Parts, below_parts, hidden_part, map_with, fork_part, blank, blank_fields}
+use Rattle.pruning.specs.Cut.{blank_items, blank_edge, blank_root}
+use Rattle.pruning_laws.specs.KeyLaws.{begins-append, stripped, zero-not_one, one-not_zero, some_begin-append}
+use Rattle.pruning_laws.specs.KeyLaws.{some_begin-same, some_begin-other, or_else, entry-join, entry-below}
+use Rattle.pruning_laws.specs.KeyLaws.{entry-other, GoesOn, to_zero, to_one, nowhere, goes_on}
 
 -- ---- what is kept on the way
 
@@ -46,7 +53,8 @@ named-same : (w : List Stride) (x y : List ℕ) → bytes_eq x y ≡ true → w 
 named-same w x y e = ap (λ (z : List ℕ). w ++ named z ∷ []) ((bytes_eq-Decides x y).0 e)
 
 field_matches : (f : Choice) (w : Where) (names : List (List ℕ)) (ds : Laids) (name : List ℕ)
-    → Matches f (w.path ++ named name ∷ []) (field_at names (plain_all ds) name) (field_at names (blank_fields f w names ds) name)
+    → Matches f (w.path ++ named name ∷ []) (field_at names (plain_all ds) name)
+        (field_at names (blank_fields f w names ds) name)
 field_matches f w [] ds name = tt
 field_matches f w (x ∷ names) no_laids name = tt
 field_matches f w (x ∷ names) (a_laid d ds) name =
@@ -56,7 +64,8 @@ field_matches f w (x ∷ names) (a_laid d ds) name =
         → Matches f (w.path ++ named name ∷ []) (field_at names (plain_all ds) name)
         (field_at names (blank_fields f (past w (length (trees d))) names ds) name)
         → Matches f (w.path ++ named name ∷ []) (cond b (Some (plain d)) (field_at names (plain_all ds) name))
-        (cond b (Some (blank f (stepped w (named x)) d)) (field_at names (blank_fields f (past w (length (trees d))) names ds) name))
+        (cond b (Some (blank f (stepped w (named x)) d)) (field_at names
+            (blank_fields f (past w (length (trees d))) names ds) name))
     go true e ih = (stepped w (named x), d, named-same w.path x name e, refl, refl)
     go false e ih = ih
 
@@ -87,13 +96,15 @@ zero_matches f m l z o a b A B r h =
     let k = (l ++ 0 ∷ []) ++ r in
     let P : Option Plain → Type 0 = λ u. Matches f m u (entry_at (fork_part l A B).pairs k) in
     let Q : Option Plain → Type 0 = λ u. Matches f m (entry_at (plain_pairs a) r) u in
-    let value : (ps qs : PlainPairs) → entry_at (join (below (l ++ 0 ∷ []) ps) (below (l ++ 1 ∷ []) qs)) k ≡ entry_at ps r =
+    let value : (ps qs : PlainPairs) → entry_at (join (below (l ++ 0 ∷ []) ps) (below (l ++ 1 ∷ []) qs)) k ≡ entry_at
+        ps r =
     λ ps qs. entry-join (below (l ++ 0 ∷ []) ps) (below (l ++ 1 ∷ []) qs) k
     ∙ (λ i. or_else (entry-below (l ++ 0 ∷ []) ps r i) (entry-other (l ++ 1 ∷ []) qs k (zero-not_one l r) i))
     ∙ or-none (entry_at ps r) in
     record {
       shown = some_begin-append (below_parts (l ++ 0 ∷ []) A.unknown) (below_parts (l ++ 1 ∷ []) B.unknown) k
-          ∙ (λ i. (some_begin-same (l ++ 0 ∷ []) A.unknown r ∙ h.shown) i || some_begin-other (l ++ 1 ∷ []) B.unknown k (zero-not_one l r) i);
+          ∙ (λ i. (some_begin-same (l ++ 0 ∷ []) A.unknown r ∙ h.shown) i || some_begin-other (l ++ 1 ∷ []) B.unknown
+              k (zero-not_one l r) i);
       there = subst P (sym (value (plain_pairs a) (plain_pairs b))) (subst Q (sym (value A.pairs B.pairs)) h.there);
     }
 
@@ -103,12 +114,14 @@ one_matches f m l z o a b A B r h =
     let k = (l ++ 1 ∷ []) ++ r in
     let P : Option Plain → Type 0 = λ u. Matches f m u (entry_at (fork_part l A B).pairs k) in
     let Q : Option Plain → Type 0 = λ u. Matches f m (entry_at (plain_pairs b) r) u in
-    let value : (ps qs : PlainPairs) → entry_at (join (below (l ++ 0 ∷ []) ps) (below (l ++ 1 ∷ []) qs)) k ≡ entry_at qs r =
+    let value : (ps qs : PlainPairs) → entry_at (join (below (l ++ 0 ∷ []) ps) (below (l ++ 1 ∷ []) qs)) k ≡ entry_at
+        qs r =
     λ ps qs. entry-join (below (l ++ 0 ∷ []) ps) (below (l ++ 1 ∷ []) qs) k
     ∙ (λ i. or_else (entry-other (l ++ 0 ∷ []) ps k (one-not_zero l r) i) (entry-below (l ++ 1 ∷ []) qs r i)) in
     record {
       shown = some_begin-append (below_parts (l ++ 0 ∷ []) A.unknown) (below_parts (l ++ 1 ∷ []) B.unknown) k
-          ∙ (λ i. some_begin-other (l ++ 0 ∷ []) A.unknown k (one-not_zero l r) i || (some_begin-same (l ++ 1 ∷ []) B.unknown r ∙ h.shown) i);
+          ∙ (λ i. some_begin-other (l ++ 0 ∷ []) A.unknown k (one-not_zero l r) i ||
+              (some_begin-same (l ++ 1 ∷ []) B.unknown r ∙ h.shown) i);
       there = subst P (sym (value (plain_pairs a) (plain_pairs b))) (subst Q (sym (value A.pairs B.pairs)) h.there);
     }
 
@@ -134,7 +147,8 @@ cell_matches : (f : Choice) (w : Where) (m : List Stride) (e : LaidEdge) (q p r 
 cell_matches f w m e q p r c x kept h =
     let P : Bool → Type 0 = λ b. EdgeMatches f m e (cond b (hidden_part c) x) r in
     let B : List ℕ → Type 0 = λ k. begins (q ++ p) k ≡ true in
-    subst P (sym (kept (spot w (Some (q ++ p)) c) (q ++ p) refl refl (subst B (append_assoc q p r) (begins-append (q ++ p) r)))) h
+    subst P (sym (kept (spot w (Some (q ++ p)) c) (q ++ p) refl refl
+        (subst B (append_assoc q p r) (begins-append (q ++ p) r)))) h
 
 leaf_matches : (f : Choice) (w : Where) (q l : List ℕ) (d : Laid) (k : List ℕ)
     → EdgeMatches f (w.path ++ keyed (q ++ k) ∷ []) (a_leaf l d) (blank_edge f w q (a_leaf l d)) k
@@ -144,7 +158,8 @@ leaf_matches f w q l d k = record { shown = refl; there = go (bytes_eq l k) refl
         → Matches f (w.path ++ keyed (q ++ k) ∷ []) (cond b (Some (plain d)) None)
         (cond b (Some (blank f (stepped w (keyed (q ++ l))) d)) None)
     go true e =
-        (stepped w (keyed (q ++ l)), d, ap (λ (z : List ℕ). w.path ++ keyed (q ++ z) ∷ []) ((bytes_eq-Decides l k).0 e), refl, refl)
+        (stepped w (keyed (q ++ l)), d, ap (λ (z : List ℕ). w.path ++ keyed (q ++ z) ∷ [])
+            ((bytes_eq-Decides l k).0 e), refl, refl)
     go false e = tt
 
 -- what is left of the two edges of a fork
@@ -167,9 +182,11 @@ edge_matches f w q (a_fork l z a o b) k kept =
   where
     go : GoesOn l k
         → ((r : List ℕ) → KeyKept f w.path ((q ++ (l ++ 0 ∷ [])) ++ r)
-        → EdgeMatches f (w.path ++ keyed ((q ++ (l ++ 0 ∷ [])) ++ r) ∷ []) a (blank_edge f (in_edge w) (q ++ (l ++ 0 ∷ [])) a) r)
+        → EdgeMatches f (w.path ++ keyed ((q ++ (l ++ 0 ∷ [])) ++ r) ∷ []) a
+            (blank_edge f (in_edge w) (q ++ (l ++ 0 ∷ [])) a) r)
         → ((r : List ℕ) → KeyKept f w.path ((q ++ (l ++ 1 ∷ [])) ++ r)
-        → EdgeMatches f (w.path ++ keyed ((q ++ (l ++ 1 ∷ [])) ++ r) ∷ []) b (blank_edge f (in_edge (past w 1)) (q ++ (l ++ 1 ∷ [])) b) r)
+        → EdgeMatches f (w.path ++ keyed ((q ++ (l ++ 1 ∷ [])) ++ r) ∷ []) b
+            (blank_edge f (in_edge (past w 1)) (q ++ (l ++ 1 ∷ [])) b) r)
         → EdgeMatches f (w.path ++ keyed (q ++ k) ∷ []) (a_fork l z a o b) (blank_edge f w q (a_fork l z a o b)) k
     go (to_zero r e) left right =
         let p = l ++ 0 ∷ [] in
@@ -177,23 +194,32 @@ edge_matches f w q (a_fork l z a o b) k kept =
         let there = subst K e kept in
         let L : List ℕ → Type 0 = λ k. KeyKept f w.path k in
         let x = left r (subst L (sym (append_assoc q p r)) there) in
-        let P : List ℕ → Type 0 = λ k. EdgeMatches f (w.path ++ keyed k ∷ []) a (blank_edge f (in_edge w) (q ++ p) a) r in
+        let P : List ℕ → Type 0 = λ k. EdgeMatches f (w.path ++ keyed k ∷ []) a (blank_edge f (in_edge w) (q ++ p) a)
+            r in
         let y = subst P (append_assoc q p r) x in
-        let c = cell_matches f w (w.path ++ keyed (q ++ (p ++ r)) ∷ []) a q p r z (blank_edge f (in_edge w) (q ++ p) a) there y in
-        let Q : List ℕ → Type 0 = λ k. EdgeMatches f (w.path ++ keyed (q ++ k) ∷ []) (a_fork l z a o b) (blank_edge f w q (a_fork l z a o b)) k in
-        subst Q (sym e) (zero_matches f (w.path ++ keyed (q ++ (p ++ r)) ∷ []) l z o a b (left_part f w q l z a) (right_part f w q l o b) r c)
+        let c = cell_matches f w (w.path ++ keyed (q ++ (p ++ r)) ∷ []) a q p r z
+            (blank_edge f (in_edge w) (q ++ p) a) there y in
+        let Q : List ℕ → Type 0 = λ k. EdgeMatches f (w.path ++ keyed (q ++ k) ∷ []) (a_fork l z a o b)
+            (blank_edge f w q (a_fork l z a o b)) k in
+        subst Q (sym e) (zero_matches f (w.path ++ keyed (q ++ (p ++ r)) ∷ []) l z o a b (left_part f w q l z a)
+            (right_part f w q l o b) r c)
     go (to_one r e) left right =
         let p = l ++ 1 ∷ [] in
         let K : List ℕ → Type 0 = λ k. KeyKept f w.path (q ++ k) in
         let there = subst K e kept in
         let L : List ℕ → Type 0 = λ k. KeyKept f w.path k in
         let x = right r (subst L (sym (append_assoc q p r)) there) in
-        let P : List ℕ → Type 0 = λ k. EdgeMatches f (w.path ++ keyed k ∷ []) b (blank_edge f (in_edge (past w 1)) (q ++ p) b) r in
+        let P : List ℕ → Type 0 = λ k. EdgeMatches f (w.path ++ keyed k ∷ []) b
+            (blank_edge f (in_edge (past w 1)) (q ++ p) b) r in
         let y = subst P (append_assoc q p r) x in
-        let c = cell_matches f (past w 1) (w.path ++ keyed (q ++ (p ++ r)) ∷ []) b q p r o (blank_edge f (in_edge (past w 1)) (q ++ p) b) there y in
-        let Q : List ℕ → Type 0 = λ k. EdgeMatches f (w.path ++ keyed (q ++ k) ∷ []) (a_fork l z a o b) (blank_edge f w q (a_fork l z a o b)) k in
-        subst Q (sym e) (one_matches f (w.path ++ keyed (q ++ (p ++ r)) ∷ []) l z o a b (left_part f w q l z a) (right_part f w q l o b) r c)
-    go (nowhere x y) left right = no_matches f (w.path ++ keyed (q ++ k) ∷ []) l z o a b (left_part f w q l z a) (right_part f w q l o b) k x y
+        let c = cell_matches f (past w 1) (w.path ++ keyed (q ++ (p ++ r)) ∷ []) b q p r o
+            (blank_edge f (in_edge (past w 1)) (q ++ p) b) there y in
+        let Q : List ℕ → Type 0 = λ k. EdgeMatches f (w.path ++ keyed (q ++ k) ∷ []) (a_fork l z a o b)
+            (blank_edge f w q (a_fork l z a o b)) k in
+        subst Q (sym e) (one_matches f (w.path ++ keyed (q ++ (p ++ r)) ∷ []) l z o a b (left_part f w q l z a)
+            (right_part f w q l o b) r c)
+    go (nowhere x y) left right = no_matches f (w.path ++ keyed (q ++ k) ∷ []) l z o a b (left_part f w q l z a)
+        (right_part f w q l o b) k x y
 
 -- ---- one step of any value
 
@@ -209,7 +235,8 @@ map_matches f m e x (item i) h = record { shown = refl; there = tt }
 map_matches f m e x (keyed key) h = let y = h key refl in record { shown = y.shown; there = y.there }
 
 record_matches : (f : Choice) (w : Where) (name : Option (List ℕ)) (names : List (List ℕ)) (ds : Laids) (s : Stride)
-    → StepMatches f w.path (values.record_of name names (plain_all ds)) (values.record_of name names (blank_fields f w names ds)) s
+    → StepMatches f w.path (values.record_of name names (plain_all ds))
+        (values.record_of name names (blank_fields f w names ds)) s
 record_matches f w name names ds (named x) = record { shown = refl; there = field_matches f w names ds x }
 record_matches f w name names ds (item i) = record { shown = refl; there = tt }
 record_matches f w name names ds (keyed k) = record { shown = refl; there = tt }
@@ -248,8 +275,10 @@ step_matches f w (ref_to_raw c) s refs edges =
     subst P (sym (refs (spot w None c) refl refl)) (record { shown = refl; there = tt })
 step_matches f w no_map s refs edges = none_match f w.path s
 step_matches f w (map_under c e) s refs edges =
-    map_matches f w.path e (cond (f (spot w (Some []) c)) (hidden_part c) (blank_edge f (in_edge w) [] e)) s (λ key same.
-    cell_matches f w (w.path ++ keyed key ∷ []) e [] [] key c (blank_edge f (in_edge w) [] e) (key_kept f w.path s edges key same)
+    map_matches f w.path e (cond (f (spot w (Some []) c)) (hidden_part c) (blank_edge f (in_edge w) [] e)) s
+        (λ key same.
+    cell_matches f w (w.path ++ keyed key ∷ []) e [] [] key c (blank_edge f (in_edge w) [] e)
+        (key_kept f w.path s edges key same)
     (edge_matches f (in_edge w) [] e key (key_kept f w.path s edges key same)))
 step_matches f w (map_here e) s refs edges =
     map_matches f w.path e (blank_edge f w [] e) s (λ key same.
@@ -286,7 +315,8 @@ known_way f (s ∷ steps) w d kept =
     ∙ go (step_at (plain d) s) (step_at (blank f w d) s) x.there (λ w d. known_way f steps w d)
   where
     go : (a b : Option Plain) → Matches f (w.path ++ s ∷ []) a b
-        → ((w : Where) (d : Laid) → WayKept f w.path steps → known (blank f w d) steps ≡ as_named (at_path (plain d) steps))
+        → ((w : Where) (d : Laid) → WayKept f w.path steps → known (blank f w d) steps ≡ as_named
+            (at_path (plain d) steps))
         → known_at b (λ u. known u steps) ≡ as_named (onward a (λ u. at_path u steps))
     go None None h further = refl
     go None (Some y) h further = absurd h
@@ -358,4 +388,5 @@ chosen_known paths i path e (as_it_is c) = raw_known path
     raw_known : (path : List Stride) → known (values.raw c) path ≡ as_named (at_path (values.raw c) path)
     raw_known [] = refl
     raw_known (s ∷ steps) = refl
-chosen_known paths i path e (laid d) = known_way (unless_kept paths) path at_root d (way_kept paths i path e path [] refl)
+chosen_known paths i path e (laid d) = known_way (unless_kept paths) path at_root d
+    (way_kept paths i path e path [] refl)

@@ -1,5 +1,6 @@
 -- Each value that is spelled in mode Whole lies so in its cells.
-use Rattle.std.proofs.Common.{◌≡◌, inl, inr, ℕ, Bool, true, false, cond, List, [], ◌∷◌, ◌++◌, Option, Some, None, Result, Ok, Err, refl, sym, ap, ◌∙◌, subst}
+use Rattle.std.proofs.Common.{◌≡◌, inl, inr, ℕ, Bool, true, false, cond, List, [], ◌∷◌, ◌++◌, Option, Some, None}
+use Rattle.std.proofs.Common.{Result, Ok, Err, refl, sym, ap, ◌∙◌, subst}
 use Rattle.cell_nodes.specs.declared.tree.Hidden.{Hidden}
 use Rattle.cell_nodes.specs.declared.tree.Mode.TheVariants.{Whole}
 use Rattle.cell_nodes.specs.declared.tree.Tree.{Tree}
@@ -15,12 +16,18 @@ use Rattle.core_form.specs.Closed as closed
 use Rattle.core_form.specs.Closing.{Refusal, close}
 use Rattle.core_form.specs.Scope.{Scope, with_number, value_in, bind}
 use Rattle.spelling.specs.Slices.{nothing, only_ref}
-use Rattle.spelling.specs.Goals.{Goal, at_type, at_field, at_cell, Shape, typed, fields_here, fields_under, left_out, as_cell, at_fields, under_ref, typed_or, laid, in_table, in_width, judged, passes, tested, shape_of}
-use Rattle.spelling.specs.Spells.{Repeats, Fields, SpellsShape, Spells, Each, EachPair, Holds, Contents, SpellsDict, SpellsDictE, no_entries, some_entries, IsRootOf, Reading}
+use Rattle.spelling.specs.Goals.{Goal, at_type, at_field, at_cell, Shape, typed, fields_here, fields_under, left_out}
+use Rattle.spelling.specs.Goals.{as_cell, at_fields, under_ref, typed_or, laid, in_table, in_width, judged, passes}
+use Rattle.spelling.specs.Goals.{tested, shape_of}
+use Rattle.spelling.specs.Spells.{Repeats, Fields, SpellsShape, Spells, Each, EachPair, Holds, Contents, SpellsDict}
+use Rattle.spelling.specs.Spells.{SpellsDictE, no_entries, some_entries, IsRootOf, Reading}
 use Rattle.spelling.specs.declared.Cause.{Cause}
 use Rattle.spelling.specs.declared.Cause.TheVariants.{Width}
-use Rattle.pruning.specs.Laid.{Laid, number, bit_string, record_of, absent, list_of, ref_to, ref_to_raw, no_map, map_under, map_here, rest, Laids, no_laids, a_laid, LaidEdge, a_leaf, a_fork, join, below, plain, plain_all, plain_pairs}
-use Rattle.pruning.specs.Lies.{EdgeCell, LiesShape, Lies, EachLies, EdgeLies, LaidRoot, as_it_is, laid as laid_root, plain_root, LiesAtRoot}
+use Rattle.pruning.specs.Laid.{Laid, number, bit_string, record_of, absent, list_of, ref_to, ref_to_raw, no_map}
+use Rattle.pruning.specs.Laid.{map_under, map_here, rest, Laids, no_laids, a_laid, LaidEdge, a_leaf, a_fork, join}
+use Rattle.pruning.specs.Laid.{below, plain, plain_all, plain_pairs}
+use Rattle.pruning.specs.Lies.{EdgeCell, LiesShape, Lies, EachLies, EdgeLies, LaidRoot, as_it_is, laid as laid_root}
+use Rattle.pruning.specs.Lies.{plain_root, LiesAtRoot}
 
 -- ---- only the cell of a reference is taken as it is
 
@@ -239,7 +246,8 @@ fork_laid : (schema : CoreSchema) (p : List ℕ) (zs os : Entries) (ps : PlainPa
     → ((ys : PlainPairs) → ByAble schema ys → Contents (EachPair Whole schema ys) t (pairs_in os)
     → EdgeOf schema ys os B)
     → Contents (EachPair Whole schema ps) t (pairs_in (fork p zs os))
-    → (a : LaidEdge) × (b : LaidEdge) × (join (below (p ++ 0 ∷ []) (plain_pairs a)) (below (p ++ 1 ∷ []) (plain_pairs b)) ≡ ps)
+    → (a : LaidEdge) × (b : LaidEdge) × (join (below (p ++ 0 ∷ []) (plain_pairs a))
+        (below (p ++ 1 ∷ []) (plain_pairs b)) ≡ ps)
     × (hidden_in (fork p zs os) ≡ []) × A a × B b
 fork_laid schema p zs os ps able t A B left right h =
     let x = split_contents schema (p ++ 0 ∷ []) zs (under (p ++ 1 ∷ []) os) ps able t h in
@@ -270,7 +278,8 @@ mutual
       )
   tree_laid schema n es s (two _ _ _ _ p m zs os z o same len l r dz do_) ps able t h =
       let P : Entries → Type 0 = λ x. Contents (EachPair Whole schema ps) t (pairs_in x) in
-      let x = fork_laid schema p zs os ps able t (λ e. EdgeCell (EdgeLies schema e) m t z) (λ e. EdgeCell (EdgeLies schema e) m t o)
+      let x = fork_laid schema p zs os ps able t (λ e. EdgeCell (EdgeLies schema e) m t z)
+          (λ e. EdgeCell (EdgeLies schema e) m t o)
       (λ xs able h. branch_laid schema m zs z dz xs able t h) (λ ys able h. branch_laid schema m os o do_ ys able t h)
       (subst P same h) in
       (a_fork p z x.0 o x.1, x.2, ap hidden_in same ∙ x.3, (m, len, l, r, x.4, x.5))
@@ -288,7 +297,8 @@ first_laid : (schema : CoreSchema) (n : ℕ) (es : Entries) (s after : Slice) �
     → EdgeOf schema ps es (λ e. EdgeLies schema e n t s after)
 first_laid schema n es s after (forked p m zs os z o same len l r dz do_) ps able t h =
     let P : Entries → Type 0 = λ x. Contents (EachPair Whole schema ps) t (pairs_in x) in
-    let x = fork_laid schema p zs os ps able t (λ e. EdgeCell (EdgeLies schema e) m t z) (λ e. EdgeCell (EdgeLies schema e) m t o)
+    let x = fork_laid schema p zs os ps able t (λ e. EdgeCell (EdgeLies schema e) m t z)
+        (λ e. EdgeCell (EdgeLies schema e) m t o)
     (λ xs able h. branch_laid schema m zs z dz xs able t h) (λ ys able h. branch_laid schema m os o do_ ys able t h)
     (subst P same h) in
     (a_fork p z x.0 o x.1, x.2, ap hidden_in same ∙ x.3, (m, len, l, r, x.4, x.5))
@@ -310,7 +320,8 @@ dict_laid schema ps able us n t s outs after o (inr e) =
     (map_here x.0, (λ i. values.map_of tt (x.1 i) ((sym x.2 ∙ e.2.1) i)), (o, x.3))
 
 dict_e_laid : (schema : CoreSchema) (ps : PlainPairs) → ByAble schema ps → (us : Unknowns) (n : ℕ) (t : Closed)
-    (s : Slice) (outs : List ℕ) (after : Slice) → outs ≡ [] → SpellsDictE Whole (EachPair Whole schema ps) us n t s after
+    (s : Slice) (outs : List ℕ) (after : Slice) → outs ≡ [] → SpellsDictE Whole (EachPair Whole schema ps) us n t s
+        after
     → Laying schema (values.map_of tt ps us) (typed (closed.dict_e n t)) s outs after
 dict_e_laid schema no_pairs able us n t s outs after o (no_entries a u b) =
     (no_map, (λ i. values.map_of tt no_pairs ((sym u) i)), (o, b))
@@ -352,7 +363,8 @@ mutual
   shape_laid schema (values.list_of vs) _ i s outs after e = absurd e
   shape_laid schema (values.record_of (Some name) names vs) (typed (closed.named x args)) i s outs after e =
       let r = fields_laid schema e.1.core.items vs (all_laid schema vs) e.2 e.3 e.4 after e.8 in
-      (record_of (Some name) names r.0, ap (values.record_of (Some name) names) r.1, (e.0, e.1, e.2, e.3, e.4, e.5, e.6, e.7, r.2, e.9))
+      (record_of (Some name) names r.0, ap (values.record_of (Some name) names) r.1,
+          (e.0, e.1, e.2, e.3, e.4, e.5, e.6, e.7, r.2, e.9))
   shape_laid schema (values.record_of (Some name) names vs) _ i s outs after e = absurd e
   shape_laid schema (values.record_of None names vs) (fields_here is scope) i s outs after e =
       let r = fields_laid schema is vs (all_laid schema vs) scope s e.2 after e.3 in

@@ -36,7 +36,7 @@ pub record Commutes (schema : CoreSchema) (t : Closed) (c p : Tree) (v w : Plain
     pub reads : Reading Partial schema t p w
     pub knows : (i : ℕ) (path : List Stride) → slice_get paths i ≡ Some path → known w path ≡ as_named (at_path v path)
 
--- Pruning commutes with reading: where the spots that no path keeps are hidden, the tree reads as the value blanked there.
+-- Where the spots that no path keeps are hidden, the tree reads as the value blanked there.
 abbrev pub PruningCommutes : Type 0
 PruningCommutes =
     (schema : CoreSchema) → NamesFieldsApart schema → (t : Closed) (c : Tree) (v : Plain) → IsGood c → mask c ≡ 0
@@ -44,8 +44,8 @@ PruningCommutes =
     → (paths : List (List Stride))
     → Commutes schema t c (cut_root (unless_kept paths) r c) v (Blanked v (unkept paths (spots_of r))) paths
 
--- Any pruned tree of a tree that reads is the pruned branch that stands for it, or reads as the value blanked at the spots
--- where it has a pruned branch, but that each tree in a Raw or a Rest prunes to the one there.
+-- Any pruned tree of a tree that reads is the pruned branch that stands for it, or reads as the value blanked at the
+-- spots where it has a pruned branch, but that each tree in a Raw or a Rest prunes to the one there.
 abbrev pub PrunedTreeReads : Type 0
 PrunedTreeReads =
     (schema : CoreSchema) → NamesFieldsApart schema → (t : Closed) (c : Tree) (v : Plain) → IsGood c → mask c ≡ 0

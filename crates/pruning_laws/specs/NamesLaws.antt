@@ -3,18 +3,22 @@ use Rattle.std.proofs.Common.{ℕ, Bool, true, false, cond, List, Option, Some, 
 use Rattle.cell_nodes.specs.declared.tree.Tree.{Tree}
 use Rattle.hashmap_tree.specs.Entries.{Slice}
 use Rattle.cell_nodes.specs.declared.tree.Mode.TheVariants.{Whole}
-use Rattle.core_form.specs.Core.{Ty, Items, Condition, CoreSchema, check, solve, field, no_items, an_item, field_names, sets}
+use Rattle.core_form.specs.Core.{Ty, Items, Condition, CoreSchema, check, solve, field, no_items, an_item}
+use Rattle.core_form.specs.Core.{field_names, sets}
 use Rattle.core_form.specs.Core as core
 use Rattle.core_form.specs.Closed.{Closed}
 use Rattle.core_form.specs.Closed as closed
 use Rattle.core_form.specs.Closing.{Refusal, close}
 use Rattle.core_form.specs.Scope.{Scope, with_number, value_in, bind}
 use Rattle.spelling.specs.Slices.{nothing, only_ref}
-use Rattle.spelling.specs.Goals.{Goal, at_type, at_field, at_cell, Shape, typed, fields_here, fields_under, left_out, as_cell, at_fields, under_ref, typed_or, laid, in_table, in_width, judged, passes, tested, shape_of}
+use Rattle.spelling.specs.Goals.{Goal, at_type, at_field, at_cell, Shape, typed, fields_here, fields_under, left_out}
+use Rattle.spelling.specs.Goals.{as_cell, at_fields, under_ref, typed_or, laid, in_table, in_width, judged, passes}
+use Rattle.spelling.specs.Goals.{tested, shape_of}
 use Rattle.spelling.specs.Spells.{Repeats, Fields, Holds}
 use Rattle.spelling.specs.declared.Cause.{Cause}
 use Rattle.spelling.specs.declared.Cause.TheVariants.{Width}
-use Rattle.pruning.specs.Laid.{Laid, number, bit_string, record_of, absent, list_of, ref_to, ref_to_raw, no_map, map_under, map_here, rest, Laids, no_laids, a_laid, LaidEdge, a_leaf, a_fork}
+use Rattle.pruning.specs.Laid.{Laid, number, bit_string, record_of, absent, list_of, ref_to, ref_to_raw, no_map}
+use Rattle.pruning.specs.Laid.{map_under, map_here, rest, Laids, no_laids, a_laid, LaidEdge, a_leaf, a_fork}
 use Rattle.pruning.specs.Lies.{LiesShape, Lies, EachLies, EdgeLies, LaidRoot, as_it_is, laid as laid_root, LiesAtRoot}
 use Rattle.pruning.specs.Names.{AreApart, AreApartIn, NamesFieldsApart}
 use Rattle.pruning_laws.specs.PlaceLaws.{NamesApart, FieldsApart, ItemsApart, EdgeApart}
@@ -134,7 +138,8 @@ mutual
   shape_apart schema names (record_of (Some name) xs ds) (typed (closed.named x args)) s outs after h e =
       let P : List (List ℕ) → Type 0 = λ l. FieldsApart l ds in
       subst P (sym e.6)
-      (fields_apart schema e.1.core.items ds (all_apart schema names ds) e.2 e.3 e.4 after (names e.0 e.1 e.5.there) e.8)
+      (fields_apart schema e.1.core.items ds (all_apart schema names ds) e.2 e.3 e.4 after (names e.0 e.1 e.5.there)
+          e.8)
   shape_apart schema names (record_of (Some name) xs ds) _ s outs after h e = absurd e
   shape_apart schema names (record_of None xs ds) (fields_here is scope) s outs after h e =
       let P : List (List ℕ) → Type 0 = λ l. FieldsApart l ds in
@@ -154,7 +159,8 @@ mutual
   shape_apart schema names (map_under a x) (typed (closed.dict_e n t)) s outs after h e =
       edge_apart schema names x n t e.2.0 nothing e.2.2
   shape_apart schema names (map_under a x) _ s outs after h e = absurd e
-  shape_apart schema names (map_here x) (typed (closed.dict n t)) s outs after h e = edge_apart schema names x n t s after e.1
+  shape_apart schema names (map_here x) (typed (closed.dict n t)) s outs after h e = edge_apart schema names x n t s
+      after e.1
   shape_apart schema names (map_here x) _ s outs after h e = absurd e
   shape_apart schema names (rest r) c s outs after h e = tt
 

@@ -1,6 +1,7 @@
 -- A laid value with parts hidden: the references that it then takes prune those that it takes, and spell it with these
 -- parts hidden.
-use Rattle.std.proofs.Common.{◌≡◌, inl, inr, ℕ, suc, ◌+◌, Bool, true, ◌||◌, ◌≤◌, nat_lt, List, [], ◌∷◌, ◌++◌, length, Some, None, Ok, refl, sym, ap, ◌∙◌, subst, arith, append_assoc, length-append}
+use Rattle.std.proofs.Common.{◌≡◌, inl, inr, ℕ, suc, ◌+◌, Bool, true, ◌||◌, ◌≤◌, nat_lt, List, [], ◌∷◌, ◌++◌, length}
+use Rattle.std.proofs.Common.{Some, None, Ok, refl, sym, ap, ◌∙◌, subst, arith, append_assoc, length-append}
 use Rattle.std.proofs.lemmas.List.{append-nil, nil_from_length}
 use Rattle.cell_nodes.specs.Constructed.{stub}
 use Rattle.cell_nodes.specs.Equations.{out-tree_of}
@@ -20,12 +21,17 @@ use Rattle.core_form.specs.Closed.{Closed, ClosedArgs}
 use Rattle.core_form.specs.Closed as closed
 use Rattle.core_form.specs.Scope.{Scope, with_number, bind}
 use Rattle.spelling.specs.Slices.{nothing, only_bits, only_ref, took}
-use Rattle.spelling.specs.Goals.{Row, natural, integer, string, no_row, row, Goal, at_type, at_field, at_cell, Shape, typed, fields_here, fields_under, left_out, as_cell, at_fields, under_ref, shape_of}
-use Rattle.spelling.specs.Spells.{Repeats, Fields, SpellsNumber, SpellsString, SpellsShape, Spells, Each, EachPair, Holds, Contents, EntriesHold, no_entries, some_entries}
-use Rattle.pruning.specs.Laid.{Laid, number, bit_string, record_of, absent, list_of, ref_to, ref_to_raw, no_map, map_under, map_here, rest, Laids, no_laids, a_laid, LaidEdge, a_leaf, a_fork, join, below}
+use Rattle.spelling.specs.Goals.{Row, natural, integer, string, no_row, row, Goal, at_type, at_field, at_cell, Shape}
+use Rattle.spelling.specs.Goals.{typed, fields_here, fields_under, left_out, as_cell, at_fields, under_ref, shape_of}
+use Rattle.spelling.specs.Spells.{Repeats, Fields, SpellsNumber, SpellsString, SpellsShape, Spells, Each, EachPair}
+use Rattle.spelling.specs.Spells.{Holds, Contents, EntriesHold, no_entries, some_entries}
+use Rattle.pruning.specs.Laid.{Laid, number, bit_string, record_of, absent, list_of, ref_to, ref_to_raw, no_map}
+use Rattle.pruning.specs.Laid.{map_under, map_here, rest, Laids, no_laids, a_laid, LaidEdge, a_leaf, a_fork, join}
+use Rattle.pruning.specs.Laid.{below}
 use Rattle.pruning.specs.Lies.{BeginsWith, EdgeCell, LiesShape, Lies, EachLies, EdgeLies}
 use Rattle.pruning.specs.Blanked.{KeyPart, hidden_of}
-use Rattle.pruning.specs.Cut.{cell_with, Parts, below_parts, fork_part, map_with, ForRest, ForRaw, CutsCell, Cuts, CutsAll, CutsEdge}
+use Rattle.pruning.specs.Cut.{cell_with, Parts, below_parts, fork_part, map_with, ForRest, ForRaw, CutsCell, Cuts}
+use Rattle.pruning.specs.Cut.{CutsAll, CutsEdge}
 use Rattle.pruning_laws.specs.CleanLaws.{IsClean, AllClean, clean-right, clean-below, stub-hides}
 
 -- ---- lists of trees
@@ -139,7 +145,8 @@ string_goes bits no_row s outs after e = absurd e
 abbrev AllGoing : (Plains → Slice → Slice → Type 0) → List Tree → Plains → Slice → Slice → Type 0
 AllGoing M ps ws s after = Goes (λ rs. M ws (with_refs s (ps ++ rs)) (with_refs after rs)) ps s after
 
-no_more_go : (M : Plains → Slice → Slice → Type 0) (ps : List Tree) (ws : Plains) (s after : Slice) → ps ≡ [] → ws ≡ no_vals
+no_more_go : (M : Plains → Slice → Slice → Type 0) (ps : List Tree) (ws : Plains) (s after : Slice) → ps ≡ [] → ws ≡
+    no_vals
     → after ≡ s → ((s after : Slice) → after ≡ s → M no_vals s after) → AllGoing M ps ws s after
 no_more_go M ps ws s after e f same holds =
     let P : List Tree → Type 0 = λ ps. AllGoing M ps ws s after in
@@ -166,11 +173,14 @@ one_more_go M N V ps qs rs u ws us s middle after e f x y holds =
       parts = x.parts ∙ ap (λ (l : List Tree). x.front ++ l) y.parts ∙ sym (append_assoc x.front y.front after.refs);
       prune = all-append x.front qs y.front rs x.prune y.prune;
       spells = λ os l.
-          let mid : length (rs ++ os) ≡ length middle.refs = counts rs os y.front middle.refs after.refs y.prune y.parts l in
-          let start : length (qs ++ (rs ++ os)) ≡ length s.refs = counts qs (rs ++ os) x.front s.refs middle.refs x.prune x.parts mid in
+          let mid : length (rs ++ os) ≡ length middle.refs = counts rs os y.front middle.refs after.refs y.prune
+              y.parts l in
+          let start : length (qs ++ (rs ++ os)) ≡ length s.refs = counts qs (rs ++ os) x.front s.refs middle.refs
+              x.prune x.parts mid in
           let T : List Tree → Type 0 = λ l. M (a_val u us) (with_refs s l) (with_refs after os) in
           subst T (sym (append_assoc qs rs os))
-          (holds (qs ++ (rs ++ os)) (rs ++ os) (with_refs after os) start mid (x.spells (rs ++ os) mid) (y.spells os l));
+          (holds (qs ++ (rs ++ os)) (rs ++ os) (with_refs after os) start mid (x.spells (rs ++ os) mid)
+              (y.spells os l));
     }))
 
 repeat_reads : (schema : CoreSchema) (K : ForRest) (R : ForRaw) (ds : Laids) → AllRead schema K R ds → (k : ℕ)
@@ -182,7 +192,8 @@ repeat_reads schema K R no_laids reads k t s after ps ws clean r c =
 repeat_reads schema K R (a_laid d ds) reads k t s after ps ws clean r c =
     let x = at_goal schema K R d reads.0 (at_type t) s r.1 r.2 c.0 c.2 clean r.4 c.6 in
     let y = repeat_reads schema K R ds reads.1 r.0 t r.2 after c.1 c.3 (clean-after _ c.0 s r.2 x clean) r.6 c.7 in
-    one_more_go (λ ws a b. Repeats (Each Partial schema ws) k t a b) (λ ws a b. Repeats (Each Partial schema ws) r.0 t a b)
+    one_more_go (λ ws a b. Repeats (Each Partial schema ws) k t a b)
+        (λ ws a b. Repeats (Each Partial schema ws) r.0 t a b)
     (λ u a b. Spells Partial schema u (at_type t) a r.1 b) ps c.0 c.1 c.2 ws c.3 s r.2 after c.4 c.5 x y
     (λ a b end la lb v more. (r.0, r.1, with_refs r.2 b, r.3, v, takes s r.2 a b la lb r.5, more))
 
@@ -196,14 +207,16 @@ fields_read schema K R no_items no_laids reads scope s end after ps ws clean f c
 fields_read schema K R no_items (a_laid d ds) reads scope s end after ps ws clean f c = absurd f
 fields_read schema K R (an_item (check a op b i) is) ds reads scope s end after ps ws clean f c =
     let r = fields_read schema K R is ds reads scope s end after ps ws clean f.5 c in
-    record { front = r.front; parts = r.parts; prune = r.prune; spells = λ rs l. (f.0, f.1, f.2, f.3, f.4, r.spells rs l) }
+    record { front = r.front; parts = r.parts; prune = r.prune; spells = λ rs l.
+        (f.0, f.1, f.2, f.3, f.4, r.spells rs l) }
 fields_read schema K R (an_item (solve v a b i) is) ds reads scope s end after ps ws clean f c =
     let r = fields_read schema K R is ds reads (with_number v f.0 scope) s end after ps ws clean f.2 c in
     record { front = r.front; parts = r.parts; prune = r.prune; spells = λ rs l. (f.0, f.1, r.spells rs l) }
 fields_read schema K R (an_item (field y slot e t) is) no_laids reads scope s end after ps ws clean f c = absurd f
 fields_read schema K R (an_item (field g slot e t) is) (a_laid d ds) reads scope s end after ps ws clean f c =
     let x = at_goal schema K R d reads.0 (at_field e t scope) s f.0 f.1 c.0 c.2 clean f.2 c.6 in
-    let y = fields_read schema K R is ds reads.1 (bind (sets slot t) f.0 scope) f.1 end after c.1 c.3 (clean-after _ c.0 s f.1 x clean) f.3 c.7 in
+    let y = fields_read schema K R is ds reads.1 (bind (sets slot t) f.0 scope) f.1 end after c.1 c.3
+        (clean-after _ c.0 s f.1 x clean) f.3 c.7 in
     one_more_go (λ ws a b. Fields (an_item (field g slot e t) is) (Each Partial schema ws) scope a end b)
     (λ ws a b. Fields is (Each Partial schema ws) (bind (sets slot t) f.0 scope) a end b)
     (λ u a b. Spells Partial schema u (at_field e t scope) a f.0 b) ps c.0 c.1 c.2 ws c.3 s f.1 after c.4 c.5 x y
@@ -276,12 +289,15 @@ holds_go schema K R d reads at_cell c clean k qs u cuts =
 holds_go schema K R d reads (at_type t) c clean k qs u cuts =
     let x = at_goal schema K R d reads (at_type t) k.0 k.1 nothing qs u (clean-cell c k.0 k.2 clean) k.3 cuts in
     let y = cell_opens (λ z. Spells Partial schema u (at_type t) z k.1 nothing)
-    (λ rs. Spells Partial schema u (at_type t) (with_refs k.0 (qs ++ rs)) k.1 (with_refs nothing rs)) c k.0 qs k.2 x (λ h. h) in
+    (λ rs. Spells Partial schema u (at_type t) (with_refs k.0 (qs ++ rs)) k.1 (with_refs nothing rs)) c k.0 qs k.2 x
+        (λ h. h) in
     record { prunes = y.prunes; holds = (with_refs k.0 qs, k.1, y.cell, y.spells) }
 holds_go schema K R d reads (at_field e t scope) c clean k qs u cuts =
-    let x = at_goal schema K R d reads (at_field e t scope) k.0 k.1 nothing qs u (clean-cell c k.0 k.2 clean) k.3 cuts in
+    let x = at_goal schema K R d reads (at_field e t scope) k.0 k.1 nothing qs u (clean-cell c k.0 k.2 clean) k.3
+        cuts in
     let y = cell_opens (λ z. Spells Partial schema u (at_field e t scope) z k.1 nothing)
-    (λ rs. Spells Partial schema u (at_field e t scope) (with_refs k.0 (qs ++ rs)) k.1 (with_refs nothing rs)) c k.0 qs k.2 x (λ h. h) in
+    (λ rs. Spells Partial schema u (at_field e t scope) (with_refs k.0 (qs ++ rs)) k.1 (with_refs nothing rs)) c k.0
+        qs k.2 x (λ h. h) in
     record { prunes = y.prunes; holds = (with_refs k.0 qs, k.1, y.cell, y.spells) }
 
 -- ---- references
@@ -320,7 +336,8 @@ abbrev IsRefTo : Shape → Goal → Type 0
 IsRefTo c g =
     ((h : Hidden) (s : Slice) (outs : List ℕ) (after : Slice) (p : Tree) → outs ≡ [] → Then s (only_ref p) after
     → unseen Partial p ≡ Some h → (schema : CoreSchema) → SpellsShape Partial schema (values.unknown h) c s outs after)
-    × ((schema : CoreSchema) (u : Plain) (s : Slice) (outs : List ℕ) (after : Slice) (p : Tree) → outs ≡ [] → Then s (only_ref p) after
+    × ((schema : CoreSchema) (u : Plain) (s : Slice) (outs : List ℕ) (after : Slice) (p : Tree) → outs ≡ [] → Then s
+        (only_ref p) after
     → Holds Partial (Spells Partial schema u) g p → SpellsShape Partial schema (values.ref_to tt u) c s outs after)
 
 ref_reads : (schema : CoreSchema) (K : ForRest) (R : ForRaw) (e : Tree) (d : Laid) → Reads schema K R d → (c : Shape)
@@ -337,7 +354,8 @@ ref_reads schema K R e d reads c g is s outs after ps w clean f o t k b cuts = g
         let P : List Tree → Type 0 = λ ps. GoingShape schema c ps w s outs after in
         let Q : Plain → Type 0 = λ w. GoingShape schema c (stub e 0 ∷ []) w s outs after in
         subst P (sym h.0) (subst Q (sym h.1)
-        (one_goes (λ a b. SpellsShape Partial schema (values.unknown (hidden_of e)) c a outs b) e (stub e 0) s after there
+        (one_goes (λ a b. SpellsShape Partial schema (values.unknown (hidden_of e)) c a outs b) e (stub e 0) s after
+            there
         (is_hidden e 0 no_level) (λ a b u. is.0 (hidden_of e) a outs b (stub e 0) o u (stub-hides e good.good) schema)))
     go e same (inr h) =
         let T : Tree → Type 0 = λ x. Then s (only_ref x) after in
@@ -348,7 +366,8 @@ ref_reads schema K R e d reads c g is s outs after ps w clean f o t k b cuts = g
         let P : List Tree → Type 0 = λ ps. GoingShape schema c ps w s outs after in
         let Q : Plain → Type 0 = λ w. GoingShape schema c (cell_with e h.0 ∷ []) w s outs after in
         subst P (sym h.2) (subst Q (sym h.3)
-        (one_goes (λ a b. SpellsShape Partial schema (values.ref_to tt h.1) c a outs b) e (cell_with e h.0) s after there
+        (one_goes (λ a b. SpellsShape Partial schema (values.ref_to tt h.1) c a outs b) e (cell_with e h.0) s after
+            there
         x.prunes (λ a b u. is.1 schema h.1 a outs b (cell_with e h.0) o u x.holds)))
 
 raw_reads : (schema : CoreSchema) (K : ForRest) (R : ForRaw) → Trusts K R → (e : Tree) (s : Slice) (outs : List ℕ)
@@ -526,7 +545,8 @@ fork_tree schema K R l z a o b left right n t s ps x clean k c =
     let S : List Tree → Type 0 = λ os. AllPrune os ps 0 in
     record {
       entries = fork l y.zeros y.ones;
-      tree = two Partial n _ (with_refs s ps) l y.less y.zeros y.ones y.first y.second refl y.long k.2 y.are y.left y.right;
+      tree = two Partial n _ (with_refs s ps) l y.less y.zeros y.ones y.first y.second refl y.long k.2 y.are y.left
+          y.right;
       hold = y.hold;
       prunes = subst S (sym y.refs) y.prune;
     }
@@ -569,7 +589,8 @@ fork_here schema K R l z a o b left right n t s outs after ps x clean oo k c =
         oo,
         inr (
           fork l y.zeros y.ones,
-          forked l y.less y.zeros y.ones y.first y.second refl y.long k.2 (ap (λ (q : List Tree). q ++ rs) y.are) y.left y.right,
+          forked l y.less y.zeros y.ones y.first y.second refl y.long k.2 (ap (λ (q : List Tree). q ++ rs) y.are)
+              y.left y.right,
           y.hold,
         ),
         tt,
@@ -619,7 +640,8 @@ rest_reads schema K R trust r s outs after ps clean o same end k =
       spells = λ rs l.
           let z : rs ≡ [] = nil_from_length rs (l ∙ ap length none_after) in (
             o,
-            (λ i. record { bits = (same i).bits; refs = (sym (append-nil ps) ∙ ap (λ (x : List Tree). ps ++ x) (sym z)) i }),
+            (λ i. record { bits = (same i).bits; refs = (sym (append-nil ps) ∙ ap (λ (x : List Tree). ps ++ x)
+                (sym z)) i }),
             (λ i. record { bits = (end i).bits; refs = z i }),
           );
     }
@@ -678,7 +700,8 @@ small_reads schema v c s outs after ps w e f x =
     let Q : Plain → Type 0 = λ w. GoingShape schema c [] w s outs after in
     subst P (sym e) (subst Q (sym f) x)
 
-number_reads : (schema : CoreSchema) (negative : Bool) (size : ℕ) (c : Shape) (s : Slice) (outs : List ℕ) (after : Slice)
+number_reads : (schema : CoreSchema) (negative : Bool) (size : ℕ) (c : Shape) (s : Slice) (outs : List ℕ)
+    (after : Slice)
     → LiesShape schema (number negative size) c s outs after
     → GoingShape schema c [] (values.number negative size) s outs after
 number_reads schema negative size (typed t) s outs after e = number_goes negative size (row t) s outs after e
@@ -705,13 +728,15 @@ mutual
       small_reads schema (values.number negative size) c s outs after ps w cuts.0 cuts.1
       (number_reads schema negative size c s outs after e)
   reads schema K R trust (bit_string bits) c s outs after ps w clean e cuts =
-      small_reads schema (values.bit_string bits) c s outs after ps w cuts.0 cuts.1 (string_reads schema bits c s outs after e)
+      small_reads schema (values.bit_string bits) c s outs after ps w cuts.0 cuts.1
+          (string_reads schema bits c s outs after e)
   reads schema K R trust absent c s outs after ps w clean e cuts =
       small_reads schema values.absent c s outs after ps w cuts.0 cuts.1 (absent_reads schema c s outs after e)
   reads schema K R trust (record_of (Some name) names ds) (typed (closed.named x args)) s outs after ps w clean e cuts =
       let Q : Plain → Type 0 = λ w. GoingShape schema (typed (closed.named x args)) ps w s outs after in
       subst Q (sym cuts.1)
-      (record_reads schema K R name names ds (read_all schema K R trust ds) x args s outs after ps cuts.0 clean e cuts.2)
+      (record_reads schema K R name names ds (read_all schema K R trust ds) x args s outs after ps cuts.0 clean e
+          cuts.2)
   reads schema K R trust (record_of (Some name) names ds) _ s outs after ps w clean e cuts = absurd e
   reads schema K R trust (record_of None names ds) (fields_here is scope) s outs after ps w clean e cuts =
       let Q : Plain → Type 0 = λ w. GoingShape schema (fields_here is scope) ps w s outs after in
@@ -766,5 +791,6 @@ mutual
   here_reads schema K R trust (a_leaf l d) n t s outs after ps x clean o k c =
       leaf_here schema K R l d (reads schema K R trust d) n t s outs after ps x clean o k c
   here_reads schema K R trust (a_fork l z a o b) n t s outs after ps x clean oo k c =
-      fork_here schema K R l z a o b (tree_reads schema K R trust a) (tree_reads schema K R trust b) n t s outs after ps x
+      fork_here schema K R l z a o b (tree_reads schema K R trust a) (tree_reads schema K R trust b) n t s outs after
+          ps x
       clean oo k c

@@ -1,9 +1,12 @@
 -- Where parts are hidden, a value has no more levels and no more parts.
 use Rattle.std.proofs.Common.{◌≡◌, inl, inr, ℕ, ◌+◌, ◌≤◌, max, List, [], ◌∷◌, ◌++◌, refl, sym, ap, subst, arith}
 use Rattle.cell_nodes.specs.declared.tree.Tree.{Tree}
-use Rattle.typed_value.specs.Values.{Plain, Plains, PlainPairs, no_pairs, a_pair, no_vals, a_val, levels, levels_in, levels_by, parts, parts_in, parts_by}
+use Rattle.typed_value.specs.Values.{Plain, Plains, PlainPairs, no_pairs, a_pair, no_vals, a_val, levels, levels_in}
+use Rattle.typed_value.specs.Values.{levels_by, parts, parts_in, parts_by}
 use Rattle.typed_value.specs.Values as values
-use Rattle.pruning.specs.Laid.{Laid, number, bit_string, record_of, absent, list_of, ref_to, ref_to_raw, no_map, map_under, map_here, rest, Laids, no_laids, a_laid, LaidEdge, a_leaf, a_fork, join, below, plain, plain_all, plain_pairs}
+use Rattle.pruning.specs.Laid.{Laid, number, bit_string, record_of, absent, list_of, ref_to, ref_to_raw, no_map}
+use Rattle.pruning.specs.Laid.{map_under, map_here, rest, Laids, no_laids, a_laid, LaidEdge, a_leaf, a_fork, join}
+use Rattle.pruning.specs.Laid.{below, plain, plain_all, plain_pairs}
 use Rattle.pruning.specs.Cut.{Parts, fork_part, map_with, ForRest, ForRaw, CutsCell, Cuts, CutsAll, CutsEdge}
 
 pub record NoLarger (w v : Plain) : Type 0 where
@@ -118,7 +121,8 @@ mutual
       is_no_larger w (values.list_of c.0) _ c.1 (record { deep = omega (arith, d); large = omega (arith, l) })
   no_larger K R (ref_to e d) ps w (inl h) =
       is_no_larger w _ _ h.1 (record { deep = omega arith; large = omega arith })
-  no_larger K R (ref_to e d) ps w (inr h) = is_no_larger w _ _ h.3 (ref_larger h.1 (plain d) (no_larger K R d h.0 h.1 h.4))
+  no_larger K R (ref_to e d) ps w (inr h) = is_no_larger w _ _ h.3
+      (ref_larger h.1 (plain d) (no_larger K R d h.0 h.1 h.4))
   no_larger K R (ref_to_raw e) ps w (inl h) =
       is_no_larger w _ _ h.1 (record { deep = omega arith; large = omega arith })
   no_larger K R (ref_to_raw e) ps w (inr h) =

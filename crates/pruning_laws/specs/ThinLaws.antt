@@ -1,6 +1,8 @@
--- Any pruned tree of a tree that reads is the stub, or reads as the value blanked where it is pruned, but that each tree in
--- a Raw or a Rest prunes to the one there.
-use Rattle.std.proofs.Common.{◌≡◌, ◌⊎◌, inl, inr, ℕ, suc, Bool, true, false, cond, IsTrue, List, [], ◌∷◌, ◌++◌, length, map, Option, Some, None, slice_get, refl, sym, ap, ◌∙◌, subst, append_assoc, length-append, arith}
+-- Any pruned tree of a tree that reads is the stub, or reads as the value blanked where it is pruned, but that each
+-- tree in a Raw or a Rest prunes to the one there.
+use Rattle.std.proofs.Common.{◌≡◌, ◌⊎◌, inl, inr, ℕ, suc, Bool, true, false, cond, IsTrue, List, [], ◌∷◌, ◌++◌}
+use Rattle.std.proofs.Common.{length, map, Option, Some, None, slice_get, refl, sym, ap, ◌∙◌, subst, append_assoc}
+use Rattle.std.proofs.Common.{length-append, arith}
 use Rattle.std.proofs.lemmas.List.{append-nil}
 use Rattle.cell_nodes.specs.Constructed.{stub}
 use Rattle.cell_nodes.specs.Equations.{out-tree_of, marks-out}
@@ -22,12 +24,19 @@ use Rattle.spelling.specs.Spells.{Reading}
 use Rattle.typed_value.specs.Paths.{Stride, named, item, keyed}
 use Rattle.typed_value.specs.Values.{Plain, Plains, PlainPairs, no_vals, a_val, no_pairs, a_pair}
 use Rattle.typed_value.specs.Values as values
-use Rattle.pruning.specs.Laid.{Laid, number, bit_string, record_of, absent, list_of, ref_to, ref_to_raw, no_map, map_under, map_here, rest, Laids, no_laids, a_laid, LaidEdge, a_leaf, a_fork, join, below, plain, trees, trees_all, edge_trees}
+use Rattle.pruning.specs.Laid.{Laid, number, bit_string, record_of, absent, list_of, ref_to, ref_to_raw, no_map}
+use Rattle.pruning.specs.Laid.{map_under, map_here, rest, Laids, no_laids, a_laid, LaidEdge, a_leaf, a_fork, join}
+use Rattle.pruning.specs.Laid.{below, plain, trees, trees_all, edge_trees}
 use Rattle.pruning.specs.Lies.{LaidRoot, as_it_is, laid, plain_root, LiesAtRoot}
-use Rattle.pruning.specs.Spots.{Where, at_root, stepped, past, in_edge, in_ref, spot, first_name, other_names, spots_of, chosen}
+use Rattle.pruning.specs.Spots.{Where, at_root, stepped, past, in_edge, in_ref, spot, first_name, other_names}
+use Rattle.pruning.specs.Spots.{spots_of, chosen}
 use Rattle.pruning.specs.Blanked.{KeyPart, hidden_of, Blanked}
-use Rattle.pruning.specs.Cut.{cell_with, Parts, below_parts, leaf_part, fork_part, hidden_part, map_with, blank, blank_fields, blank_items, blank_edge, ForRest, ForRaw, CutsCell, Cuts, CutsAll, CutsEdge}
-use Rattle.pruning.specs.Thinned.{Thins, same as thins_same, record_thins, list_thins, ref_thins, map_thins, raw_thins, rest_thins, AllThin, no_more, one_more, PairsThin, no_pair, one_pair, below_child, subtree, is_pruned_kind, is_pruned, pruned_in, ReadsThinned}
+use Rattle.pruning.specs.Cut.{cell_with, Parts, below_parts, leaf_part, fork_part, hidden_part, map_with, blank}
+use Rattle.pruning.specs.Cut.{blank_fields, blank_items, blank_edge, ForRest, ForRaw, CutsCell, Cuts, CutsAll}
+use Rattle.pruning.specs.Cut.{CutsEdge}
+use Rattle.pruning.specs.Thinned.{Thins, same as thins_same, record_thins, list_thins, ref_thins, map_thins}
+use Rattle.pruning.specs.Thinned.{raw_thins, rest_thins, AllThin, no_more, one_more, PairsThin, no_pair, one_pair}
+use Rattle.pruning.specs.Thinned.{below_child, subtree, is_pruned_kind, is_pruned, pruned_in, ReadsThinned}
 use Rattle.pruning_laws.specs.BlankedLaws.{RootApart, blanks}
 use Rattle.pruning_laws.specs.ChoiceLaws.{all_same, clean-seen}
 use Rattle.pruning_laws.specs.CleanLaws.{IsClean, AllClean, clean-left, clean-right, clean-below}
@@ -77,7 +86,8 @@ clean-kind c h = go (out-Tree c).kind refl
     go Update e = refl
     go Pruned e =
         let P : Kind → Type 0 = λ k. IsTrue (has_layout k (out-Tree c).bits (length (out-Tree c).children)) in
-        let l = pruned_layout (out-Tree c).bits (length (out-Tree c).children) (subst P e (good-sound c h.good).layout) in
+        let l = pruned_layout (out-Tree c).bits (length (out-Tree c).children)
+            (subst P e (good-sound c h.good).layout) in
         let m = mask-pruned c e in
         let z = h.level in
         let one = l.some in
@@ -92,12 +102,14 @@ cell_how c p ts e (same _ _) = inr (ts, e, all_same ts)
 cell_how c p ts e (hidden _ _ _) = inl refl
 cell_how c p ts e (ordinary bits us ps _ all) =
     let children : us ≡ ts =
-    sym (children-is Ordinary bits us) ∙ ap (λ (t : Tree). (out-Tree t).children) e ∙ children-is Ordinary (out-Tree c).bits ts in
+    sym (children-is Ordinary bits us) ∙ ap (λ (t : Tree). (out-Tree t).children) e ∙ children-is Ordinary
+        (out-Tree c).bits ts in
     let P : List Tree → Type 0 = λ us. AllPrune us ps 0 in
     inr (ps, (λ i. tree_of Ordinary ((sym (bits-is Ordinary bits us)) i) ps), subst P children all)
 cell_how c p ts e (proof bits t q _ low one) =
     let kinds : Proof ≡ Ordinary =
-    sym (kind-is Proof bits (t ∷ [])) ∙ ap (λ (t : Tree). (out-Tree t).kind) e ∙ kind-is Ordinary (out-Tree c).bits ts in
+    sym (kind-is Proof bits (t ∷ [])) ∙ ap (λ (t : Tree). (out-Tree t).kind) e ∙ kind-is Ordinary (out-Tree c).bits
+        ts in
     absurd (cc)
 
 seen_by : (k : Kind) (b : List ℕ) (cs : List Tree) → hidden_by k b (mask (tree_of k b cs)) ≡ None
@@ -233,11 +245,13 @@ placed-in root w c qs e z = record {
 
 thin-below : (p : List ℕ) (ps qs : PlainPairs) → PairsThin ps qs → PairsThin (below p ps) (below p qs)
 thin-below p ps qs no_pair = no_pair
-thin-below p ps qs (one_pair k v w ps2 qs2 a b) = one_pair (p ++ k) v w (below p ps2) (below p qs2) a (thin-below p ps2 qs2 b)
+thin-below p ps qs (one_pair k v w ps2 qs2 a b) = one_pair (p ++ k) v w (below p ps2) (below p qs2) a
+    (thin-below p ps2 qs2 b)
 
 thin-join : (ps qs xs ys : PlainPairs) → PairsThin ps qs → PairsThin xs ys → PairsThin (join ps xs) (join qs ys)
 thin-join ps qs xs ys no_pair b = b
-thin-join ps qs xs ys (one_pair k v w ps2 qs2 a c) b = one_pair k v w (join ps2 xs) (join qs2 ys) a (thin-join ps2 qs2 xs ys c b)
+thin-join ps qs xs ys (one_pair k v w ps2 qs2 a c) b = one_pair k v w (join ps2 xs) (join qs2 ys) a
+    (thin-join ps2 qs2 xs ys c b)
 
 pub record PartsThin (X x : Parts) : Type 0 where
   pub pairs : PairsThin X.pairs x.pairs
@@ -248,9 +262,11 @@ thin-map X x h =
     let P : List KeyPart → Type 0 = λ us. Thins (map_with X) (values.map_of tt x.pairs us) in
     subst P h.unknown (map_thins X.pairs x.pairs X.unknown h.pairs)
 
-thin-fork : (l : List ℕ) (X x Y y : Parts) → PartsThin X x → PartsThin Y y → PartsThin (fork_part l X Y) (fork_part l x y)
+thin-fork : (l : List ℕ) (X x Y y : Parts) → PartsThin X x → PartsThin Y y → PartsThin (fork_part l X Y)
+    (fork_part l x y)
 thin-fork l X x Y y h k = record {
-  pairs = thin-join (below (l ++ 0 ∷ []) X.pairs) (below (l ++ 0 ∷ []) x.pairs) (below (l ++ 1 ∷ []) Y.pairs) (below (l ++ 1 ∷ []) y.pairs)
+  pairs = thin-join (below (l ++ 0 ∷ []) X.pairs) (below (l ++ 0 ∷ []) x.pairs) (below (l ++ 1 ∷ []) Y.pairs)
+      (below (l ++ 1 ∷ []) y.pairs)
       (thin-below (l ++ 0 ∷ []) X.pairs x.pairs h.pairs) (thin-below (l ++ 1 ∷ []) Y.pairs y.pairs k.pairs);
   unknown = λ i. below_parts (l ++ 0 ∷ []) (h.unknown i) ++ below_parts (l ++ 1 ∷ []) (k.unknown i);
 }
@@ -262,7 +278,8 @@ pub record Thin (root : Tree) (w : Where) (d : Laid) (ps : List Tree) : Type 0 w
   pub cuts : Cuts for_rest for_raw d ps value
   pub thins : Thins (blank (pruned_in root) w d) value
 
-pub record ThinCell (root : Tree) (w : Where) (q : List ℕ) (c : Tree) (e : LaidEdge) (X : Parts) (p : Tree) : Type 0 where
+pub record ThinCell (root : Tree) (w : Where) (q : List ℕ) (c : Tree) (e : LaidEdge) (X : Parts) (p : Tree) : Type 0
+    where
   pub parts : Parts
   pub cuts : CutsCell (CutsEdge for_rest for_raw e) c p parts
   pub thins : PartsThin (cond (pruned_in root (spot w (Some q) c)) (hidden_part c) X) parts
@@ -296,7 +313,8 @@ ref_thin root w c d ps firm a x inner =
     go p e at (inl h) =
         let hide : pruned_in root (spot w None c) ≡ true = ap is_pruned (at ∙ ap Some h) ∙ stub-pruned c in
         let P : Bool → Type 0 = λ b.
-        Thins (cond b (values.unknown (hidden_of c)) (values.ref_to tt (blank (pruned_in root) (in_ref w) d))) (values.unknown (hidden_of c)) in
+        Thins (cond b (values.unknown (hidden_of c)) (values.ref_to tt (blank (pruned_in root) (in_ref w) d)))
+            (values.unknown (hidden_of c)) in
         record {
           value = values.unknown (hidden_of c);
           cuts = inl (e ∙ ap (λ (t : Tree). t ∷ []) h, refl);
@@ -306,7 +324,8 @@ ref_thin root w c d ps firm a x inner =
         let show : pruned_in root (spot w None c) ≡ false = ap is_pruned (at ∙ ap Some h.1) ∙ cell-not_pruned c h.0 in
         let y = inner h.0 h.2 (placed-in root (in_ref w) c h.0 (at ∙ ap Some h.1) refl) in
         let P : Bool → Type 0 = λ b.
-        Thins (cond b (values.unknown (hidden_of c)) (values.ref_to tt (blank (pruned_in root) (in_ref w) d))) (values.ref_to tt y.value) in
+        Thins (cond b (values.unknown (hidden_of c)) (values.ref_to tt (blank (pruned_in root) (in_ref w) d)))
+            (values.ref_to tt y.value) in
         record {
           value = values.ref_to tt y.value;
           cuts = inr (h.0, y.value, e ∙ ap (λ (t : Tree). t ∷ []) h.1, refl, y.cuts);
@@ -326,7 +345,8 @@ raw_thin root w c ps clean a x =
     go p e at prunes (inl h) =
         let hide : pruned_in root (spot w None c) ≡ true = ap is_pruned (at ∙ ap Some h) ∙ stub-pruned c in
         let P : Bool → Type 0 = λ b.
-        Thins (cond b (values.unknown (hidden_of c)) (values.ref_to tt (values.raw c))) (values.unknown (hidden_of c)) in
+        Thins (cond b (values.unknown (hidden_of c)) (values.ref_to tt (values.raw c)))
+            (values.unknown (hidden_of c)) in
         record {
           value = values.unknown (hidden_of c);
           cuts = inl (e ∙ ap (λ (t : Tree). t ∷ []) h, refl);
@@ -335,7 +355,8 @@ raw_thin root w c ps clean a x =
     go p e at prunes (inr h) =
         let show : pruned_in root (spot w None c) ≡ false = ap is_pruned at ∙ h.1 in
         let P : Bool → Type 0 = λ b.
-        Thins (cond b (values.unknown (hidden_of c)) (values.ref_to tt (values.raw c))) (values.ref_to tt (values.raw p)) in
+        Thins (cond b (values.unknown (hidden_of c)) (values.ref_to tt (values.raw c)))
+            (values.ref_to tt (values.raw p)) in
         record {
           value = values.ref_to tt (values.raw p);
           cuts = inr (p, e, refl, (prunes, h.0));
@@ -360,7 +381,8 @@ cell_thin root w q c e p firm prunes at inner = go (cell_how c p (edge_trees e) 
           thins = subst P (sym hide) (record { pairs = no_pair; unknown = refl });
         }
     go (inr h) =
-        let show : pruned_in root (spot w (Some q) c) ≡ false = ap is_pruned (at ∙ ap Some h.1) ∙ cell-not_pruned c h.0 in
+        let show : pruned_in root (spot w (Some q) c) ≡ false = ap is_pruned (at ∙ ap Some h.1) ∙ cell-not_pruned c
+            h.0 in
         let y = inner h.0 h.2 (placed-in root (in_edge w) c h.0 (at ∙ ap Some h.1) refl) in
         let P : Bool → Type 0 = λ b.
         PartsThin (cond b (hidden_part c) (blank_edge (pruned_in root) (in_edge w) q e)) y.parts in
@@ -369,12 +391,14 @@ cell_thin root w q c e p firm prunes at inner = go (cell_how c p (edge_trees e) 
 fork_thin : (root : Tree) (w : Where) (q l : List ℕ) (z : Tree) (a : LaidEdge) (o : Tree) (b : LaidEdge) (y u : Tree)
     (ps : List Tree) → ps ≡ y ∷ (u ∷ [])
     → ThinCell root w (q ++ (l ++ 0 ∷ [])) z a (blank_edge (pruned_in root) (in_edge w) (q ++ (l ++ 0 ∷ [])) a) y
-    → ThinCell root (past w 1) (q ++ (l ++ 1 ∷ [])) o b (blank_edge (pruned_in root) (in_edge (past w 1)) (q ++ (l ++ 1 ∷ [])) b) u
+    → ThinCell root (past w 1) (q ++ (l ++ 1 ∷ [])) o b (blank_edge (pruned_in root) (in_edge (past w 1))
+        (q ++ (l ++ 1 ∷ [])) b) u
     → ThinEdge root w q (a_fork l z a o b) ps
 fork_thin root w q l z a o b y u ps e x t = record {
   parts = fork_part l x.parts t.parts;
   cuts = (y, u, x.parts, t.parts, e, refl, x.cuts, t.cuts);
-  thins = thin-fork l (left_part (pruned_in root) w q l z a) x.parts (right_part (pruned_in root) w q l o b) t.parts x.thins t.thins;
+  thins = thin-fork l (left_part (pruned_in root) w q l z a) x.parts (right_part (pruned_in root) w q l o b) t.parts
+      x.thins t.thins;
 }
 
 under_thin : (root : Tree) (w : Where) (c : Tree) (e : LaidEdge) (p : Tree) (ps : List Tree) → ps ≡ p ∷ []
@@ -382,7 +406,8 @@ under_thin : (root : Tree) (w : Where) (c : Tree) (e : LaidEdge) (p : Tree) (ps 
 under_thin root w c e p ps are x = record {
   value = map_with x.parts;
   cuts = (p, x.parts, are, refl, x.cuts);
-  thins = thin-map (cond (pruned_in root (spot w (Some []) c)) (hidden_part c) (blank_edge (pruned_in root) (in_edge w) [] e)) x.parts x.thins;
+  thins = thin-map (cond (pruned_in root (spot w (Some []) c)) (hidden_part c)
+      (blank_edge (pruned_in root) (in_edge w) [] e)) x.parts x.thins;
 }
 
 -- a value without references
@@ -461,7 +486,8 @@ mutual
       (blank_fields (pruned_in root) (past w (length (trees d))) (other_names names) ds) ps p.0 p.1 p.2
       (thin root (stepped w (named (first_name names))) d firm.0 (clean-left (trees d) (trees_all ds) clean) p.0 p.3
       (placed-left root w (named (first_name names)) p.0 p.1 y))
-      (thin_fields root (past w (length (trees d))) (other_names names) ds firm.1 (clean-right (trees d) (trees_all ds) clean) p.1 p.4
+      (thin_fields root (past w (length (trees d))) (other_names names) ds firm.1
+          (clean-right (trees d) (trees_all ds) clean) p.1 p.4
       (placed-right root w (length (trees d)) p.0 p.1 (all-length (trees d) p.0 p.3) y))
 
   thin_items : (root : Tree) (w : Where) (n : ℕ) (ds : Laids) → AllFirm ds → AllClean (trees_all ds) → (ps : List Tree)
@@ -474,7 +500,8 @@ mutual
       ps p.0 p.1 p.2
       (thin root (stepped w (item n)) d firm.0 (clean-left (trees d) (trees_all ds) clean) p.0 p.3
       (placed-left root w (item n) p.0 p.1 y))
-      (thin_items root (past w (length (trees d))) (suc n) ds firm.1 (clean-right (trees d) (trees_all ds) clean) p.1 p.4
+      (thin_items root (past w (length (trees d))) (suc n) ds firm.1 (clean-right (trees d) (trees_all ds) clean) p.1
+          p.4
       (placed-right root w (length (trees d)) p.0 p.1 (all-length (trees d) p.0 p.3) y))
 
   thin_edge : (root : Tree) (w : Where) (q : List ℕ) (e : LaidEdge) → FirmEdge e → AllClean (edge_trees e)
@@ -485,7 +512,8 @@ mutual
         parts = leaf_part l y.value;
         cuts = (y.value, refl, y.cuts);
         thins = record {
-          pairs = one_pair l (blank (pruned_in root) (stepped w (keyed (q ++ l))) d) y.value no_pairs no_pairs y.thins no_pair;
+          pairs = one_pair l (blank (pruned_in root) (stepped w (keyed (q ++ l))) d) y.value no_pairs no_pairs
+              y.thins no_pair;
           unknown = refl;
         };
       }
@@ -496,9 +524,11 @@ mutual
       let next = placed-first root (past w 1) two.1 [] (placed-right root w 1 (two.0 ∷ []) (two.1 ∷ []) refl y) in
       fork_thin root w q l z i o j two.0 two.1 ps two.2
       (cell_thin root w (q ++ (l ++ 0 ∷ [])) z i two.0 firm.0 two.3 at
-      (λ qs b t. thin_edge root (in_edge w) (q ++ (l ++ 0 ∷ [])) i firm.1 (clean-cell z (edge_trees i) firm.0 clean.0) qs b t))
+      (λ qs b t. thin_edge root (in_edge w) (q ++ (l ++ 0 ∷ [])) i firm.1
+          (clean-cell z (edge_trees i) firm.0 clean.0) qs b t))
       (cell_thin root (past w 1) (q ++ (l ++ 1 ∷ [])) o j two.1 firm.2 two.4 next
-      (λ qs b t. thin_edge root (in_edge (past w 1)) (q ++ (l ++ 1 ∷ [])) j firm.3 (clean-cell o (edge_trees j) firm.2 clean.1.0) qs b t))
+      (λ qs b t. thin_edge root (in_edge (past w 1)) (q ++ (l ++ 1 ∷ [])) j firm.3
+          (clean-cell o (edge_trees j) firm.2 clean.1.0) qs b t))
 
 -- ---- the root
 
@@ -530,7 +560,8 @@ root_thins schema t c p (laid d) clean lies small apart prunes =
         → (p ≡ stub c 0) ⊎ ReadsThinned schema t p (Blanked (plain d) (chosen (pruned_in p) (spots_of (laid d))))
     go e firm (inl h) = inl h
     go e firm (inr h) =
-        let y = thin p at_root d firm (clean-cell c (trees d) e clean) h.0 h.2 (placed-in p at_root c h.0 (ap Some h.1) refl) in
+        let y = thin p at_root d firm (clean-cell c (trees d) e clean) h.0 h.2
+            (placed-in p at_root c h.0 (ap Some h.1) refl) in
         let x = cut_shows schema for_rest for_raw trusts_pruned t c d clean lies small h.0 y.value y.cuts in
         let P : Tree → Type 0 = λ p. Reading Partial schema t p y.value in
         let Q : Plain → Type 0 = λ v. Thins v y.value in

@@ -1,5 +1,6 @@
 -- The hidden edges of a map: of those that a choice names, the outermost hide its keys.
-use Rattle.std.proofs.Common.{◌≡◌, ℕ, suc, ◌+◌, Bool, true, false, cond, ◌&&◌, ◌||◌, nat_eq, nat_lt, List, [], ◌∷◌, ◌++◌, length, refl, sym, ap, ◌∙◌, append_assoc, length-append, arith}
+use Rattle.std.proofs.Common.{◌≡◌, ℕ, suc, ◌+◌, Bool, true, false, cond, ◌&&◌, ◌||◌, nat_eq, nat_lt, List, [], ◌∷◌}
+use Rattle.std.proofs.Common.{◌++◌, length, refl, sym, ap, ◌∙◌, append_assoc, length-append, arith}
 use Rattle.std.proofs.lemmas.Bool.{eq-eqb, lt-ltb, ltb-true}
 use Rattle.hashmap_tree.specs.Merged.{is_before}
 use Rattle.schema_leads.specs.Leads.{begins}
@@ -49,11 +50,13 @@ Sides p q = (a b : List ℕ) → begins (p ++ a) (q ++ b) ≡ false
 
 zero_one : (l a b : List ℕ) → begins ((l ++ 0 ∷ []) ++ a) ((l ++ 1 ∷ []) ++ b) ≡ false
 zero_one [] a b = refl
-zero_one (x ∷ l) a b = ap (λ t. t && begins ((l ++ 0 ∷ []) ++ a) ((l ++ 1 ∷ []) ++ b)) (eq-eqb x x refl) ∙ zero_one l a b
+zero_one (x ∷ l) a b = ap (λ t. t && begins ((l ++ 0 ∷ []) ++ a) ((l ++ 1 ∷ []) ++ b)) (eq-eqb x x refl) ∙ zero_one l
+    a b
 
 one_zero : (l a b : List ℕ) → begins ((l ++ 1 ∷ []) ++ a) ((l ++ 0 ∷ []) ++ b) ≡ false
 one_zero [] a b = refl
-one_zero (x ∷ l) a b = ap (λ t. t && begins ((l ++ 1 ∷ []) ++ a) ((l ++ 0 ∷ []) ++ b)) (eq-eqb x x refl) ∙ one_zero l a b
+one_zero (x ∷ l) a b = ap (λ t. t && begins ((l ++ 1 ∷ []) ++ a) ((l ++ 0 ∷ []) ++ b)) (eq-eqb x x refl) ∙ one_zero l
+    a b
 
 in_prefix : (q p r a b : List ℕ) → begins (p ++ a) (r ++ b) ≡ false → begins ((q ++ p) ++ a) ((q ++ r) ++ b) ≡ false
 in_prefix q p r a b e =
@@ -67,7 +70,8 @@ sides-right q l a b = in_prefix q (l ++ 1 ∷ []) (l ++ 0 ∷ []) a b (one_zero 
 
 -- ---- the outermost of two lists
 
-others-append : (us vs : List KeyPart) (q : List ℕ) → others_begin (us ++ vs) q ≡ (others_begin us q || others_begin vs q)
+others-append : (us vs : List KeyPart) (q : List ℕ) → others_begin (us ++ vs) q ≡
+    (others_begin us q || others_begin vs q)
 others-append [] vs q = refl
 others-append (u ∷ us) vs q =
     ap (λ t. (begins u.0 q && nat_lt (length u.0) (length q)) || t) (others-append us vs q)
@@ -141,7 +145,8 @@ and-false false = refl
 
 not_longer : (q k : List ℕ) (n : ℕ) → length k ≡ length q + n → (begins k q && nat_lt (length k) (length q)) ≡ false
 not_longer q k n e =
-    ap (λ (t : Bool). begins k q && t) (ap (λ (m : ℕ). nat_lt m (length q)) e ∙ ge-add (length q) n) ∙ and-false (begins k q)
+    ap (λ (t : Bool). begins k q && t) (ap (λ (m : ℕ). nat_lt m (length q)) e ∙ ge-add (length q) n) ∙ and-false
+        (begins k q)
 
 none_shorter : (q : List ℕ) (us : List KeyPart) → AllBelow q us → others_begin us q ≡ false
 none_shorter q [] h = refl
@@ -161,7 +166,8 @@ covers u us k b r e =
 outer-none : (u : KeyPart) (us ws : List KeyPart) → AllDeeper u.0 ws → outer_among (u ∷ us) ws ≡ []
 outer-none u us [] h = refl
 outer-none u us (w ∷ ws) h =
-    ap (λ (b : Bool). cond b (outer_among (u ∷ us) ws) (w ∷ outer_among (u ∷ us) ws)) (covers u us w.0 h.0.0 h.0.1 h.0.2)
+    ap (λ (b : Bool). cond b (outer_among (u ∷ us) ws) (w ∷ outer_among (u ∷ us) ws))
+        (covers u us w.0 h.0.0 h.0.1 h.0.2)
     ∙ outer-none u us ws h.1
 
 pub outermost-one : (u : KeyPart) (us : List KeyPart) → AllDeeper u.0 us → outermost (u ∷ us) ≡ u ∷ []
