@@ -1,18 +1,17 @@
 -- In an accepted schema no two fields of a record are shown by one name.
-use Rattle.std.proofs.Common.{◌≡◌, ◌⊎◌, inl, inr, ℕ, zero, suc, ◌+◌, ◌<◌, ◌≤◌, ◌^◌, List, [], ◌∷◌, ◌++◌, length}
-use Rattle.std.proofs.Common.{Option, Some, None, Bool, true, false, ◌||◌, ◌&&◌, cond, nat_eq, refl, sym, ap, ◌∙◌}
+use Rattle.std.proofs.Common.{◌≡◌, ◌⊎◌, inl, inr, ℕ, zero, suc, ◌+◌, ◌<◌, ◌≤◌, List, [], ◌∷◌, ◌++◌, length}
+use Rattle.std.proofs.Common.{Option, Some, None, Bool, true, false, ◌||◌, cond, nat_eq, refl, sym, ap, ◌∙◌}
 use Rattle.std.proofs.Common.{subst, arith, slice_get}
 use Rattle.std.specs.Prelude.{bytes_eq, codes, decimal}
-use Rattle.std.specs.List.{list_any}
-use Rattle.std.proofs.lemmas.Bool.{or_parts, eqb-true, eqb-false}
+use Rattle.std.proofs.lemmas.Bool.{or_parts, eqb-true}
 use Rattle.std.proofs.lemmas.Fmt.{decimal_injective, decimal_nonempty}
 use Rattle.std.proofs.lemmas.List.Folds.{list_any-append}
 use Rattle.std.proofs.lemmas.Slice.Eq.{bytes_eq-Decides}
 use Rattle.nat_solver.specs.declared.compare.Op.{Op}
 use Rattle.tlb_lexer.specs.Spelling.{is_name}
-use Rattle.tlb_syntax.specs.Limits.{IsWord, IsWordOrNone, IsExpr, IsType, AreItems, item_count, IsConstructor}
+use Rattle.tlb_syntax.specs.Limits.{IsWord, IsExpr, IsType, AreItems, item_count, IsConstructor}
 use Rattle.tlb_syntax.specs.Limits.{AreConstructors}
-use Rattle.tlb_syntax.specs.Tree.{ExprView, ExprList, ItemView, ItemList, TypeView, ConstructorView, SchemaView, lit}
+use Rattle.tlb_syntax.specs.Tree.{ExprView, ItemView, ItemList, TypeView, ConstructorView, SchemaView, lit}
 use Rattle.tlb_syntax.specs.Tree.{named, nat32, bits, below, up_to, plus, star, out, ref, group, plain, when}
 use Rattle.tlb_syntax.specs.Tree.{when_bit, implicit, check, explicit, no_items, an_item, no_exprs, an_expr}
 use Rattle.kind_rules.specs.declared.expected.TypePosition.{TypePosition}
@@ -22,7 +21,7 @@ use Rattle.kind_rules.specs.ExpectedKinds.{a_number, a_type, under}
 use Rattle.kind_terms.specs.declared.words.Family.{Family}
 use Rattle.kind_terms.specs.declared.words.Family.TheVariants.{Uint, Int, Bits}
 use Rattle.kind_terms.specs.Words.{Word, is_among}
-use Rattle.kind_terms.specs.Params.{greatest, option_list}
+use Rattle.kind_terms.specs.Params.{greatest}
 use Rattle.kind_terms.specs.Forms.{is_field_of_numbers}
 use Rattle.kind_terms.specs.Positions.{unnamed_name, shown, is_unnamed}
 use Rattle.kind_terms.specs.Scopes.{field_names}
@@ -46,7 +45,7 @@ use Rattle.schema_core.specs.Names as names_in
 use Rattle.schema_core.specs.Numbers.{number_of, no_number, side_of, unknown_by}
 use Rattle.schema_core.specs.Slots.{next_slot, field_slots}
 use Rattle.schema_core.specs.CoreOf.{no_meaning, of_family, applied, alone, type_of, first_type, args_of, own_slot}
-use Rattle.schema_core.specs.CoreOf.{constraint_by, constraint_of, unnamed_by, items_of, item_of, field_of, body_of}
+use Rattle.schema_core.specs.CoreOf.{constraint_by, unnamed_by, items_of, field_of, body_of}
 use Rattle.schema_core.specs.CoreOf.{under_ref, core_of}
 use Rattle.schema_leads.specs.Tags.{tag_of}
 use Rattle.kinded_core.specs.Clean.{AreClean}
@@ -118,7 +117,7 @@ fewer : (f a n b : List Word) (y : Word) → is_among ((f ++ a) ++ (n ++ b)) y �
     → (is_among (f ++ n) y ≡ false) × (is_among a y ≡ false)
 fewer f a n b y h =
     let x = or_parts (is_among (f ++ a) y) (is_among (n ++ b) y)
-        (sym (list_any-append (bytes_eq y) (f ++ a) (n ++ b)) ∙ h) in
+    (sym (list_any-append (bytes_eq y) (f ++ a) (n ++ b)) ∙ h) in
     let l = or_parts (is_among f y) (is_among a y) (sym (list_any-append (bytes_eq y) f a) ∙ x.0) in
     let r = or_parts (is_among n y) (is_among b y) (sym (list_any-append (bytes_eq y) n b) ∙ x.1) in
     (list_any-append (bytes_eq y) f n ∙ (λ i. l.0 i || r.0 i), l.1)
@@ -185,7 +184,7 @@ later (an_item (implicit x k) is) types h names next place u most c w low =
     sooner h.fields (field_names (implicit x k)) h.inner (names_inside (implicit x k)) u u most
     (core.field_names (further is types names next place u (implicit x k))) (omega arith)
     (later is types (nodes.next h (implicit x k)) (names ++ declares (implicit x k) next)
-        (next_slot next (implicit x k))
+    (next_slot next (implicit x k))
     (place + 1) u most p.1 w.1 (omega (arith, low)))
 later (an_item (check a op b) is) types h names next place u most c w low =
     let p = clean_both (item_nodes (check a op b) (at h (check a op b)) (h.fields ++ h.inner)) _ c in
@@ -195,7 +194,7 @@ later (an_item (check a op b) is) types h names next place u most c w low =
     (sooner h.fields (field_names (check a op b)) h.inner (names_inside (check a op b)) u u most
     (core.field_names (further is types names next place u (check a op b))) (omega arith)
     (later is types (nodes.next h (check a op b)) (names ++ declares (check a op b) next)
-        (next_slot next (check a op b))
+    (next_slot next (check a op b))
     (place + 1) u most p.1 w.1 (omega (arith, low))))
 later (an_item (explicit None t) is) types h names next place u most c w low =
     let p = clean_both (item_nodes (explicit None t) (at h (explicit None t)) (h.fields ++ h.inner)) _ c in
@@ -204,10 +203,10 @@ later (an_item (explicit None t) is) types h names next place u most c w low =
     (next + field_slots (None) (is_field_of_numbers t)) t (further is types names next place u (explicit (None) t)))) (
       inl (u + 1, omega arith, omega (arith, low), refl),
       sooner h.fields (field_names (explicit None t)) h.inner (names_inside (explicit None t)) u (u + 1) most
-    (core.field_names (further is types names next place u (explicit None t))) (omega arith)
-      (later is types (nodes.next h (explicit None t)) (names ++ declares (explicit None t) next)
+          (core.field_names (further is types names next place u (explicit None t))) (omega arith)
+          (later is types (nodes.next h (explicit None t)) (names ++ declares (explicit None t) next)
           (next_slot next (explicit None t))
-      (place + 1) (u + 1) most p.1 w.1 (omega (arith, low))),
+          (place + 1) (u + 1) most p.1 w.1 (omega (arith, low))),
     )
 later (an_item (explicit (Some z) t) is) types h names next place u most c w low =
     let p = clean_both (item_nodes (explicit (Some z) t) (at h (explicit (Some z) t)) (h.fields ++ h.inner)) _ c in
@@ -215,13 +214,13 @@ later (an_item (explicit (Some z) t) is) types h names next place u most c w low
     let P : List Word → Type 0 = AllLater (h.fields ++ h.inner) u most in
     subst P (sym (field-head types names (shown (Some z) u) (own_slot (Some z) (is_field_of_numbers t) next)
     (next + field_slots (Some z) (is_field_of_numbers t)) t (further is types names next place u
-        (explicit (Some z) t)))) (
+    (explicit (Some z) t)))) (
       inr (w.0.0, new_name (h.fields ++ h.inner) (at h (explicit (Some z) t)).path z q.0),
       sooner h.fields (field_names (explicit (Some z) t)) h.inner (names_inside (explicit (Some z) t)) u u most
-    (core.field_names (further is types names next place u (explicit (Some z) t))) (omega arith)
-      (later is types (nodes.next h (explicit (Some z) t)) (names ++ declares (explicit (Some z) t) next)
+          (core.field_names (further is types names next place u (explicit (Some z) t))) (omega arith)
+          (later is types (nodes.next h (explicit (Some z) t)) (names ++ declares (explicit (Some z) t) next)
           (next_slot next (explicit (Some z) t))
-      (place + 1) u most p.1 w.1 (omega (arith, low))),
+          (place + 1) u most p.1 w.1 (omega (arith, low))),
     )
 
 -- ---- a type that is no record has none in it
@@ -317,11 +316,11 @@ mutual
       (next_slot next (explicit (Some z) t)) (place + 1) u most p.1 w.1 (omega (arith, low)) in
       field-apart types names (shown (Some z) u) (own_slot (Some z) (is_field_of_numbers t) next)
       (next + field_slots (Some z) (is_field_of_numbers t)) t
-          (further is types names next place u (explicit (Some z) t))
+      (further is types names next place u (explicit (Some z) t))
       (named-apart h.fields h.inner (names_inside (explicit (Some z) t)) z w.0.0 u most
       (core.field_names (further is types names next place u (explicit (Some z) t))) l)
       (view-apart t types (at h (explicit (Some z) t)) names (next + field_slots (Some z) (is_field_of_numbers t))
-          q.1 w.0.1)
+      q.1 w.0.1)
       (items-apart is types (nodes.next h (explicit (Some z) t)) (names ++ declares (explicit (Some z) t) next)
       (next_slot next (explicit (Some z) t)) (place + 1) u most p.1 w.1 (omega (arith, low)) few)
 
@@ -383,15 +382,15 @@ judged-at : (types before s : SchemaView) → of_contents types before s ≡ [] 
 judged-at types before [] h i c e = absurd (grind arith)
 judged-at types before (d ∷ ds) h zero c e =
     let p = append_none (refusals_at (heading before d) (constructor_nodes types d))
-        (of_contents types (before ++ d ∷ []) ds) h in
+    (of_contents types (before ++ d ∷ []) ds) h in
     let same : d ≡ c = cc in
     let P : ConstructorView → Type 0 = λ c. AreClean (constructor_nodes types c) in
     subst P same
     (clean_nodes (constructor_nodes types d)
-        (map_none (refusal_at (heading before d)) (faults (constructor_nodes types d)) p.0))
+    (map_none (refusal_at (heading before d)) (faults (constructor_nodes types d)) p.0))
 judged-at types before (d ∷ ds) h (suc i) c e =
     let p = append_none (refusals_at (heading before d) (constructor_nodes types d))
-        (of_contents types (before ++ d ∷ []) ds) h in
+    (of_contents types (before ++ d ∷ []) ds) h in
     judged-at types (before ++ d ∷ []) ds p.1 i c e
 
 no-contents : (s : SchemaView) → IsKinded s → of_contents (kept_of s) [] (kept_of s) ≡ []

@@ -1,6 +1,7 @@
 -- What the laws say, for every accepted schema: facts about the definitions alone. The schema stands in them by the
 -- core forms of its declarations without those that are passed over.
-use Rattle.std.specs.Prelude.{◌≡◌, ◌⊎◌, ℕ, List}
+use Rattle.std.specs.Prelude.{filter}
+use Rattle.std.specs.Prelude.{◌≡◌, ◌⊎◌, List}
 use Rattle.tlb_syntax.specs.Tree.{SchemaView}
 use Rattle.cell_nodes.specs.Constructed.{stub}
 use Rattle.cell_nodes.specs.Good.{IsGood}
@@ -15,9 +16,9 @@ use Rattle.typed_value.specs.Values.{Plain}
 use Rattle.accepted_schema.specs.Accepted.{IsAccepted, kept_cores}
 use Rattle.pruning.specs.Blanked.{Blanked}
 use Rattle.pruning.specs.Cut.{cut_root}
-use Rattle.pruning.specs.Lies.{LaidRoot, plain_root, LiesAtRoot}
+use Rattle.pruning.specs.SpellsLaid.{LaidRoot, plain_root, IsLaidRoot}
 use Rattle.pruning.specs.Names.{NamesFieldsApart}
-use Rattle.pruning.specs.Spots.{unless_kept, unkept, chosen, spots_of}
+use Rattle.pruning.specs.Spots.{unless_kept, unkept, spots_of}
 use Rattle.pruning.specs.Thinned.{pruned_in, ReadsThinned}
 use Rattle.pruning_laws.specs.Laws.{Commutes}
 
@@ -29,7 +30,7 @@ AcceptedNamesApart = (s : SchemaView) → IsAccepted s → NamesFieldsApart (kep
 abbrev pub PruningCommutes : Type 0
 PruningCommutes =
     (s : SchemaView) → IsAccepted s → (t : Closed) (c : Tree) (v : Plain) → IsGood c → mask c ≡ 0
-    → Reading Whole (kept_cores s) t c v → (r : LaidRoot) → plain_root r ≡ v → LiesAtRoot (kept_cores s) t c r
+    → Reading Whole (kept_cores s) t c v → (r : LaidRoot) → plain_root r ≡ v → IsLaidRoot (kept_cores s) t c r
     → (paths : List (List Stride))
     → Commutes (kept_cores s) t c (cut_root (unless_kept paths) r c) v (Blanked v (unkept paths (spots_of r))) paths
 
@@ -37,6 +38,6 @@ PruningCommutes =
 abbrev pub PrunedTreeReads : Type 0
 PrunedTreeReads =
     (s : SchemaView) → IsAccepted s → (t : Closed) (c : Tree) (v : Plain) → IsGood c → mask c ≡ 0
-    → Reading Whole (kept_cores s) t c v → (r : LaidRoot) → plain_root r ≡ v → LiesAtRoot (kept_cores s) t c r
+    → Reading Whole (kept_cores s) t c v → (r : LaidRoot) → plain_root r ≡ v → IsLaidRoot (kept_cores s) t c r
     → (p : Tree) → Prunes c p 0
-    → (p ≡ stub c 0) ⊎ ReadsThinned (kept_cores s) t p (Blanked v (chosen (pruned_in p) (spots_of r)))
+    → (p ≡ stub c 0) ⊎ ReadsThinned (kept_cores s) t p (Blanked v (filter (pruned_in p) (spots_of r)))

@@ -10,7 +10,7 @@ use Rattle.typed_value.specs.Values as values
 use Rattle.pruning.specs.Laid.{Laid, number, bit_string, record_of, absent, list_of, ref_to, ref_to_raw, no_map}
 use Rattle.pruning.specs.Laid.{map_under, map_here, rest, Laids, no_laids, a_laid, LaidEdge, a_leaf, a_fork, join}
 use Rattle.pruning.specs.Laid.{below, trees}
-use Rattle.pruning.specs.Lies.{LaidRoot, as_it_is, laid}
+use Rattle.pruning.specs.SpellsLaid.{LaidRoot, as_it_is, laid}
 use Rattle.pruning.specs.Spots.{Spot, Where, at_root, stepped, past, in_edge, in_ref, spot, first_name, other_names}
 use Rattle.pruning.specs.Blanked.{KeyPart, hidden_of}
 

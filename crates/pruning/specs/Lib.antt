@@ -3,7 +3,7 @@ pub mod Cut
 pub mod Examples
 pub mod Knowing
 pub mod Laid
-pub mod Lies
 pub mod Names
 pub mod Spots
+pub mod SpellsLaid
 pub mod Thinned

@@ -1,12 +1,12 @@
 -- The references of a reading that can be pruned, and which of them chosen paths keep. This project's own.
 use Rattle.std.specs.Prelude.{Bool, true, false, ◌&&◌, ◌||◌, if◌then◌else◌, ℕ, suc, ◌+◌, nat_eq, bytes_eq, List, []}
-use Rattle.std.specs.Prelude.{◌∷◌, ◌++◌, length, Option, Some, None}
+use Rattle.std.specs.Prelude.{◌∷◌, ◌++◌, length, Option, Some, None, filter, not}
 use Rattle.cell_nodes.specs.declared.tree.Tree.{Tree}
 use Rattle.schema_leads.specs.Leads.{begins}
 use Rattle.typed_value.specs.Paths.{Stride, named, item, keyed}
 use Rattle.pruning.specs.Laid.{Laid, number, bit_string, record_of, absent, list_of, ref_to, ref_to_raw, no_map}
 use Rattle.pruning.specs.Laid.{map_under, map_here, rest, Laids, no_laids, a_laid, LaidEdge, a_leaf, a_fork, trees}
-use Rattle.pruning.specs.Lies.{LaidRoot, as_it_is, laid}
+use Rattle.pruning.specs.SpellsLaid.{LaidRoot, as_it_is, laid}
 
 pub record Spot : Type 0 where
   -- in the tree, from the root down: which child, from 0
@@ -140,17 +140,9 @@ abbrev pub kept : List (List Stride) → Spot → Bool
 kept [] x = false
 kept (path ∷ paths) x = needs path x x.prefix || kept paths x
 
-abbrev pub chosen : (Spot → Bool) → List Spot → List Spot
-chosen f [] = []
-chosen f (x ∷ xs) = if f x then x ∷ chosen f xs else chosen f xs
-
-abbrev pub not : Bool → Bool
-not true = false
-not false = true
-
 -- those that no chosen path keeps
 abbrev pub unless_kept : List (List Stride) → Spot → Bool
 unless_kept paths x = not (kept paths x)
 
 abbrev pub unkept : List (List Stride) → List Spot → List Spot
-unkept paths xs = chosen (unless_kept paths) xs
+unkept paths xs = filter (unless_kept paths) xs

@@ -1,4 +1,5 @@
 -- A value blanked at a list of its spots is the value with just these spots hidden.
+use Rattle.std.specs.Prelude.{filter}
 use Rattle.std.proofs.Common.{◌≡◌, ℕ, suc, Bool, true, false, cond, ◌||◌, List, [], ◌∷◌, ◌++◌, length, Option, Some}
 use Rattle.std.proofs.Common.{None, refl, sym, ap, ◌∙◌, subst, append_assoc}
 use Rattle.std.proofs.lemmas.List.{append-nil}
@@ -10,9 +11,9 @@ use Rattle.typed_value.specs.Values as values
 use Rattle.pruning.specs.Laid.{Laid, number, bit_string, record_of, absent, list_of, ref_to, ref_to_raw, no_map}
 use Rattle.pruning.specs.Laid.{map_under, map_here, rest, Laids, no_laids, a_laid, LaidEdge, a_leaf, a_fork, join}
 use Rattle.pruning.specs.Laid.{below, plain, plain_all, plain_pairs, trees}
-use Rattle.pruning.specs.Lies.{LaidRoot, as_it_is, laid, plain_root}
+use Rattle.pruning.specs.SpellsLaid.{LaidRoot, as_it_is, laid, plain_root}
 use Rattle.pruning.specs.Spots.{Spot, Where, at_root, stepped, past, in_edge, in_ref, spot, first_name, other_names}
-use Rattle.pruning.specs.Spots.{spots, edge_spots, spots_of, chosen}
+use Rattle.pruning.specs.Spots.{spots, edge_spots, spots_of}
 use Rattle.pruning.specs.Blanked.{KeyPart, hidden_of, blanked_ref, with_prefix, edges_at, some_begin, outermost}
 use Rattle.pruning.specs.Blanked.{put_all, blanked, blanked_fields, blanked_items, blanked_pairs, Blanked}
 use Rattle.pruning.specs.Cut.{Choice, Parts, below_parts, fork_part, hidden_part, map_with, blank, blank_fields}
@@ -45,15 +46,15 @@ key_parts-append (x ∷ xs) ys = go x.prefix (key_parts-append xs ys)
 
 -- the edge of a cell: hidden itself, or what is hidden below it
 cell_outer : (f : Choice) (w : Where) (q : List ℕ) (c : Tree) (xs : List Spot) (x : Parts)
-    → AllDeeper q (key_parts (chosen f xs)) → Outer q (key_parts (chosen f xs)) x
-    → Outer q (key_parts (chosen f (spot w (Some q) c ∷ xs))) (cond (f (spot w (Some q) c)) (hidden_part c) x)
+    → AllDeeper q (key_parts (filter f xs)) → Outer q (key_parts (filter f xs)) x
+    → Outer q (key_parts (filter f (spot w (Some q) c ∷ xs))) (cond (f (spot w (Some q) c)) (hidden_part c) x)
 cell_outer f w q c xs x deep o = go (f (spot w (Some q) c))
   where
-    go : (b : Bool) → Outer q (key_parts (cond b (spot w (Some q) c ∷ chosen f xs) (chosen f xs)))
+    go : (b : Bool) → Outer q (key_parts (cond b (spot w (Some q) c ∷ filter f xs) (filter f xs)))
         (cond b (hidden_part c) x)
     go true = record {
-      all_below = (([], sym (append-nil q)), deeper-below q (key_parts (chosen f xs)) deep);
-      outer = outermost-one (q, hidden_of c) (key_parts (chosen f xs)) deep
+      all_below = (([], sym (append-nil q)), deeper-below q (key_parts (filter f xs)) deep);
+      outer = outermost-one (q, hidden_of c) (key_parts (filter f xs)) deep
           ∙ (λ i. ((sym (append-nil q)) i, hidden_of c) ∷ []);
       order = tt;
     }
@@ -87,8 +88,8 @@ after_bit q [] b us h = below-deeper q b [] us h
 after_bit q (x ∷ l) b us h = below-deeper q x (l ++ b ∷ []) us h
 
 pub record EdgeOuter (f : Choice) (w : Where) (q : List ℕ) (e : LaidEdge) : Type 0 where
-  pub deep : AllDeeper q (key_parts (chosen f (edge_spots w q e)))
-  pub outer : Outer q (key_parts (chosen f (edge_spots w q e))) (blank_edge f w q e)
+  pub deep : AllDeeper q (key_parts (filter f (edge_spots w q e)))
+  pub outer : Outer q (key_parts (filter f (edge_spots w q e))) (blank_edge f w q e)
 
 pub edge_outer : (f : Choice) (w : Where) (q : List ℕ) (e : LaidEdge) → EdgeOuter f w q e
 edge_outer f w q (a_leaf l d) = record { deep = tt; outer = record { all_below = tt; outer = refl; order = tt } }
@@ -102,14 +103,14 @@ edge_outer f w q (a_fork l z a o b) =
     let left = cell_outer f w p z (edge_spots (in_edge w) p a) (blank_edge f (in_edge w) p a) x.deep x.outer in
     let right = cell_outer f (past w 1) r o (edge_spots (in_edge (past w 1)) r b)
         (blank_edge f (in_edge (past w 1)) r b) y.deep y.outer in
-    let us = key_parts (chosen f (spot w (Some p) z ∷ edge_spots (in_edge w) p a)) in
-    let vs = key_parts (chosen f (spot (past w 1) (Some r) o ∷ edge_spots (in_edge (past w 1)) r b)) in
-    let same : key_parts (chosen f ((spot w (Some p) z ∷ edge_spots (in_edge w) p a) ++
+    let us = key_parts (filter f (spot w (Some p) z ∷ edge_spots (in_edge w) p a)) in
+    let vs = key_parts (filter f (spot (past w 1) (Some r) o ∷ edge_spots (in_edge (past w 1)) r b)) in
+    let same : key_parts (filter f ((spot w (Some p) z ∷ edge_spots (in_edge w) p a) ++
         (spot (past w 1) (Some r) o ∷ edge_spots (in_edge (past w 1)) r b))) ≡ us ++ vs =
     ap key_parts (chosen-append f (spot w (Some p) z ∷ edge_spots (in_edge w) p a)
         (spot (past w 1) (Some r) o ∷ edge_spots (in_edge (past w 1)) r b))
-    ∙ key_parts-append (chosen f (spot w (Some p) z ∷ edge_spots (in_edge w) p a))
-        (chosen f (spot (past w 1) (Some r) o ∷ edge_spots (in_edge (past w 1)) r b)) in
+    ∙ key_parts-append (filter f (spot w (Some p) z ∷ edge_spots (in_edge w) p a))
+        (filter f (spot (past w 1) (Some r) o ∷ edge_spots (in_edge (past w 1)) r b)) in
     let P : List KeyPart → Type 0 = λ ks. AllDeeper q ks in
     let Q : List KeyPart → Type 0 = λ ks. Outer q ks (fork_part l (left_part f w q l z a) (right_part f w q l o b)) in
     record {
@@ -247,14 +248,14 @@ mutual
   blank_right f S w no_map h = λ i. values.map_of tt no_pairs (put_all (outermost (h i)) [])
   blank_right f S w (map_under c e) h =
       let x = edge_outer f (in_edge w) [] e in
-      map_blanked S w.path (key_parts (chosen f (spot w (Some []) c ∷ edge_spots (in_edge w) [] e))) (plain_pairs e)
+      map_blanked S w.path (key_parts (filter f (spot w (Some []) c ∷ edge_spots (in_edge w) [] e))) (plain_pairs e)
       (cond (f (spot w (Some []) c)) (hidden_part c) (blank_edge f (in_edge w) [] e)) h.0
       (cell_outer f w [] c (edge_spots (in_edge w) [] e) (blank_edge f (in_edge w) [] e) x.deep x.outer)
       (cell_stays S w.path [] c (plain_pairs e) (blank_edge f (in_edge w) [] e) (f (spot w (Some []) c))
       (edge_right f S (in_edge w) [] e h.1))
   blank_right f S w (map_here e) h =
       let x = edge_outer f w [] e in
-      map_blanked S w.path (key_parts (chosen f (edge_spots w [] e))) (plain_pairs e) (blank_edge f w [] e) h.0 x.outer
+      map_blanked S w.path (key_parts (filter f (edge_spots w [] e))) (plain_pairs e) (blank_edge f w [] e) h.0 x.outer
       (edge_right f S w [] e h.1)
   blank_right f S w (rest s) h = refl
 
@@ -290,6 +291,6 @@ abbrev pub RootApart : LaidRoot → Type 0
 RootApart (as_it_is c) = Unit {0}
 RootApart (laid d) = NamesApart d
 
-pub blanks : (f : Choice) (r : LaidRoot) → RootApart r → Blanked (plain_root r) (chosen f (spots_of r)) ≡ blank_root f r
+pub blanks : (f : Choice) (r : LaidRoot) → RootApart r → Blanked (plain_root r) (filter f (spots_of r)) ≡ blank_root f r
 blanks f (as_it_is c) apart = refl
-blanks f (laid d) apart = blank_right f (chosen f (spots at_root d)) at_root d (right-spots f at_root d apart)
+blanks f (laid d) apart = blank_right f (filter f (spots at_root d)) at_root d (right-spots f at_root d apart)

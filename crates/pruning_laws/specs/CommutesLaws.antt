@@ -1,4 +1,5 @@
 -- Pruning commutes with reading.
+use Rattle.std.specs.Prelude.{filter}
 use Rattle.std.proofs.Common.{◌≡◌, ◌⊎◌, ◌^◌, ◌<◌, List, sym, ap, subst, arith}
 use Rattle.cell_hash.specs.declared.ChildMark.{ChildMark}
 use Rattle.cell_nodes.specs.Constructed.{stub}
@@ -12,9 +13,9 @@ use Rattle.typed_value.specs.Paths.{Stride}
 use Rattle.typed_value.specs.Values.{Plain}
 use Rattle.pruning.specs.Blanked.{Blanked}
 use Rattle.pruning.specs.Cut.{cut_root}
-use Rattle.pruning.specs.Lies.{LaidRoot, plain_root, LiesAtRoot}
+use Rattle.pruning.specs.SpellsLaid.{LaidRoot, plain_root, IsLaidRoot}
 use Rattle.pruning.specs.Names.{NamesFieldsApart}
-use Rattle.pruning.specs.Spots.{unless_kept, unkept, chosen, spots_of}
+use Rattle.pruning.specs.Spots.{unless_kept, unkept, spots_of}
 use Rattle.pruning.specs.Thinned.{pruned_in, ReadsThinned}
 use Rattle.pruning_laws.specs.BlankedLaws.{blanks}
 use Rattle.pruning_laws.specs.CleanLaws.{IsClean}
@@ -25,7 +26,7 @@ use Rattle.pruning_laws.specs.RootLaws.{IsSmall, choice_shows}
 use Rattle.pruning_laws.specs.ThinLaws.{root_thins}
 
 at_root_commutes : (schema : CoreSchema) → NamesFieldsApart schema → (t : Closed) (c : Tree) (r : LaidRoot)
-    → IsClean c → IsSmall (plain_root r) → LiesAtRoot schema t c r → (paths : List (List Stride))
+    → IsClean c → IsSmall (plain_root r) → IsLaidRoot schema t c r → (paths : List (List Stride))
     → Commutes schema t c (cut_root (unless_kept paths) r c) (plain_root r)
     (Blanked (plain_root r) (unkept paths (spots_of r))) paths
 at_root_commutes schema names t c r clean small lies paths =
@@ -56,7 +57,7 @@ commutes schema names t c v sound level reading r same lies paths =
 pub thinned : PrunedTreeReads
 thinned schema names t c v sound level reading r same lies p prunes =
     let P : Plain → Type 0 = λ v.
-    (p ≡ stub c 0) ⊎ ReadsThinned schema t p (Blanked v (chosen (pruned_in p) (spots_of r))) in
+    (p ≡ stub c 0) ⊎ ReadsThinned schema t p (Blanked v (filter (pruned_in p) (spots_of r))) in
     let Q : Plain → Type 0 = IsSmall in
     let small : IsSmall v = record { deep = reading.deep; large = reading.large } in
     subst P same

@@ -1,4 +1,5 @@
 -- What is known of a path all of whose spots are kept.
+use Rattle.std.specs.Prelude.{not}
 use Rattle.std.proofs.Common.{◌≡◌, ℕ, zero, suc, ◌+◌, Bool, true, false, cond, ◌&&◌, ◌||◌, List, [], ◌∷◌, ◌++◌}
 use Rattle.std.proofs.Common.{length, Option, Some, None, slice_get, refl, sym, ap, ◌∙◌, subst, append_assoc, arith}
 use Rattle.std.specs.Prelude.{bytes_eq}
@@ -13,9 +14,9 @@ use Rattle.pruning.specs.declared.Knowledge.TheVariants.{Known, NotKnown}
 use Rattle.pruning.specs.Laid.{Laid, number, bit_string, record_of, absent, list_of, ref_to, ref_to_raw, no_map}
 use Rattle.pruning.specs.Laid.{map_under, map_here, rest, Laids, no_laids, a_laid, LaidEdge, a_leaf, a_fork, join}
 use Rattle.pruning.specs.Laid.{below, plain, plain_all, plain_pairs, trees}
-use Rattle.pruning.specs.Lies.{LaidRoot, as_it_is, laid, plain_root}
+use Rattle.pruning.specs.SpellsLaid.{LaidRoot, as_it_is, laid, plain_root}
 use Rattle.pruning.specs.Spots.{Spot, Where, at_root, stepped, past, in_edge, in_ref, spot, same_stride, leads}
-use Rattle.pruning.specs.Spots.{enters, needs, kept, not, unless_kept}
+use Rattle.pruning.specs.Spots.{enters, needs, kept, unless_kept}
 use Rattle.pruning.specs.Blanked.{hidden_of, some_begin}
 use Rattle.pruning.specs.Knowing.{is_hidden, hides, known_at, known, as_named}
 use Rattle.pruning.specs.Cut.{Choice, Parts, below_parts, hidden_part, map_with, fork_part, blank, blank_fields}

@@ -26,8 +26,8 @@ use Rattle.spelling.specs.declared.Cause.TheVariants.{Width}
 use Rattle.pruning.specs.Laid.{Laid, number, bit_string, record_of, absent, list_of, ref_to, ref_to_raw, no_map}
 use Rattle.pruning.specs.Laid.{map_under, map_here, rest, Laids, no_laids, a_laid, LaidEdge, a_leaf, a_fork, join}
 use Rattle.pruning.specs.Laid.{below, plain, plain_all, plain_pairs}
-use Rattle.pruning.specs.Lies.{EdgeCell, LiesShape, Lies, EachLies, EdgeLies, LaidRoot, as_it_is, laid as laid_root}
-use Rattle.pruning.specs.Lies.{plain_root, LiesAtRoot}
+use Rattle.pruning.specs.SpellsLaid.{EdgeCell, SpellsLaidShape, SpellsLaid, EachLaid, SpellsEdge, LaidRoot, as_it_is, laid as laid_root}
+use Rattle.pruning.specs.SpellsLaid.{plain_root, IsLaidRoot}
 
 -- ---- only the cell of a reference is taken as it is
 
@@ -93,12 +93,12 @@ is_value g o c e = let P : Result Shape Cause → Type 0 = OkValue in subst P e 
 -- ---- values
 
 abbrev Laying : CoreSchema → Plain → Shape → Slice → List ℕ → Slice → Type 0
-Laying schema v c s outs after = (d : Laid) × (plain d ≡ v) × LiesShape schema d c s outs after
+Laying schema v c s outs after = (d : Laid) × (plain d ≡ v) × SpellsLaidShape schema d c s outs after
 
 abbrev Able : CoreSchema → Plain → Type 0
 Able schema v =
     (g : Goal) → IsOpen g → (s : Slice) (outs : List ℕ) (after : Slice) → Spells Whole schema v g s outs after
-    → (d : Laid) × (plain d ≡ v) × Lies schema d g s outs after
+    → (d : Laid) × (plain d ≡ v) × SpellsLaid schema d g s outs after
 
 abbrev AllAble : CoreSchema → Plains → Type 0
 AllAble schema no_vals = Unit {0}
@@ -110,7 +110,7 @@ ByAble schema (a_pair k v ps) = Able schema v × ByAble schema ps
 
 repeat_laid : (schema : CoreSchema) (vs : Plains) → AllAble schema vs → (k : ℕ) (t : Closed) (s after : Slice)
     → Repeats (Each Whole schema vs) k t s after
-    → (ds : Laids) × (plain_all ds ≡ vs) × Repeats (EachLies schema ds) k t s after
+    → (ds : Laids) × (plain_all ds ≡ vs) × Repeats (EachLaid schema ds) k t s after
 repeat_laid schema no_vals able k t s after r = (no_laids, refl, r)
 repeat_laid schema (a_val v vs) able k t s after r =
     let d = able.0 (at_type t) tt s r.1 r.2 r.4 in
@@ -119,7 +119,7 @@ repeat_laid schema (a_val v vs) able k t s after r =
 
 fields_laid : (schema : CoreSchema) (is : Items) (vs : Plains) → AllAble schema vs → (scope : Scope) (s : Slice)
     (end : Scope) (after : Slice) → Fields is (Each Whole schema vs) scope s end after
-    → (ds : Laids) × (plain_all ds ≡ vs) × Fields is (EachLies schema ds) scope s end after
+    → (ds : Laids) × (plain_all ds ≡ vs) × Fields is (EachLaid schema ds) scope s end after
 fields_laid schema no_items no_vals able scope s end after f = (no_laids, refl, f)
 fields_laid schema no_items (a_val v vs) able scope s end after f = absurd f
 fields_laid schema (an_item (check a op b i) is) vs able scope s end after f =
@@ -147,7 +147,7 @@ same_first s a b c e t u = ap (first_of c) (sym t.refs ∙ u.refs)
 
 cell_laid : (schema : CoreSchema) (v : Plain) → Able schema v → (g : Goal) → IsOpen g → (c : Tree)
     → Holds Whole (Spells Whole schema v) g c
-    → (d : Laid) × (plain d ≡ v) × Holds Whole (Lies schema d) g c
+    → (d : Laid) × (plain d ≡ v) × Holds Whole (SpellsLaid schema d) g c
 cell_laid schema v able at_cell o c k = absurd o
 cell_laid schema v able (at_type t) o c k =
     let d = able (at_type t) tt k.0 k.1 nothing k.3 in (d.0, d.1, (k.0, k.1, k.2, d.2))
@@ -266,7 +266,7 @@ fork_laid schema p zs os ps able t A B left right h =
 mutual
   tree_laid : (schema : CoreSchema) (n : ℕ) (es : Entries) (s : Slice) → DictTree Whole n es s → (ps : PlainPairs)
       → ByAble schema ps → (t : Closed) → Contents (EachPair Whole schema ps) t (pairs_in es)
-      → EdgeOf schema ps es (λ e. EdgeLies schema e n t s nothing)
+      → EdgeOf schema ps es (λ e. SpellsEdge schema e n t s nothing)
   tree_laid schema n es s (one _ _ _ _ k c same len l r) ps able t h =
       let P : Entries → Type 0 = λ x. Contents (EachPair Whole schema ps) t (pairs_in x) in
       let v = one_content schema ps able t k c (subst P same h) in
@@ -278,15 +278,15 @@ mutual
       )
   tree_laid schema n es s (two _ _ _ _ p m zs os z o same len l r dz do_) ps able t h =
       let P : Entries → Type 0 = λ x. Contents (EachPair Whole schema ps) t (pairs_in x) in
-      let x = fork_laid schema p zs os ps able t (λ e. EdgeCell (EdgeLies schema e) m t z)
-          (λ e. EdgeCell (EdgeLies schema e) m t o)
+      let x = fork_laid schema p zs os ps able t (λ e. EdgeCell (SpellsEdge schema e) m t z)
+          (λ e. EdgeCell (SpellsEdge schema e) m t o)
       (λ xs able h. branch_laid schema m zs z dz xs able t h) (λ ys able h. branch_laid schema m os o do_ ys able t h)
       (subst P same h) in
       (a_fork p z x.0 o x.1, x.2, ap hidden_in same ∙ x.3, (m, len, l, r, x.4, x.5))
 
   branch_laid : (schema : CoreSchema) (m : ℕ) (es : Entries) (c : Tree) → Branch Whole m es c → (ps : PlainPairs)
       → ByAble schema ps → (t : Closed) → Contents (EachPair Whole schema ps) t (pairs_in es)
-      → EdgeOf schema ps es (λ e. EdgeCell (EdgeLies schema e) m t c)
+      → EdgeOf schema ps es (λ e. EdgeCell (SpellsEdge schema e) m t c)
   branch_laid schema m es c (open_edge _ _ _ _ s same d) ps able t h =
       let x = tree_laid schema m es s d ps able t h in
       (x.0, x.1, x.2, (s, same, x.3))
@@ -294,11 +294,11 @@ mutual
 
 first_laid : (schema : CoreSchema) (n : ℕ) (es : Entries) (s after : Slice) → Fork Whole n es s after
     → (ps : PlainPairs) → ByAble schema ps → (t : Closed) → Contents (EachPair Whole schema ps) t (pairs_in es)
-    → EdgeOf schema ps es (λ e. EdgeLies schema e n t s after)
+    → EdgeOf schema ps es (λ e. SpellsEdge schema e n t s after)
 first_laid schema n es s after (forked p m zs os z o same len l r dz do_) ps able t h =
     let P : Entries → Type 0 = λ x. Contents (EachPair Whole schema ps) t (pairs_in x) in
-    let x = fork_laid schema p zs os ps able t (λ e. EdgeCell (EdgeLies schema e) m t z)
-        (λ e. EdgeCell (EdgeLies schema e) m t o)
+    let x = fork_laid schema p zs os ps able t (λ e. EdgeCell (SpellsEdge schema e) m t z)
+        (λ e. EdgeCell (SpellsEdge schema e) m t o)
     (λ xs able h. branch_laid schema m zs z dz xs able t h) (λ ys able h. branch_laid schema m os o do_ ys able t h)
     (subst P same h) in
     (a_fork p z x.0 o x.1, x.2, ap hidden_in same ∙ x.3, (m, len, l, r, x.4, x.5))
@@ -391,18 +391,18 @@ value_is_laid schema v = closed_laid schema v (shape_laid schema v)
 
 held_laid : (schema : CoreSchema) (t : Closed) (c : Tree) (v : Plain)
     → Holds Whole (Spells Whole schema v) (under_ref t) c
-    → (r : LaidRoot) × (plain_root r ≡ v) × LiesAtRoot schema t c r
+    → (r : LaidRoot) × (plain_root r ≡ v) × IsLaidRoot schema t c r
 held_laid schema closed.whole c v k = (as_it_is c, sym (held_raw schema v c k), (refl, refl))
 held_laid schema t c v k =
     let d = cell_laid schema v (value_is_laid schema v) (at_type t) tt c k in
     (laid_root d.0, d.1, d.2)
 
 root_laid : (schema : CoreSchema) (t : Closed) (c : Tree) (v : Plain) → IsRootOf Whole schema t c v
-    → (r : LaidRoot) × (plain_root r ≡ v) × LiesAtRoot schema t c r
+    → (r : LaidRoot) × (plain_root r ≡ v) × IsLaidRoot schema t c r
 root_laid schema t c v (inl k) = held_laid schema t c v k
 root_laid schema t c (values.unknown h) (inr k) = absurd (let u = k.0 in cc)
 root_laid schema t c _ (inr k) = absurd k
 
 pub reading_is_laid : (schema : CoreSchema) (t : Closed) (c : Tree) (v : Plain) → Reading Whole schema t c v
-    → (r : LaidRoot) × (plain_root r ≡ v) × LiesAtRoot schema t c r
+    → (r : LaidRoot) × (plain_root r ≡ v) × IsLaidRoot schema t c r
 reading_is_laid schema t c v r = root_laid schema t c v r.root

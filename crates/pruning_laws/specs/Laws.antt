@@ -1,4 +1,5 @@
 -- What the laws say: facts about the definitions alone.
+use Rattle.std.specs.Prelude.{filter}
 use Rattle.std.specs.Prelude.{◌≡◌, ◌⊎◌, ℕ, List, Some, slice_get}
 use Rattle.cell_nodes.specs.Constructed.{stub}
 use Rattle.cell_nodes.specs.Good.{IsGood}
@@ -14,16 +15,16 @@ use Rattle.typed_value.specs.Values.{Plain}
 use Rattle.pruning.specs.Blanked.{Blanked}
 use Rattle.pruning.specs.Cut.{cut_root}
 use Rattle.pruning.specs.Knowing.{known, as_named}
-use Rattle.pruning.specs.Lies.{LaidRoot, plain_root, LiesAtRoot}
+use Rattle.pruning.specs.SpellsLaid.{LaidRoot, plain_root, IsLaidRoot}
 use Rattle.pruning.specs.Names.{NamesFieldsApart}
-use Rattle.pruning.specs.Spots.{unless_kept, unkept, chosen, spots_of}
+use Rattle.pruning.specs.Spots.{unless_kept, unkept, spots_of}
 use Rattle.pruning.specs.Thinned.{pruned_in, ReadsThinned}
 
 -- each reading in mode Whole lies so in its cells
 abbrev pub ReadingIsLaid : Type 0
 ReadingIsLaid =
     (schema : CoreSchema) (t : Closed) (c : Tree) (v : Plain) → Reading Whole schema t c v
-    → (r : LaidRoot) × (plain_root r ≡ v) × LiesAtRoot schema t c r
+    → (r : LaidRoot) × (plain_root r ≡ v) × IsLaidRoot schema t c r
 
 -- The tree p prunes c and keeps its hash and depth at level 0; it reads as the value w; and of each path it is known
 -- whether it leads to a value of v.
@@ -40,7 +41,7 @@ pub record Commutes (schema : CoreSchema) (t : Closed) (c p : Tree) (v w : Plain
 abbrev pub PruningCommutes : Type 0
 PruningCommutes =
     (schema : CoreSchema) → NamesFieldsApart schema → (t : Closed) (c : Tree) (v : Plain) → IsGood c → mask c ≡ 0
-    → Reading Whole schema t c v → (r : LaidRoot) → plain_root r ≡ v → LiesAtRoot schema t c r
+    → Reading Whole schema t c v → (r : LaidRoot) → plain_root r ≡ v → IsLaidRoot schema t c r
     → (paths : List (List Stride))
     → Commutes schema t c (cut_root (unless_kept paths) r c) v (Blanked v (unkept paths (spots_of r))) paths
 
@@ -49,6 +50,6 @@ PruningCommutes =
 abbrev pub PrunedTreeReads : Type 0
 PrunedTreeReads =
     (schema : CoreSchema) → NamesFieldsApart schema → (t : Closed) (c : Tree) (v : Plain) → IsGood c → mask c ≡ 0
-    → Reading Whole schema t c v → (r : LaidRoot) → plain_root r ≡ v → LiesAtRoot schema t c r → (p : Tree)
+    → Reading Whole schema t c v → (r : LaidRoot) → plain_root r ≡ v → IsLaidRoot schema t c r → (p : Tree)
     → Prunes c p 0
-    → (p ≡ stub c 0) ⊎ ReadsThinned schema t p (Blanked v (chosen (pruned_in p) (spots_of r)))
+    → (p ≡ stub c 0) ⊎ ReadsThinned schema t p (Blanked v (filter (pruned_in p) (spots_of r)))

@@ -2,7 +2,7 @@ pub mod BlankedLaws
 pub mod ChoiceLaws
 pub mod CleanLaws
 pub mod CommutesLaws
-pub mod FirmLaws
+pub mod FilledLaws
 pub mod KeyLaws
 pub mod KnownLaws
 pub mod LaidLaws

@@ -19,7 +19,7 @@ use Rattle.spelling.specs.declared.Cause.{Cause}
 use Rattle.spelling.specs.declared.Cause.TheVariants.{Width}
 use Rattle.pruning.specs.Laid.{Laid, number, bit_string, record_of, absent, list_of, ref_to, ref_to_raw, no_map}
 use Rattle.pruning.specs.Laid.{map_under, map_here, rest, Laids, no_laids, a_laid, LaidEdge, a_leaf, a_fork}
-use Rattle.pruning.specs.Lies.{LiesShape, Lies, EachLies, EdgeLies, LaidRoot, as_it_is, laid as laid_root, LiesAtRoot}
+use Rattle.pruning.specs.SpellsLaid.{SpellsLaidShape, SpellsLaid, EachLaid, SpellsEdge, LaidRoot, as_it_is, laid as laid_root, IsLaidRoot}
 use Rattle.pruning.specs.Names.{AreApart, AreApartIn, NamesFieldsApart}
 use Rattle.pruning_laws.specs.PlaceLaws.{NamesApart, FieldsApart, ItemsApart, EdgeApart}
 use Rattle.pruning_laws.specs.BlankedLaws.{RootApart}
@@ -90,7 +90,7 @@ apart_under _ = tt
 
 abbrev Able : CoreSchema → Laid → Type 0
 Able schema d =
-    (c : Shape) (s : Slice) (outs : List ℕ) (after : Slice) → ShapeApart c → LiesShape schema d c s outs after
+    (c : Shape) (s : Slice) (outs : List ℕ) (after : Slice) → ShapeApart c → SpellsLaidShape schema d c s outs after
     → NamesApart d
 
 abbrev AllAble : CoreSchema → Laids → Type 0
@@ -98,19 +98,19 @@ AllAble schema no_laids = Unit {0}
 AllAble schema (a_laid d ds) = Able schema d × AllAble schema ds
 
 at_goal : (schema : CoreSchema) (d : Laid) → Able schema d → (g : Goal) (s : Slice) (outs : List ℕ) (after : Slice)
-    → GoalApart g → Lies schema d g s outs after → NamesApart d
+    → GoalApart g → SpellsLaid schema d g s outs after → NamesApart d
 at_goal schema d able g s outs after h e =
     let P : Result Shape Cause → Type 0 = OkApart in
     able e.0 s outs after (subst P e.1 (apart_shape g h)) e.2
 
 repeat_apart : (schema : CoreSchema) (ds : Laids) → AllAble schema ds → (k : ℕ) (t : Closed) (s after : Slice)
-    → Repeats (EachLies schema ds) k t s after → ItemsApart ds
+    → Repeats (EachLaid schema ds) k t s after → ItemsApart ds
 repeat_apart schema no_laids able k t s after r = tt
 repeat_apart schema (a_laid d ds) able k t s after r =
     (at_goal schema d able.0 (at_type t) s r.1 r.2 tt r.4, repeat_apart schema ds able.1 r.0 t r.2 after r.6)
 
 fields_apart : (schema : CoreSchema) (is : Items) (ds : Laids) → AllAble schema ds → (scope : Scope) (s : Slice)
-    (end : Scope) (after : Slice) → AreApart is → Fields is (EachLies schema ds) scope s end after
+    (end : Scope) (after : Slice) → AreApart is → Fields is (EachLaid schema ds) scope s end after
     → FieldsApart (field_names is) ds
 fields_apart schema no_items no_laids able scope s end after h f = tt
 fields_apart schema no_items (a_laid d ds) able scope s end after h f = absurd f
@@ -126,7 +126,7 @@ fields_apart schema (an_item (field y slot c t) is) (a_laid d ds) able scope s e
 )
 
 cell_apart : (schema : CoreSchema) (d : Laid) → Able schema d → (g : Goal) → GoalApart g → (c : Tree)
-    → Holds Whole (Lies schema d) g c → NamesApart d
+    → Holds Whole (SpellsLaid schema d) g c → NamesApart d
 cell_apart schema d able at_cell h c k = at_goal schema d able at_cell (only_ref c) k.0 nothing h k.2
 cell_apart schema d able (at_type t) h c k = at_goal schema d able (at_type t) k.0 k.1 nothing h k.3
 cell_apart schema d able (at_field e t scope) h c k = at_goal schema d able (at_field e t scope) k.0 k.1 nothing h k.3
@@ -169,7 +169,7 @@ mutual
   all_apart schema names (a_laid d ds) = (shape_apart schema names d, all_apart schema names ds)
 
   edge_apart : (schema : CoreSchema) → NamesFieldsApart schema → (e : LaidEdge) (n : ℕ) (t : Closed) (s after : Slice)
-      → EdgeLies schema e n t s after → EdgeApart e
+      → SpellsEdge schema e n t s after → EdgeApart e
   edge_apart schema names (a_leaf l d) n t s after k =
       at_goal schema d (shape_apart schema names d) (at_type t) k.0 k.1 after tt k.3
   edge_apart schema names (a_fork l z a o b) n t s after k = (
@@ -178,7 +178,7 @@ mutual
   )
 
 pub root_apart : (schema : CoreSchema) → NamesFieldsApart schema → (t : Closed) (c : Tree) (r : LaidRoot)
-    → LiesAtRoot schema t c r → RootApart r
+    → IsLaidRoot schema t c r → RootApart r
 root_apart schema names t c (as_it_is x) lies = tt
 root_apart schema names t c (laid_root d) lies =
     cell_apart schema d (shape_apart schema names d) (under_ref t) (apart_under t) c lies

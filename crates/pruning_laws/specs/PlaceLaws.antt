@@ -1,4 +1,5 @@
 -- Each spot of a laid value has a place of its own: a list of spots has at a place what was chosen there.
+use Rattle.std.specs.Prelude.{filter}
 use Rattle.std.proofs.Common.{◌≡◌, ◌⊎◌, inl, inr, ℕ, suc, ◌<◌, ◌≤◌, Bool, true, false, cond, ◌&&◌, nat_eq, List, []}
 use Rattle.std.proofs.Common.{◌∷◌, ◌++◌, length, Option, Some, None, refl, sym, ap, ◌∙◌, subst, append_assoc}
 use Rattle.std.proofs.Common.{length-append, arith}
@@ -11,7 +12,7 @@ use Rattle.pruning.specs.Laid.{Laid, number, bit_string, record_of, absent, list
 use Rattle.pruning.specs.Laid.{map_under, map_here, rest, Laids, no_laids, a_laid, LaidEdge, a_leaf, a_fork, trees}
 use Rattle.pruning.specs.Names.{NotAmong}
 use Rattle.pruning.specs.Spots.{Spot, Where, stepped, past, in_edge, in_ref, spot, first_name, other_names, spots}
-use Rattle.pruning.specs.Spots.{spots_fields, spots_items, edge_spots, value_spots, same_stride, chosen}
+use Rattle.pruning.specs.Spots.{spots_fields, spots_items, edge_spots, value_spots, same_stride}
 use Rattle.pruning.specs.Blanked.{KeyPart, same_path, is_ref_at, ref_at, with_prefix, edges_at}
 use Rattle.pruning.specs.Cut.{Choice}
 
@@ -68,20 +69,20 @@ all-map : (P Q : Spot → Type 0) → ((x : Spot) → P x → Q x) → (xs : Lis
 all-map P Q f [] a = tt
 all-map P Q f (x ∷ xs) a = (f x a.0, all-map P Q f xs a.1)
 
-all-chosen : (f : Choice) (P : Spot → Type 0) (xs : List Spot) → All P xs → All P (chosen f xs)
+all-chosen : (f : Choice) (P : Spot → Type 0) (xs : List Spot) → All P xs → All P (filter f xs)
 all-chosen f P [] a = tt
 all-chosen f P (x ∷ xs) a = go (f x) (all-chosen f P xs a.1)
   where
-    go : (b : Bool) → All P (chosen f xs) → All P (cond b (x ∷ chosen f xs) (chosen f xs))
+    go : (b : Bool) → All P (filter f xs) → All P (cond b (x ∷ filter f xs) (filter f xs))
     go true h = (a.0, h)
     go false h = h
 
-pub chosen-append : (f : Choice) (xs ys : List Spot) → chosen f (xs ++ ys) ≡ chosen f xs ++ chosen f ys
+pub chosen-append : (f : Choice) (xs ys : List Spot) → filter f (xs ++ ys) ≡ filter f xs ++ filter f ys
 chosen-append f [] ys = refl
 chosen-append f (x ∷ xs) ys = go (f x) (chosen-append f xs ys)
   where
-    go : (b : Bool) → chosen f (xs ++ ys) ≡ chosen f xs ++ chosen f ys
-        → cond b (x ∷ chosen f (xs ++ ys)) (chosen f (xs ++ ys)) ≡ cond b (x ∷ chosen f xs) (chosen f xs) ++ chosen f ys
+    go : (b : Bool) → filter f (xs ++ ys) ≡ filter f xs ++ filter f ys
+        → cond b (x ∷ filter f (xs ++ ys)) (filter f (xs ++ ys)) ≡ cond b (x ∷ filter f xs) (filter f xs) ++ filter f ys
     go true h = ap (λ (l : List Spot). x ∷ l) h
     go false h = h
 
@@ -421,10 +422,10 @@ abbrev mutual
   RightAt f S w (ref_to_raw c) = ref_at w.path w.around S ≡ cond (f (spot w None c)) (Some c) None
   RightAt f S w no_map = edges_at w.path S ≡ []
   RightAt f S w (map_under c e) =
-      (edges_at w.path S ≡ key_parts (chosen f (spot w (Some []) c ∷ edge_spots (in_edge w) [] e)))
+      (edges_at w.path S ≡ key_parts (filter f (spot w (Some []) c ∷ edge_spots (in_edge w) [] e)))
       × RightEdge f S (in_edge w) [] e
   RightAt f S w (map_here e) =
-      (edges_at w.path S ≡ key_parts (chosen f (edge_spots w [] e))) × RightEdge f S w [] e
+      (edges_at w.path S ≡ key_parts (filter f (edge_spots w [] e))) × RightEdge f S w [] e
   RightAt f S w (rest s) = Unit {0}
 
   pub RightFields : Choice → List Spot → Where → List (List ℕ) → Laids → Type 0
@@ -593,15 +594,15 @@ values-none m q (x ∷ xs) h =
 -- a map with its edges, and what is below its keys
 map-right : (f : Choice) (w v : Where) (es : List Spot) (e : LaidEdge) → v.path ≡ w.path
     → All (AtEdges w.path w.around []) es → All (InValues w.path []) (value_spots v [] e)
-    → RightEdge f (chosen f (value_spots v [] e)) v [] e
-    → (edges_at w.path (chosen f (es ++ value_spots v [] e)) ≡ key_parts (chosen f es))
-    × RightEdge f (chosen f (es ++ value_spots v [] e)) v [] e
+    → RightEdge f (filter f (value_spots v [] e)) v [] e
+    → (edges_at w.path (filter f (es ++ value_spots v [] e)) ≡ key_parts (filter f es))
+    × RightEdge f (filter f (es ++ value_spots v [] e)) v [] e
 map-right f w v es e same edges values right =
-    let A = chosen f es in
-    let B = chosen f (value_spots v [] e) in
-    let both : chosen f (es ++ value_spots v [] e) ≡ A ++ B = chosen-append f es (value_spots v [] e) in
+    let A = filter f es in
+    let B = filter f (value_spots v [] e) in
+    let both : filter f (es ++ value_spots v [] e) ≡ A ++ B = chosen-append f es (value_spots v [] e) in
     let P : List Spot → Type 0 = λ S.
-    (edges_at w.path S ≡ key_parts (chosen f es)) × RightEdge f S v [] e in
+    (edges_at w.path S ≡ key_parts (filter f es)) × RightEdge f S v [] e in
     let ea = all-chosen f (AtEdges w.path w.around []) es edges in
     let vb = all-chosen f (InValues w.path []) (value_spots v [] e) values in
     subst P (sym both) (
@@ -613,7 +614,7 @@ map-right f w v es e same edges values right =
     )
 
 mutual
-  pub right-spots : (f : Choice) (w : Where) (d : Laid) → NamesApart d → RightAt f (chosen f (spots w d)) w d
+  pub right-spots : (f : Choice) (w : Where) (d : Laid) → NamesApart d → RightAt f (filter f (spots w d)) w d
   right-spots f w (number negative size) apart = tt
   right-spots f w (bit_string bits) apart = tt
   right-spots f w (record_of name names ds) apart = right-fields f w names ds apart
@@ -624,7 +625,7 @@ mutual
       (all-chosen f (IsBelow w.path (suc w.around)) (spots (in_ref w) d) (below-spots (in_ref w) d apart))
     where
       T : List Spot
-      T = chosen f (spots (in_ref w) d)
+      T = filter f (spots (in_ref w) d)
 
       self : is_ref_at w.path w.around (spot w None c) None ≡ true
       self = λ i. path-self w.path i && eq-eqb w.around w.around refl i
@@ -655,19 +656,19 @@ mutual
               ap (λ (b : Bool). b && nat_eq x.around w.around)
               (path-other x.path w.path (λ e. longer w.path h.0 h.1 (sym e ∙ h.2)))
 
-      go : (b : Bool) → RightAt f (chosen f (spots (in_ref w) d)) (in_ref w) d
-          → All (IsBelow w.path (suc w.around)) (chosen f (spots (in_ref w) d))
-          → (ref_at w.path w.around (cond b (spot w None c ∷ chosen f (spots (in_ref w) d))
-              (chosen f (spots (in_ref w) d))) ≡ cond b (Some c) None)
-          × RightAt f (cond b (spot w None c ∷ chosen f (spots (in_ref w) d)) (chosen f (spots (in_ref w) d)))
+      go : (b : Bool) → RightAt f (filter f (spots (in_ref w) d)) (in_ref w) d
+          → All (IsBelow w.path (suc w.around)) (filter f (spots (in_ref w) d))
+          → (ref_at w.path w.around (cond b (spot w None c ∷ filter f (spots (in_ref w) d))
+              (filter f (spots (in_ref w) d))) ≡ cond b (Some c) None)
+          × RightAt f (cond b (spot w None c ∷ filter f (spots (in_ref w) d)) (filter f (spots (in_ref w) d)))
               (in_ref w) d
       go true r h = (
-        ap (λ (t : Bool). cond t (Some c) (ref_at w.path w.around (chosen f (spots (in_ref w) d)))) self,
-        right-same f (chosen f (spots (in_ref w) d)) (spot w None c ∷ chosen f (spots (in_ref w) d)) (in_ref w) d
-            (agree-before w.path (suc w.around) (spot w None c ∷ []) (chosen f (spots (in_ref w) d))
+        ap (λ (t : Bool). cond t (Some c) (ref_at w.path w.around (filter f (spots (in_ref w) d)))) self,
+        right-same f (filter f (spots (in_ref w) d)) (spot w None c ∷ filter f (spots (in_ref w) d)) (in_ref w) d
+            (agree-before w.path (suc w.around) (spot w None c ∷ []) (filter f (spots (in_ref w) d))
                 (ref-foreign w c, tt)) r,
       )
-      go false r h = (absent-here (chosen f (spots (in_ref w) d)) h, r)
+      go false r h = (absent-here (filter f (spots (in_ref w) d)) h, r)
   right-spots f w (ref_to_raw c) apart = go (f (spot w None c))
     where
       go : (b : Bool) → ref_at w.path w.around (cond b (spot w None c ∷ []) []) ≡ cond b (Some c) None
@@ -686,15 +687,15 @@ mutual
   right-spots f w (rest s) apart = tt
 
   right-fields : (f : Choice) (w : Where) (names : List (List ℕ)) (ds : Laids) → FieldsApart names ds
-      → RightFields f (chosen f (spots_fields w names ds)) w names ds
+      → RightFields f (filter f (spots_fields w names ds)) w names ds
   right-fields f w names no_laids apart = tt
   right-fields f w [] (a_laid d ds) apart = absurd apart
   right-fields f w (y ∷ names) (a_laid d ds) apart =
       let u = stepped w (named y) in
       let v = past w (length (trees d)) in
-      let A = chosen f (spots (stepped w (named y)) d) in
-      let B = chosen f (spots_fields (past w (length (trees d))) names ds) in
-      let both : chosen f (spots (stepped w (named y)) d ++ spots_fields (past w (length (trees d))) names ds) ≡ A ++
+      let A = filter f (spots (stepped w (named y)) d) in
+      let B = filter f (spots_fields (past w (length (trees d))) names ds) in
+      let both : filter f (spots (stepped w (named y)) d ++ spots_fields (past w (length (trees d))) names ds) ≡ A ++
           B =
       chosen-append f (spots (stepped w (named y)) d) (spots_fields (past w (length (trees d))) names ds) in
       let P : List Spot → Type 0 = λ S. RightAt f S (stepped w (named y)) d × RightFields f S
@@ -713,12 +714,12 @@ mutual
       )
 
   right-items : (f : Choice) (w : Where) (i : ℕ) (ds : Laids) → ItemsApart ds
-      → RightItems f (chosen f (spots_items w i ds)) w i ds
+      → RightItems f (filter f (spots_items w i ds)) w i ds
   right-items f w i no_laids apart = tt
   right-items f w i (a_laid d ds) apart =
-      let A = chosen f (spots (stepped w (item i)) d) in
-      let B = chosen f (spots_items (past w (length (trees d))) (suc i) ds) in
-      let both : chosen f (spots (stepped w (item i)) d ++ spots_items (past w (length (trees d))) (suc i) ds) ≡ A ++
+      let A = filter f (spots (stepped w (item i)) d) in
+      let B = filter f (spots_items (past w (length (trees d))) (suc i) ds) in
+      let both : filter f (spots (stepped w (item i)) d ++ spots_items (past w (length (trees d))) (suc i) ds) ≡ A ++
           B =
       chosen-append f (spots (stepped w (item i)) d) (spots_items (past w (length (trees d))) (suc i) ds) in
       let P : List Spot → Type 0 = λ S. RightAt f S (stepped w (item i)) d × RightItems f S
@@ -743,14 +744,14 @@ mutual
       )
 
   right-edge : (f : Choice) (w : Where) (q : List ℕ) (e : LaidEdge) → EdgeApart e
-      → RightEdge f (chosen f (value_spots w q e)) w q e
+      → RightEdge f (filter f (value_spots w q e)) w q e
   right-edge f w q (a_leaf l d) apart = right-spots f (stepped w (keyed (q ++ l))) d apart
   right-edge f w q (a_fork l z x o y) apart =
       let p = q ++ (l ++ 0 ∷ []) in
       let r = q ++ (l ++ 1 ∷ []) in
-      let A = chosen f (value_spots (in_edge w) (q ++ (l ++ 0 ∷ [])) x) in
-      let B = chosen f (value_spots (in_edge (past w 1)) (q ++ (l ++ 1 ∷ [])) y) in
-      let both : chosen f (value_spots (in_edge w) (q ++ (l ++ 0 ∷ [])) x ++ value_spots (in_edge (past w 1))
+      let A = filter f (value_spots (in_edge w) (q ++ (l ++ 0 ∷ [])) x) in
+      let B = filter f (value_spots (in_edge (past w 1)) (q ++ (l ++ 1 ∷ [])) y) in
+      let both : filter f (value_spots (in_edge w) (q ++ (l ++ 0 ∷ [])) x ++ value_spots (in_edge (past w 1))
           (q ++ (l ++ 1 ∷ [])) y) ≡ A ++ B =
       chosen-append f (value_spots (in_edge w) (q ++ (l ++ 0 ∷ [])) x)
           (value_spots (in_edge (past w 1)) (q ++ (l ++ 1 ∷ [])) y) in

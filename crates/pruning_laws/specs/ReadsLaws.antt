@@ -28,7 +28,7 @@ use Rattle.spelling.specs.Spells.{Holds, Contents, EntriesHold, no_entries, some
 use Rattle.pruning.specs.Laid.{Laid, number, bit_string, record_of, absent, list_of, ref_to, ref_to_raw, no_map}
 use Rattle.pruning.specs.Laid.{map_under, map_here, rest, Laids, no_laids, a_laid, LaidEdge, a_leaf, a_fork, join}
 use Rattle.pruning.specs.Laid.{below}
-use Rattle.pruning.specs.Lies.{BeginsWith, EdgeCell, LiesShape, Lies, EachLies, EdgeLies}
+use Rattle.pruning.specs.SpellsLaid.{BeginsWith, EdgeCell, SpellsLaidShape, SpellsLaid, EachLaid, SpellsEdge}
 use Rattle.pruning.specs.Blanked.{KeyPart, hidden_of}
 use Rattle.pruning.specs.Cut.{cell_with, Parts, below_parts, fork_part, map_with, ForRest, ForRaw, CutsCell, Cuts}
 use Rattle.pruning.specs.Cut.{CutsAll, CutsEdge}
@@ -73,14 +73,14 @@ Going schema g ps w s outs after =
 abbrev pub Reads : CoreSchema → ForRest → ForRaw → Laid → Type 0
 Reads schema K R d =
     (c : Shape) (s : Slice) (outs : List ℕ) (after : Slice) (ps : List Tree) (w : Plain) → AllClean s.refs
-    → LiesShape schema d c s outs after → Cuts K R d ps w → GoingShape schema c ps w s outs after
+    → SpellsLaidShape schema d c s outs after → Cuts K R d ps w → GoingShape schema c ps w s outs after
 
 abbrev pub AllRead : CoreSchema → ForRest → ForRaw → Laids → Type 0
 AllRead schema K R no_laids = Unit {0}
 AllRead schema K R (a_laid d ds) = Reads schema K R d × AllRead schema K R ds
 
 at_goal : (schema : CoreSchema) (K : ForRest) (R : ForRaw) (d : Laid) → Reads schema K R d → (g : Goal) (s : Slice)
-    (outs : List ℕ) (after : Slice) (ps : List Tree) (w : Plain) → AllClean s.refs → Lies schema d g s outs after
+    (outs : List ℕ) (after : Slice) (ps : List Tree) (w : Plain) → AllClean s.refs → SpellsLaid schema d g s outs after
     → Cuts K R d ps w → Going schema g ps w s outs after
 at_goal schema K R d reads g s outs after ps w clean e cuts =
     let x = reads e.0 s outs after ps w clean e.2 cuts in
@@ -185,7 +185,7 @@ one_more_go M N V ps qs rs u ws us s middle after e f x y holds =
 
 repeat_reads : (schema : CoreSchema) (K : ForRest) (R : ForRaw) (ds : Laids) → AllRead schema K R ds → (k : ℕ)
     (t : Closed) (s after : Slice) (ps : List Tree) (ws : Plains) → AllClean s.refs
-    → Repeats (EachLies schema ds) k t s after → CutsAll K R ds ps ws
+    → Repeats (EachLaid schema ds) k t s after → CutsAll K R ds ps ws
     → AllGoing (λ ws a b. Repeats (Each Partial schema ws) k t a b) ps ws s after
 repeat_reads schema K R no_laids reads k t s after ps ws clean r c =
     no_more_go (λ ws a b. Repeats (Each Partial schema ws) k t a b) ps ws s after c.0 c.1 r.1 (λ a b e. (r.0, e))
@@ -199,7 +199,7 @@ repeat_reads schema K R (a_laid d ds) reads k t s after ps ws clean r c =
 
 fields_read : (schema : CoreSchema) (K : ForRest) (R : ForRaw) (is : Items) (ds : Laids) → AllRead schema K R ds
     → (scope : Scope) (s : Slice) (end : Scope) (after : Slice) (ps : List Tree) (ws : Plains) → AllClean s.refs
-    → Fields is (EachLies schema ds) scope s end after → CutsAll K R ds ps ws
+    → Fields is (EachLaid schema ds) scope s end after → CutsAll K R ds ps ws
     → AllGoing (λ ws a b. Fields is (Each Partial schema ws) scope a end b) ps ws s after
 fields_read schema K R no_items no_laids reads scope s end after ps ws clean f c =
     no_more_go (λ ws a b. Fields no_items (Each Partial schema ws) scope a end b) ps ws s after c.0 c.1 f.1
@@ -263,7 +263,7 @@ pub record Held (schema : CoreSchema) (g : Goal) (c : Tree) (qs : List Tree) (u 
   pub holds : Holds Partial (Spells Partial schema u) g (cell_with c qs)
 
 pub no_cell : (schema : CoreSchema) (d : Laid) (s : Slice) (outs : List ℕ) (after : Slice)
-    → LiesShape schema d as_cell s outs after → ⊥
+    → SpellsLaidShape schema d as_cell s outs after → ⊥
 no_cell schema (number negative size) s outs after e = e
 no_cell schema (bit_string bits) s outs after e = e
 no_cell schema (record_of (Some name) names ds) s outs after e = e
@@ -281,10 +281,10 @@ pub ok_cell : (c : Shape) → shape_of at_cell ≡ Ok c → as_cell ≡ c
 ok_cell c h = cc
 
 pub holds_go : (schema : CoreSchema) (K : ForRest) (R : ForRaw) (d : Laid) → Reads schema K R d → (g : Goal) (c : Tree)
-    → IsClean c → Holds Whole (Lies schema d) g c → (qs : List Tree) (u : Plain) → Cuts K R d qs u
+    → IsClean c → Holds Whole (SpellsLaid schema d) g c → (qs : List Tree) (u : Plain) → Cuts K R d qs u
     → Held schema g c qs u
 holds_go schema K R d reads at_cell c clean k qs u cuts =
-    let P : Shape → Type 0 = λ x. LiesShape schema d x (only_ref c) k.0 nothing in
+    let P : Shape → Type 0 = λ x. SpellsLaidShape schema d x (only_ref c) k.0 nothing in
     absurd (no_cell schema d (only_ref c) k.0 nothing (subst P (sym (ok_cell k.2.0 k.2.1)) k.2.2))
 holds_go schema K R d reads (at_type t) c clean k qs u cuts =
     let x = at_goal schema K R d reads (at_type t) k.0 k.1 nothing qs u (clean-cell c k.0 k.2 clean) k.3 cuts in
@@ -342,7 +342,7 @@ IsRefTo c g =
 
 ref_reads : (schema : CoreSchema) (K : ForRest) (R : ForRaw) (e : Tree) (d : Laid) → Reads schema K R d → (c : Shape)
     (g : Goal) → IsRefTo c g → (s : Slice) (outs : List ℕ) (after : Slice) (ps : List Tree) (w : Plain)
-    → AllClean s.refs → (f : Tree) → outs ≡ [] → Then s (only_ref f) after → Holds Whole (Lies schema d) g f
+    → AllClean s.refs → (f : Tree) → outs ≡ [] → Then s (only_ref f) after → Holds Whole (SpellsLaid schema d) g f
     → BeginsWith e s → Cuts K R (ref_to e d) ps w → GoingShape schema c ps w s outs after
 ref_reads schema K R e d reads c g is s outs after ps w clean f o t k b cuts = go e (same_first s after f e t b) cuts
   where
@@ -359,7 +359,7 @@ ref_reads schema K R e d reads c g is s outs after ps w clean f o t k b cuts = g
         (is_hidden e 0 no_level) (λ a b u. is.0 (hidden_of e) a outs b (stub e 0) o u (stub-hides e good.good) schema)))
     go e same (inr h) =
         let T : Tree → Type 0 = λ x. Then s (only_ref x) after in
-        let H : Tree → Type 0 = λ x. Holds Whole (Lies schema d) g x in
+        let H : Tree → Type 0 = λ x. Holds Whole (SpellsLaid schema d) g x in
         let there = subst T same t in
         let good = clean-first s after e there clean in
         let x = holds_go schema K R d reads g e good (subst H same k) h.0 h.1 h.4 in
@@ -452,11 +452,11 @@ pub record TreeGoes (schema : CoreSchema) (m : ℕ) (t : Closed) (s : Slice) (ps
 
 abbrev pub TreeReads : CoreSchema → ForRest → ForRaw → LaidEdge → Type 0
 TreeReads schema K R e =
-    (m : ℕ) (t : Closed) (s : Slice) (ps : List Tree) (x : Parts) → AllClean s.refs → EdgeLies schema e m t s nothing
+    (m : ℕ) (t : Closed) (s : Slice) (ps : List Tree) (x : Parts) → AllClean s.refs → SpellsEdge schema e m t s nothing
     → CutsEdge K R e ps x → TreeGoes schema m t s ps x
 
 branch_reads : (schema : CoreSchema) (K : ForRest) (R : ForRaw) (e : LaidEdge) → TreeReads schema K R e → (m : ℕ)
-    (t : Closed) (c p : Tree) (x : Parts) → IsClean c → EdgeCell (EdgeLies schema e) m t c
+    (t : Closed) (c p : Tree) (x : Parts) → IsClean c → EdgeCell (SpellsEdge schema e) m t c
     → CutsCell (CutsEdge K R e) c p x → BranchGoes schema m t c p x
 branch_reads schema K R e tree m t c p x clean k (inl h) =
     let P : Tree → Type 0 = λ p. BranchGoes schema m t c p x in
@@ -514,7 +514,7 @@ pub record ForkGoes (schema : CoreSchema) (n : ℕ) (t : Closed) (l : List ℕ) 
 
 fork_reads : (schema : CoreSchema) (K : ForRest) (R : ForRaw) (l : List ℕ) (z : Tree) (a : LaidEdge) (o : Tree)
     (b : LaidEdge) → TreeReads schema K R a → TreeReads schema K R b → (n : ℕ) (t : Closed) (s after : Slice)
-    (ps : List Tree) (x : Parts) → AllClean s.refs → EdgeLies schema (a_fork l z a o b) n t s after
+    (ps : List Tree) (x : Parts) → AllClean s.refs → SpellsEdge schema (a_fork l z a o b) n t s after
     → CutsEdge K R (a_fork l z a o b) ps x → ForkGoes schema n t l z o s after ps x
 fork_reads schema K R l z a o b left right n t s after ps x clean k c =
     let P : List Tree → Type 0 = AllClean in
@@ -557,7 +557,7 @@ HereGoes schema n t ps w s outs after = GoingShape schema (typed (closed.dict n 
 
 leaf_here : (schema : CoreSchema) (K : ForRest) (R : ForRaw) (l : List ℕ) (d : Laid) → Reads schema K R d → (n : ℕ)
     (t : Closed) (s : Slice) (outs : List ℕ) (after : Slice) (ps : List Tree) (x : Parts) → AllClean s.refs → outs ≡ []
-    → EdgeLies schema (a_leaf l d) n t s after → CutsEdge K R (a_leaf l d) ps x
+    → SpellsEdge schema (a_leaf l d) n t s after → CutsEdge K R (a_leaf l d) ps x
     → HereGoes schema n t ps (map_with x) s outs after
 leaf_here schema K R l d reads n t s outs after ps x clean o k c =
     let P : List Tree → Type 0 = AllClean in
@@ -577,7 +577,7 @@ leaf_here schema K R l d reads n t s outs after ps x clean o k c =
 fork_here : (schema : CoreSchema) (K : ForRest) (R : ForRaw) (l : List ℕ) (z : Tree) (a : LaidEdge) (o : Tree)
     (b : LaidEdge) → TreeReads schema K R a → TreeReads schema K R b → (n : ℕ) (t : Closed) (s : Slice)
     (outs : List ℕ) (after : Slice) (ps : List Tree) (x : Parts) → AllClean s.refs → outs ≡ []
-    → EdgeLies schema (a_fork l z a o b) n t s after → CutsEdge K R (a_fork l z a o b) ps x
+    → SpellsEdge schema (a_fork l z a o b) n t s after → CutsEdge K R (a_fork l z a o b) ps x
     → HereGoes schema n t ps (map_with x) s outs after
 fork_here schema K R l z a o b left right n t s outs after ps x clean oo k c =
     let y = fork_reads schema K R l z a o b left right n t s after ps x clean k c in
@@ -599,7 +599,7 @@ fork_here schema K R l z a o b left right n t s outs after ps x clean oo k c =
 
 under_reads : (schema : CoreSchema) (K : ForRest) (R : ForRaw) (c : Tree) (e : LaidEdge) → TreeReads schema K R e
     → (n : ℕ) (t : Closed) (s : Slice) (outs : List ℕ) (after : Slice) (ps : List Tree) (w : Plain) → AllClean s.refs
-    → outs ≡ [] → Then s (record { bits = 1 ∷ []; refs = c ∷ [] }) after → EdgeCell (EdgeLies schema e) n t c
+    → outs ≡ [] → Then s (record { bits = 1 ∷ []; refs = c ∷ [] }) after → EdgeCell (SpellsEdge schema e) n t c
     → Cuts K R (map_under c e) ps w → GoingShape schema (typed (closed.dict_e n t)) ps w s outs after
 under_reads schema K R c e tree n t s outs after ps w clean o b k h =
     let P : List Tree → Type 0 = AllClean in
@@ -651,7 +651,7 @@ rest_reads schema K R trust r s outs after ps clean o same end k =
 record_reads : (schema : CoreSchema) (K : ForRest) (R : ForRaw) (name : List ℕ) (names : List (List ℕ)) (ds : Laids)
     → AllRead schema K R ds → (x : List ℕ) (args : ClosedArgs) (s : Slice) (outs : List ℕ)
     (after : Slice) (ps : List Tree) (ws : Plains) → AllClean s.refs
-    → LiesShape schema (record_of (Some name) names ds) (typed (closed.named x args)) s outs after
+    → SpellsLaidShape schema (record_of (Some name) names ds) (typed (closed.named x args)) s outs after
     → CutsAll K R ds ps ws
     → GoingShape schema (typed (closed.named x args)) ps (values.record_of (Some name) names ws) s outs after
 record_reads schema K R name names ds reads x args s outs after ps ws clean e c =
@@ -678,7 +678,7 @@ record_reads schema K R name names ds reads x args s outs after ps ws clean e c 
 inner_reads : (schema : CoreSchema) (K : ForRest) (R : ForRaw) (names : List (List ℕ)) (ds : Laids)
     → AllRead schema K R ds → (is : Items) (scope : Scope) (s : Slice) (outs : List ℕ) (after : Slice)
     (ps : List Tree) (ws : Plains) → AllClean s.refs
-    → LiesShape schema (record_of None names ds) (fields_here is scope) s outs after → CutsAll K R ds ps ws
+    → SpellsLaidShape schema (record_of None names ds) (fields_here is scope) s outs after → CutsAll K R ds ps ws
     → GoingShape schema (fields_here is scope) ps (values.record_of None names ws) s outs after
 inner_reads schema K R names ds reads is scope s outs after ps ws clean e c =
     let y = fields_read schema K R is ds reads scope s e.2 after ps ws clean e.3 c in
@@ -686,7 +686,7 @@ inner_reads schema K R names ds reads is scope s outs after ps ws clean e c =
 
 list_reads : (schema : CoreSchema) (K : ForRest) (R : ForRaw) (ds : Laids) → AllRead schema K R ds → (n : ℕ)
     (t : Closed) (s : Slice) (outs : List ℕ) (after : Slice) (ps : List Tree) (ws : Plains) → AllClean s.refs
-    → LiesShape schema (list_of ds) (typed (closed.repeat n t)) s outs after → CutsAll K R ds ps ws
+    → SpellsLaidShape schema (list_of ds) (typed (closed.repeat n t)) s outs after → CutsAll K R ds ps ws
     → GoingShape schema (typed (closed.repeat n t)) ps (values.list_of ws) s outs after
 list_reads schema K R ds reads n t s outs after ps ws clean e c =
     let y = repeat_reads schema K R ds reads n t s after ps ws clean e.1 c in
@@ -702,18 +702,18 @@ small_reads schema v c s outs after ps w e f x =
 
 number_reads : (schema : CoreSchema) (negative : Bool) (size : ℕ) (c : Shape) (s : Slice) (outs : List ℕ)
     (after : Slice)
-    → LiesShape schema (number negative size) c s outs after
+    → SpellsLaidShape schema (number negative size) c s outs after
     → GoingShape schema c [] (values.number negative size) s outs after
 number_reads schema negative size (typed t) s outs after e = number_goes negative size (row t) s outs after e
 number_reads schema negative size _ s outs after e = absurd e
 
 string_reads : (schema : CoreSchema) (bits : List ℕ) (c : Shape) (s : Slice) (outs : List ℕ) (after : Slice)
-    → LiesShape schema (bit_string bits) c s outs after → GoingShape schema c [] (values.bit_string bits) s outs after
+    → SpellsLaidShape schema (bit_string bits) c s outs after → GoingShape schema c [] (values.bit_string bits) s outs after
 string_reads schema bits (typed t) s outs after e = string_goes bits (row t) s outs after e
 string_reads schema bits _ s outs after e = absurd e
 
 absent_reads : (schema : CoreSchema) (c : Shape) (s : Slice) (outs : List ℕ) (after : Slice)
-    → LiesShape schema absent c s outs after → GoingShape schema c [] values.absent s outs after
+    → SpellsLaidShape schema absent c s outs after → GoingShape schema c [] values.absent s outs after
 absent_reads schema left_out s outs after e = record {
   front = [];
   parts = ap (λ (z : Slice). z.refs) (sym e.1);
@@ -787,7 +787,7 @@ mutual
 
   here_reads : (schema : CoreSchema) (K : ForRest) (R : ForRaw) → Trusts K R → (e : LaidEdge) (n : ℕ) (t : Closed)
       (s : Slice) (outs : List ℕ) (after : Slice) (ps : List Tree) (x : Parts) → AllClean s.refs → outs ≡ []
-      → EdgeLies schema e n t s after → CutsEdge K R e ps x → HereGoes schema n t ps (map_with x) s outs after
+      → SpellsEdge schema e n t s after → CutsEdge K R e ps x → HereGoes schema n t ps (map_with x) s outs after
   here_reads schema K R trust (a_leaf l d) n t s outs after ps x clean o k c =
       leaf_here schema K R l d (reads schema K R trust d) n t s outs after ps x clean o k c
   here_reads schema K R trust (a_fork l z a o b) n t s outs after ps x clean oo k c =

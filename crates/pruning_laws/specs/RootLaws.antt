@@ -11,7 +11,7 @@ use Rattle.spelling.specs.Spells.{Spells, Holds, Reading}
 use Rattle.typed_value.specs.Values.{Plain, levels, parts, most_levels, most_parts}
 use Rattle.typed_value.specs.Values as values
 use Rattle.pruning.specs.Laid.{Laid, plain}
-use Rattle.pruning.specs.Lies.{LaidRoot, as_it_is, laid, plain_root, LiesAtRoot}
+use Rattle.pruning.specs.SpellsLaid.{LaidRoot, as_it_is, laid, plain_root, IsLaidRoot}
 use Rattle.pruning.specs.Spots.{at_root}
 use Rattle.pruning.specs.Cut.{Choice, cell_with, cut, cut_root, blank, blank_root, ForRest, ForRaw, Cuts}
 use Rattle.pruning_laws.specs.CleanLaws.{IsClean}
@@ -38,7 +38,7 @@ raw_holds schema g p e seen =
 
 -- any cut of the value in the cell
 pub cut_shows : (schema : CoreSchema) (K : ForRest) (R : ForRaw) → Trusts K R → (t : Closed) (c : Tree) (d : Laid)
-    → IsClean c → LiesAtRoot schema t c (laid d) → IsSmall (plain d) → (ps : List Tree) (w : Plain) → Cuts K R d ps w
+    → IsClean c → IsLaidRoot schema t c (laid d) → IsSmall (plain d) → (ps : List Tree) (w : Plain) → Cuts K R d ps w
     → Shows schema t c (cell_with c ps) w
 cut_shows schema K R trust t c d clean lies small ps w cuts =
     let x = holds_go schema K R d (reads schema K R trust d) (under_ref t) c clean lies ps w cuts in
@@ -53,7 +53,7 @@ cut_shows schema K R trust t c d clean lies small ps w cuts =
     }
 
 pub choice_shows : (schema : CoreSchema) (t : Closed) (c : Tree) (r : LaidRoot) (f : Choice) → IsClean c
-    → LiesAtRoot schema t c r → IsSmall (plain_root r) → Shows schema t c (cut_root f r c) (blank_root f r)
+    → IsLaidRoot schema t c r → IsSmall (plain_root r) → Shows schema t c (cut_root f r c) (blank_root f r)
 choice_shows schema t c (as_it_is x) f clean lies small =
     let P : Tree → Type 0 = λ x. Shows schema t c c (values.raw x) in
     subst P (sym lies.1) (record {

@@ -1,5 +1,6 @@
 -- Any pruned tree of a tree that reads is the stub, or reads as the value blanked where it is pruned, but that each
 -- tree in a Raw or a Rest prunes to the one there.
+use Rattle.std.specs.Prelude.{filter}
 use Rattle.std.proofs.Common.{◌≡◌, ◌⊎◌, inl, inr, ℕ, suc, Bool, true, false, cond, IsTrue, List, [], ◌∷◌, ◌++◌}
 use Rattle.std.proofs.Common.{length, map, Option, Some, None, slice_get, refl, sym, ap, ◌∙◌, subst, append_assoc}
 use Rattle.std.proofs.Common.{length-append, arith}
@@ -27,9 +28,9 @@ use Rattle.typed_value.specs.Values as values
 use Rattle.pruning.specs.Laid.{Laid, number, bit_string, record_of, absent, list_of, ref_to, ref_to_raw, no_map}
 use Rattle.pruning.specs.Laid.{map_under, map_here, rest, Laids, no_laids, a_laid, LaidEdge, a_leaf, a_fork, join}
 use Rattle.pruning.specs.Laid.{below, plain, trees, trees_all, edge_trees}
-use Rattle.pruning.specs.Lies.{LaidRoot, as_it_is, laid, plain_root, LiesAtRoot}
+use Rattle.pruning.specs.SpellsLaid.{LaidRoot, as_it_is, laid, plain_root, IsLaidRoot}
 use Rattle.pruning.specs.Spots.{Where, at_root, stepped, past, in_edge, in_ref, spot, first_name, other_names}
-use Rattle.pruning.specs.Spots.{spots_of, chosen}
+use Rattle.pruning.specs.Spots.{spots_of}
 use Rattle.pruning.specs.Blanked.{KeyPart, hidden_of, Blanked}
 use Rattle.pruning.specs.Cut.{cell_with, Parts, below_parts, leaf_part, fork_part, hidden_part, map_with, blank}
 use Rattle.pruning.specs.Cut.{blank_fields, blank_items, blank_edge, ForRest, ForRaw, CutsCell, Cuts, CutsAll}
@@ -40,7 +41,7 @@ use Rattle.pruning.specs.Thinned.{below_child, subtree, is_pruned_kind, is_prune
 use Rattle.pruning_laws.specs.BlankedLaws.{RootApart, blanks}
 use Rattle.pruning_laws.specs.ChoiceLaws.{all_same, clean-seen}
 use Rattle.pruning_laws.specs.CleanLaws.{IsClean, AllClean, clean-left, clean-right, clean-below}
-use Rattle.pruning_laws.specs.FirmLaws.{Firm, AllFirm, FirmEdge, cell_firm, takes}
+use Rattle.pruning_laws.specs.FilledLaws.{IsFilled, AreFilled, IsFilledEdge, cell_filled, takes}
 use Rattle.pruning_laws.specs.KnownLaws.{left_part, right_part}
 use Rattle.pruning_laws.specs.ReadsLaws.{Trusts, all-length}
 use Rattle.pruning_laws.specs.RootLaws.{IsSmall, raw_holds, cut_shows}
@@ -302,10 +303,10 @@ ref_thin : (root : Tree) (w : Where) (c : Tree) (d : Laid) (ps : List Tree) → 
     → AllPrune (c ∷ []) ps 0 → Placed root w ps
     → ((qs : List Tree) → AllPrune (trees d) qs 0 → Placed root (in_ref w) qs → Thin root (in_ref w) d qs)
     → Thin root w (ref_to c d) ps
-ref_thin root w c d ps firm a x inner =
+ref_thin root w c d ps filled_in a x inner =
     let one = one_tree c ps a in
     let at = placed-first root w one.0 [] (placed-same root w ps (one.0 ∷ []) one.1 x) in
-    go one.0 one.1 at (cell_how c one.0 (trees d) firm one.2)
+    go one.0 one.1 at (cell_how c one.0 (trees d) filled_in one.2)
   where
     go : (p : Tree) → ps ≡ p ∷ [] → subtree root (w.cell ++ w.next ∷ []) ≡ Some p
         → (p ≡ stub c 0) ⊎ ((qs : List Tree) × (p ≡ cell_with c qs) × AllPrune (trees d) qs 0)
@@ -367,7 +368,7 @@ cell_thin : (root : Tree) (w : Where) (q : List ℕ) (c : Tree) (e : LaidEdge) (
     → Prunes c p 0 → subtree root (w.cell ++ w.next ∷ []) ≡ Some p
     → ((qs : List Tree) → AllPrune (edge_trees e) qs 0 → Placed root (in_edge w) qs → ThinEdge root (in_edge w) q e qs)
     → ThinCell root w q c e (blank_edge (pruned_in root) (in_edge w) q e) p
-cell_thin root w q c e p firm prunes at inner = go (cell_how c p (edge_trees e) firm prunes)
+cell_thin root w q c e p filled_in prunes at inner = go (cell_how c p (edge_trees e) filled_in prunes)
   where
     go : (p ≡ stub c 0) ⊎ ((qs : List Tree) × (p ≡ cell_with c qs) × AllPrune (edge_trees e) qs 0)
         → ThinCell root w q c e (blank_edge (pruned_in root) (in_edge w) q e) p
@@ -429,85 +430,85 @@ one_more_thin root w d ds us ps qs rs e x y = record {
 }
 
 mutual
-  pub thin : (root : Tree) (w : Where) (d : Laid) → Firm d → AllClean (trees d) → (ps : List Tree)
+  pub thin : (root : Tree) (w : Where) (d : Laid) → IsFilled d → AllClean (trees d) → (ps : List Tree)
       → AllPrune (trees d) ps 0 → Placed root w ps → Thin root w d ps
-  thin root w (number negative size) firm clean ps a x =
+  thin root w (number negative size) filled_in clean ps a x =
       bare root w (number negative size) ps (values.number negative size) a (λ e. (e, refl)) refl
-  thin root w (bit_string bits) firm clean ps a x =
+  thin root w (bit_string bits) filled_in clean ps a x =
       bare root w (bit_string bits) ps (values.bit_string bits) a (λ e. (e, refl)) refl
-  thin root w (record_of name names ds) firm clean ps a x =
-      let y = thin_fields root w names ds firm clean ps a x in
+  thin root w (record_of name names ds) filled_in clean ps a x =
+      let y = thin_fields root w names ds filled_in clean ps a x in
       record {
         value = values.record_of name names y.vals;
         cuts = (y.vals, refl, y.cuts);
         thins = record_thins name names (blank_fields (pruned_in root) w names ds) y.vals y.thins;
       }
-  thin root w absent firm clean ps a x = bare root w absent ps values.absent a (λ e. (e, refl)) refl
-  thin root w (list_of ds) firm clean ps a x =
-      let y = thin_items root w 0 ds firm clean ps a x in
+  thin root w absent filled_in clean ps a x = bare root w absent ps values.absent a (λ e. (e, refl)) refl
+  thin root w (list_of ds) filled_in clean ps a x =
+      let y = thin_items root w 0 ds filled_in clean ps a x in
       record {
         value = values.list_of y.vals;
         cuts = (y.vals, refl, y.cuts);
         thins = list_thins (blank_items (pruned_in root) w 0 ds) y.vals y.thins;
       }
-  thin root w (ref_to c d) firm clean ps a x =
-      ref_thin root w c d ps firm.0 a x
-      (λ qs b y. thin root (in_ref w) d firm.1 (clean-cell c (trees d) firm.0 clean.0) qs b y)
-  thin root w (ref_to_raw c) firm clean ps a x = raw_thin root w c ps clean.0 a x
-  thin root w no_map firm clean ps a x =
+  thin root w (ref_to c d) filled_in clean ps a x =
+      ref_thin root w c d ps filled_in.0 a x
+      (λ qs b y. thin root (in_ref w) d filled_in.1 (clean-cell c (trees d) filled_in.0 clean.0) qs b y)
+  thin root w (ref_to_raw c) filled_in clean ps a x = raw_thin root w c ps clean.0 a x
+  thin root w no_map filled_in clean ps a x =
       bare root w no_map ps (values.map_of tt no_pairs []) a (λ e. (e, refl)) refl
-  thin root w (map_under c e) firm clean ps a x =
+  thin root w (map_under c e) filled_in clean ps a x =
       let one = one_tree c ps a in
       let at = placed-first root w one.0 [] (placed-same root w ps (one.0 ∷ []) one.1 x) in
       under_thin root w c e one.0 ps one.1
-      (cell_thin root w [] c e one.0 firm.0 one.2 at
-      (λ qs b y. thin_edge root (in_edge w) [] e firm.1 (clean-cell c (edge_trees e) firm.0 clean.0) qs b y))
-  thin root w (map_here e) firm clean ps a x =
-      let y = thin_edge root w [] e firm clean ps a x in
+      (cell_thin root w [] c e one.0 filled_in.0 one.2 at
+      (λ qs b y. thin_edge root (in_edge w) [] e filled_in.1 (clean-cell c (edge_trees e) filled_in.0 clean.0) qs b y))
+  thin root w (map_here e) filled_in clean ps a x =
+      let y = thin_edge root w [] e filled_in clean ps a x in
       record {
         value = map_with y.parts;
         cuts = (y.parts, refl, y.cuts);
         thins = thin-map (blank_edge (pruned_in root) w [] e) y.parts y.thins;
       }
-  thin root w (rest s) firm clean ps a x = record {
+  thin root w (rest s) filled_in clean ps a x = record {
     value = values.rest (record { bits = s.bits; refs = ps });
     cuts = (a, refl);
     thins = rest_thins s.bits s.refs ps a;
   }
 
-  thin_fields : (root : Tree) (w : Where) (names : List (List ℕ)) (ds : Laids) → AllFirm ds → AllClean (trees_all ds)
+  thin_fields : (root : Tree) (w : Where) (names : List (List ℕ)) (ds : Laids) → AreFilled ds → AllClean (trees_all ds)
       → (ps : List Tree) → AllPrune (trees_all ds) ps 0 → Placed root w ps
       → ThinAll ds (blank_fields (pruned_in root) w names ds) ps
-  thin_fields root w names no_laids firm clean ps a x = no_more_thin ps a
-  thin_fields root w names (a_laid d ds) firm clean ps a x =
+  thin_fields root w names no_laids filled_in clean ps a x = no_more_thin ps a
+  thin_fields root w names (a_laid d ds) filled_in clean ps a x =
       let p = parted (trees d) (trees_all ds) ps a in
       let y = placed-same root w ps (p.0 ++ p.1) p.2 x in
       one_more_thin root (stepped w (named (first_name names))) d ds
       (blank_fields (pruned_in root) (past w (length (trees d))) (other_names names) ds) ps p.0 p.1 p.2
-      (thin root (stepped w (named (first_name names))) d firm.0 (clean-left (trees d) (trees_all ds) clean) p.0 p.3
+      (thin root (stepped w (named (first_name names))) d filled_in.0 (clean-left (trees d) (trees_all ds) clean) p.0 p.3
       (placed-left root w (named (first_name names)) p.0 p.1 y))
-      (thin_fields root (past w (length (trees d))) (other_names names) ds firm.1
+      (thin_fields root (past w (length (trees d))) (other_names names) ds filled_in.1
           (clean-right (trees d) (trees_all ds) clean) p.1 p.4
       (placed-right root w (length (trees d)) p.0 p.1 (all-length (trees d) p.0 p.3) y))
 
-  thin_items : (root : Tree) (w : Where) (n : ℕ) (ds : Laids) → AllFirm ds → AllClean (trees_all ds) → (ps : List Tree)
+  thin_items : (root : Tree) (w : Where) (n : ℕ) (ds : Laids) → AreFilled ds → AllClean (trees_all ds) → (ps : List Tree)
       → AllPrune (trees_all ds) ps 0 → Placed root w ps → ThinAll ds (blank_items (pruned_in root) w n ds) ps
-  thin_items root w n no_laids firm clean ps a x = no_more_thin ps a
-  thin_items root w n (a_laid d ds) firm clean ps a x =
+  thin_items root w n no_laids filled_in clean ps a x = no_more_thin ps a
+  thin_items root w n (a_laid d ds) filled_in clean ps a x =
       let p = parted (trees d) (trees_all ds) ps a in
       let y = placed-same root w ps (p.0 ++ p.1) p.2 x in
       one_more_thin root (stepped w (item n)) d ds (blank_items (pruned_in root) (past w (length (trees d))) (suc n) ds)
       ps p.0 p.1 p.2
-      (thin root (stepped w (item n)) d firm.0 (clean-left (trees d) (trees_all ds) clean) p.0 p.3
+      (thin root (stepped w (item n)) d filled_in.0 (clean-left (trees d) (trees_all ds) clean) p.0 p.3
       (placed-left root w (item n) p.0 p.1 y))
-      (thin_items root (past w (length (trees d))) (suc n) ds firm.1 (clean-right (trees d) (trees_all ds) clean) p.1
+      (thin_items root (past w (length (trees d))) (suc n) ds filled_in.1 (clean-right (trees d) (trees_all ds) clean) p.1
           p.4
       (placed-right root w (length (trees d)) p.0 p.1 (all-length (trees d) p.0 p.3) y))
 
-  thin_edge : (root : Tree) (w : Where) (q : List ℕ) (e : LaidEdge) → FirmEdge e → AllClean (edge_trees e)
+  thin_edge : (root : Tree) (w : Where) (q : List ℕ) (e : LaidEdge) → IsFilledEdge e → AllClean (edge_trees e)
       → (ps : List Tree) → AllPrune (edge_trees e) ps 0 → Placed root w ps → ThinEdge root w q e ps
-  thin_edge root w q (a_leaf l d) firm clean ps a x =
-      let y = thin root (stepped w (keyed (q ++ l))) d firm clean ps a (placed-step root w (keyed (q ++ l)) ps x) in
+  thin_edge root w q (a_leaf l d) filled_in clean ps a x =
+      let y = thin root (stepped w (keyed (q ++ l))) d filled_in clean ps a (placed-step root w (keyed (q ++ l)) ps x) in
       record {
         parts = leaf_part l y.value;
         cuts = (y.value, refl, y.cuts);
@@ -517,24 +518,24 @@ mutual
           unknown = refl;
         };
       }
-  thin_edge root w q (a_fork l z i o j) firm clean ps a x =
+  thin_edge root w q (a_fork l z i o j) filled_in clean ps a x =
       let two = two_trees z o ps a in
       let y = placed-same root w ps (two.0 ∷ (two.1 ∷ [])) two.2 x in
       let at = placed-first root w two.0 (two.1 ∷ []) y in
       let next = placed-first root (past w 1) two.1 [] (placed-right root w 1 (two.0 ∷ []) (two.1 ∷ []) refl y) in
       fork_thin root w q l z i o j two.0 two.1 ps two.2
-      (cell_thin root w (q ++ (l ++ 0 ∷ [])) z i two.0 firm.0 two.3 at
-      (λ qs b t. thin_edge root (in_edge w) (q ++ (l ++ 0 ∷ [])) i firm.1
-          (clean-cell z (edge_trees i) firm.0 clean.0) qs b t))
-      (cell_thin root (past w 1) (q ++ (l ++ 1 ∷ [])) o j two.1 firm.2 two.4 next
-      (λ qs b t. thin_edge root (in_edge (past w 1)) (q ++ (l ++ 1 ∷ [])) j firm.3
-          (clean-cell o (edge_trees j) firm.2 clean.1.0) qs b t))
+      (cell_thin root w (q ++ (l ++ 0 ∷ [])) z i two.0 filled_in.0 two.3 at
+      (λ qs b t. thin_edge root (in_edge w) (q ++ (l ++ 0 ∷ [])) i filled_in.1
+          (clean-cell z (edge_trees i) filled_in.0 clean.0) qs b t))
+      (cell_thin root (past w 1) (q ++ (l ++ 1 ∷ [])) o j two.1 filled_in.2 two.4 next
+      (λ qs b t. thin_edge root (in_edge (past w 1)) (q ++ (l ++ 1 ∷ [])) j filled_in.3
+          (clean-cell o (edge_trees j) filled_in.2 clean.1.0) qs b t))
 
 -- ---- the root
 
-pub root_thins : (schema : CoreSchema) (t : Closed) (c p : Tree) (r : LaidRoot) → IsClean c → LiesAtRoot schema t c r
+pub root_thins : (schema : CoreSchema) (t : Closed) (c p : Tree) (r : LaidRoot) → IsClean c → IsLaidRoot schema t c r
     → IsSmall (plain_root r) → RootApart r → Prunes c p 0
-    → (p ≡ stub c 0) ⊎ ReadsThinned schema t p (Blanked (plain_root r) (chosen (pruned_in p) (spots_of r)))
+    → (p ≡ stub c 0) ⊎ ReadsThinned schema t p (Blanked (plain_root r) (filter (pruned_in p) (spots_of r)))
 root_thins schema t c p (as_it_is x) clean lies small apart prunes = go (raw_how c p clean prunes)
   where
     go : (p ≡ stub c 0) ⊎ ((unseen Partial p ≡ None) × (is_pruned (Some p) ≡ false))
@@ -552,15 +553,15 @@ root_thins schema t c p (as_it_is x) clean lies small apart prunes = go (raw_how
           thins = subst P (sym lies.1) (raw_thins c p prunes);
         })
 root_thins schema t c p (laid d) clean lies small apart prunes =
-    let firm = cell_firm schema d (takes schema d) (under_ref t) c lies in
-    go firm.0 firm.1 (cell_how c p (trees d) firm.0 prunes)
+    let filled_in = cell_filled schema d (takes schema d) (under_ref t) c lies in
+    go filled_in.0 filled_in.1 (cell_how c p (trees d) filled_in.0 prunes)
   where
-    go : c ≡ cell_with c (trees d) → Firm d
+    go : c ≡ cell_with c (trees d) → IsFilled d
         → (p ≡ stub c 0) ⊎ ((qs : List Tree) × (p ≡ cell_with c qs) × AllPrune (trees d) qs 0)
-        → (p ≡ stub c 0) ⊎ ReadsThinned schema t p (Blanked (plain d) (chosen (pruned_in p) (spots_of (laid d))))
-    go e firm (inl h) = inl h
-    go e firm (inr h) =
-        let y = thin p at_root d firm (clean-cell c (trees d) e clean) h.0 h.2
+        → (p ≡ stub c 0) ⊎ ReadsThinned schema t p (Blanked (plain d) (filter (pruned_in p) (spots_of (laid d))))
+    go e filled_in (inl h) = inl h
+    go e filled_in (inr h) =
+        let y = thin p at_root d filled_in (clean-cell c (trees d) e clean) h.0 h.2
             (placed-in p at_root c h.0 (ap Some h.1) refl) in
         let x = cut_shows schema for_rest for_raw trusts_pruned t c d clean lies small h.0 y.value y.cuts in
         let P : Tree → Type 0 = λ p. Reading Partial schema t p y.value in

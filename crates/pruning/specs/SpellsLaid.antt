@@ -27,9 +27,9 @@ abbrev pub BeginsWith : Tree → Slice → Type 0
 BeginsWith c s = (ts : List Tree) × (s.refs ≡ c ∷ ts)
 
 -- `^Any` and `^Cell`
-abbrev pub LiesRaw : Tree → Closing
-LiesRaw c (typed (closed.ref closed.whole)) before outs after = (outs ≡ []) × Then before (only_ref c) after
-LiesRaw c _ before outs after = ⊥
+abbrev pub SpellsLaidRaw : Tree → Closing
+SpellsLaidRaw c (typed (closed.ref closed.whole)) before outs after = (outs ≡ []) × Then before (only_ref c) after
+SpellsLaidRaw c _ before outs after = ⊥
 
 -- ---- dictionaries
 
@@ -41,56 +41,56 @@ EdgeMeaning = ℕ → Closed → Slice → Slice → Type 0
 abbrev pub EdgeCell : EdgeMeaning → ℕ → Closed → Tree → Type 0
 EdgeCell E n t c = (s : Slice) × (c ≡ cell_of s) × E n t s nothing
 
-abbrev pub LeafLies : List ℕ → Meaning → EdgeMeaning
-LeafLies l M n t before after =
+abbrev pub SpellsLeaf : List ℕ → Meaning → EdgeMeaning
+SpellsLeaf l M n t before after =
     (middle : Slice) × (outs : List ℕ) × LeafEdge Whole n l before middle × M (at_type t) middle outs after
 
-abbrev pub ForkLies : List ℕ → Tree → EdgeMeaning → Tree → EdgeMeaning → EdgeMeaning
-ForkLies l z A o B n t before after =
+abbrev pub SpellsFork : List ℕ → Tree → EdgeMeaning → Tree → EdgeMeaning → EdgeMeaning
+SpellsFork l z A o B n t before after =
     (m : ℕ) × (n ≡ length l + suc m) × IsLabel (forms_of Whole) n l before.bits after.bits
     × (before.refs ≡ z ∷ (o ∷ after.refs)) × EdgeCell A m t z × EdgeCell B m t o
 
 -- Hashmap: the first edge in place
-abbrev pub MapHere : EdgeMeaning → Closing
-MapHere E (typed (closed.dict n t)) before outs after = (outs ≡ []) × E n t before after
-MapHere E _ before outs after = ⊥
+abbrev pub SpellsMapHere : EdgeMeaning → Closing
+SpellsMapHere E (typed (closed.dict n t)) before outs after = (outs ≡ []) × E n t before after
+SpellsMapHere E _ before outs after = ⊥
 
 -- HashmapE: the bit 1 and a reference to the cell of the first edge, or the bit 0
-abbrev pub MapUnder : Tree → EdgeMeaning → Closing
-MapUnder c E (typed (closed.dict_e n t)) before outs after =
+abbrev pub SpellsMapUnder : Tree → EdgeMeaning → Closing
+SpellsMapUnder c E (typed (closed.dict_e n t)) before outs after =
     (outs ≡ []) × Then before (record { bits = 1 ∷ []; refs = c ∷ [] }) after × EdgeCell E n t c
-MapUnder c E _ before outs after = ⊥
+SpellsMapUnder c E _ before outs after = ⊥
 
-abbrev pub NoMap : Closing
-NoMap (typed (closed.dict_e n t)) before outs after = (outs ≡ []) × Then before (only_bits (0 ∷ [])) after
-NoMap _ before outs after = ⊥
+abbrev pub SpellsNoMap : Closing
+SpellsNoMap (typed (closed.dict_e n t)) before outs after = (outs ≡ []) × Then before (only_bits (0 ∷ [])) after
+SpellsNoMap _ before outs after = ⊥
 
 -- ---- values
 
 abbrev mutual
-  pub LiesShape : CoreSchema → Laid → Closing
-  LiesShape schema (number negative size) = AtRow (SpellsNumber negative size)
-  LiesShape schema (bit_string bits) = AtRow (SpellsString bits)
-  LiesShape schema (record_of name names ds) = SpellsRecord schema name names (EachLies schema ds)
-  LiesShape schema absent = SpellsAbsent
-  LiesShape schema (list_of ds) = SpellsList (EachLies schema ds)
-  LiesShape schema (ref_to c d) = SpellsRef (BeginsWith c) Whole (ByShape (LiesShape schema d))
-  LiesShape schema (ref_to_raw c) = LiesRaw c
-  LiesShape schema no_map = NoMap
-  LiesShape schema (map_under c e) = MapUnder c (EdgeLies schema e)
-  LiesShape schema (map_here e) = MapHere (EdgeLies schema e)
-  LiesShape schema (rest s) = SpellsRest s
+  pub SpellsLaidShape : CoreSchema → Laid → Closing
+  SpellsLaidShape schema (number negative size) = AtRow (SpellsNumber negative size)
+  SpellsLaidShape schema (bit_string bits) = AtRow (SpellsString bits)
+  SpellsLaidShape schema (record_of name names ds) = SpellsRecord schema name names (EachLaid schema ds)
+  SpellsLaidShape schema absent = SpellsAbsent
+  SpellsLaidShape schema (list_of ds) = SpellsList (EachLaid schema ds)
+  SpellsLaidShape schema (ref_to c d) = SpellsRef (BeginsWith c) Whole (ByShape (SpellsLaidShape schema d))
+  SpellsLaidShape schema (ref_to_raw c) = SpellsLaidRaw c
+  SpellsLaidShape schema no_map = SpellsNoMap
+  SpellsLaidShape schema (map_under c e) = SpellsMapUnder c (SpellsEdge schema e)
+  SpellsLaidShape schema (map_here e) = SpellsMapHere (SpellsEdge schema e)
+  SpellsLaidShape schema (rest s) = SpellsRest s
 
-  pub EachLies : CoreSchema → Laids → Meanings
-  EachLies schema no_laids = no_meanings
-  EachLies schema (a_laid d ds) = a_meaning (ByShape (LiesShape schema d)) (EachLies schema ds)
+  pub EachLaid : CoreSchema → Laids → Meanings
+  EachLaid schema no_laids = no_meanings
+  EachLaid schema (a_laid d ds) = a_meaning (ByShape (SpellsLaidShape schema d)) (EachLaid schema ds)
 
-  pub EdgeLies : CoreSchema → LaidEdge → EdgeMeaning
-  EdgeLies schema (a_leaf l d) = LeafLies l (ByShape (LiesShape schema d))
-  EdgeLies schema (a_fork l z a o b) = ForkLies l z (EdgeLies schema a) o (EdgeLies schema b)
+  pub SpellsEdge : CoreSchema → LaidEdge → EdgeMeaning
+  SpellsEdge schema (a_leaf l d) = SpellsLeaf l (ByShape (SpellsLaidShape schema d))
+  SpellsEdge schema (a_fork l z a o b) = SpellsFork l z (SpellsEdge schema a) o (SpellsEdge schema b)
 
-abbrev pub Lies : CoreSchema → Laid → Meaning
-Lies schema d = ByShape (LiesShape schema d)
+abbrev pub SpellsLaid : CoreSchema → Laid → Meaning
+SpellsLaid schema d = ByShape (SpellsLaidShape schema d)
 
 -- ---- the root
 
@@ -103,6 +103,6 @@ abbrev pub plain_root : LaidRoot → Plain
 plain_root (as_it_is c) = values.raw c
 plain_root (laid d) = plain d
 
-abbrev pub LiesAtRoot : CoreSchema → Closed → Tree → LaidRoot → Type 0
-LiesAtRoot schema t c (as_it_is x) = (under_ref t ≡ at_cell) × (x ≡ c)
-LiesAtRoot schema t c (laid d) = Holds Whole (Lies schema d) (under_ref t) c
+abbrev pub IsLaidRoot : CoreSchema → Closed → Tree → LaidRoot → Type 0
+IsLaidRoot schema t c (as_it_is x) = (under_ref t ≡ at_cell) × (x ≡ c)
+IsLaidRoot schema t c (laid d) = Holds Whole (SpellsLaid schema d) (under_ref t) c
