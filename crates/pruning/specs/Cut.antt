@@ -54,7 +54,7 @@ abbrev mutual
   cut_edge f w q (a_fork l z a o b) =
       cut_cell (f (spot w (Some (q ++ (l ++ 0 ∷ []))) z)) z (cut_edge f (in_edge w) (q ++ (l ++ 0 ∷ [])) a)
       ∷ (cut_cell (f (spot (past w 1) (Some (q ++ (l ++ 1 ∷ []))) o)) o
-          (cut_edge f (in_edge (past w 1)) (q ++ (l ++ 1 ∷ [])) b)
+      (cut_edge f (in_edge (past w 1)) (q ++ (l ++ 1 ∷ [])) b)
       ∷ [])
 
 -- the tree with spots hidden

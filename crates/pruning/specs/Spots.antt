@@ -1,5 +1,5 @@
 -- The references of a reading that can be pruned, and which of them chosen paths keep. This project's own.
-use Rattle.std.specs.Prelude.{Bool, true, false, ◌&&◌, ◌||◌, if◌then◌else◌, ℕ, suc, ◌+◌, nat_eq, bytes_eq, List, []}
+use Rattle.std.specs.Prelude.{Bool, true, false, ◌&&◌, ◌||◌, ℕ, suc, ◌+◌, nat_eq, bytes_eq, List, []}
 use Rattle.std.specs.Prelude.{◌∷◌, ◌++◌, length, Option, Some, None, filter, not}
 use Rattle.cell_nodes.specs.declared.tree.Tree.{Tree}
 use Rattle.schema_leads.specs.Leads.{begins}
