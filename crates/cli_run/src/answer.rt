@@ -80,10 +80,10 @@ pub fn answer_to<H: Shelf>(
 {
     let files = form.files(alloc)?;
     match load_all(alloc, shelf, files.as_slice()) {
-        Ok(contents) => {
-            let came = form.verb.answer(alloc, form.words, contents.as_slice());
-            conclude(alloc, came)
-        }
+        Ok(contents) => conclude(
+            alloc,
+            form.verb.answer(alloc, form.words, contents.as_slice()),
+        ),
         Err(error) => refuse_file(alloc, error),
     }
 }
