@@ -1,5 +1,5 @@
 -- From what the layers answer to what `run` did.
-use Rattle.std.proofs.Common.{◌≡◌, sym, subst, refl, arith, ℕ, List, [], Option, None, Some, Result, Ok, Err, Vec}
+use Rattle.std.proofs.Common.{◌≡◌, subst, refl, arith, ℕ, List, [], Option, None, Some, Result, Ok, Err, Vec}
 use Rattle.std.specs.declared.alloc.Global.{Global}
 use Rattle.tlb_edge.specs.Causes.{Rose}
 use Rattle.tlb_edge.specs.Files.{Files}

@@ -32,8 +32,8 @@ next-once {X = X} first next one others a b (goes_on x h answers) (goes_on y k o
 
 -- ---- some answer
 
-next-by : {X Y : Type 0} (first : Result X Refusal → Type 0) (next : X → Result Y Refusal → Type 0) (a : Result X Refusal)
-    → first a → ((x : X) → IsAnswered (next x)) → IsAnswered (Next first next)
+next-by : {X Y : Type 0} (first : Result X Refusal → Type 0) (next : X → Result Y Refusal → Type 0)
+    (a : Result X Refusal) → first a → ((x : X) → IsAnswered (next x)) → IsAnswered (Next first next)
 next-by first next (Err refusal) given others = (Err refusal, stops refusal given refl)
 next-by first next (Ok x) given others = let rest = others x in (rest.0, goes_on x given rest.1)
 
@@ -90,8 +90,10 @@ stopped {first = first} {next = next} {view = view} {see = see} {e = e} {r = r} 
 pub passed : {T U X Y : Type 0} {first : Result X Refusal → Type 0} {next : X → Result Y Refusal → Type 0}
     {view : T → X} {see : U → Y} {t : T} {r : Result U Stop}
     → Answers first view (Ok t) → Answers (next (view t)) see r → Answers (Next first next) see r
-passed {view = view} {t = t} {r = Ok u} given answers = record { answer = goes_on (view t) given.answer answers.answer }
-passed {view = view} {t = t} {r = Err (Refused s)} given answers = record { answer = goes_on (view t) given.answer answers.answer }
+passed {view = view} {t = t} {r = Ok u} given answers =
+    record { answer = goes_on (view t) given.answer answers.answer }
+passed {view = view} {t = t} {r = Err (Refused s)} given answers =
+    record { answer = goes_on (view t) given.answer answers.answer }
 passed {r = Err NoMemory} given answers = record { answer = tt }
 
 -- the last one gives what is answered
