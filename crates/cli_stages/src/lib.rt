@@ -1,0 +1,13 @@
+//! The stages of a command: each refuses or gives something.
+#![tactic(auto)]
+
+pub mod bag;
+pub mod cell;
+pub mod flat_form;
+pub mod kinds;
+pub mod laws;
+pub mod schema_text;
+mod stop;
+pub mod type_word;
+
+pub use stop::Stop;
