@@ -12,3 +12,11 @@ mod Sound
 mod Tied
 mod Parens
 mod First
+mod Heights
+mod Goes
+mod GoesCells
+mod Values
+mod Maps
+mod Apart
+mod Complete
+mod Determined

@@ -1,5 +1,5 @@
 //! Laws of the texts of values: functions of no parameters, whose contracts speak of the definitions alone.
-ghost use Rattle.std.specs.Prelude.{ℕ, List};
+ghost use Rattle.std.specs.Prelude.{◌≡◌, ℕ, List};
 ghost use Rattle.typed_value.specs.Values.{Plain};
 ghost use Rattle.value_text.specs.Writes.{TextWrites};
 ghost use Rattle.value_grammar.specs.declared.cause.Cause.{Cause};
@@ -14,4 +14,19 @@ pub fn finished_is_written()
 /// Where the steps stop, the text has its first refusal.
 pub fn stop_is_refusal()
     ensures { (file : List ℕ) (cause : Cause) (byte : ℕ) → Stops file cause byte → TextRefused file cause byte }
+{}
+
+/// The steps lead through a text that writes a value to that value.
+pub fn written_is_finished()
+    ensures { (file : List ℕ) (v : Plain) → TextWrites file v → Finishes file v }
+{}
+
+/// A text writes at most one value.
+pub fn at_most_one_value()
+    ensures { (file : List ℕ) (v w : Plain) → TextWrites file v → TextWrites file w → v ≡ w }
+{}
+
+/// The steps don't both lead through a text to a value and stop in it.
+pub fn finish_or_stop()
+    ensures { (file : List ℕ) (v : Plain) (cause : Cause) (byte : ℕ) → Finishes file v → Stops file cause byte → ⊥ }
 {}

@@ -140,3 +140,7 @@ pub parsed_so : {A : Type 0} (r : Result A TextError) (P Q : A → Type 0) (R S 
     → ((cause : Cause) (byte : ℕ) → R cause byte → S cause byte) → IfParsed r P R → IfParsed r Q S
 parsed_so (Ok v) P Q R S f g h = f v h
 parsed_so (Err e) P Q R S f g h = refused_so e R S g h
+
+pub written_so : {A : Type 0} (r : Result A TextError) (P Q : A → Type 0) (R : Cause → ℕ → Type 0) → ((v : A) → P v → Q v) → ((cause : Cause) (byte : ℕ) → R cause byte → ⊥)
+    → IfParsed r P R → IfParsed r Q (λ cause byte. ⊥)
+written_so r P Q R f g h = parsed_so r P Q R (λ cause byte. ⊥) f g h

@@ -1,5 +1,6 @@
 //! The value that a text writes.
 ghost use Rattle.std.specs.Prelude.{◌≡◌, ◌<◌, ◌≤◌, drop, length, MatchOption};
+ghost use Rattle.typed_value.specs.Values.{Plain};
 ghost use Rattle.typed_value.specs.View.{value};
 ghost use Rattle.value_text.specs.Division.{space_before};
 ghost use Rattle.value_grammar.specs.Reading.{Finishes, IsUnfinished, Reaches, Stops};
@@ -15,7 +16,9 @@ use crate::state::{Open, Spot, State};
 use crate::steps::step;
 use std::alloc::Global;
 use typed_value::Value;
-use value_grammar::laws::{finished_is_written, stop_is_refusal};
+use value_grammar::laws::{
+    at_most_one_value, finish_or_stop, finished_is_written, stop_is_refusal, written_is_finished,
+};
 use value_text::lexeme_at;
 
 fn is_space(byte: u8) -> bool
@@ -129,9 +132,15 @@ fn read(alloc: Global, text: &[u8]) -> Result<Value, TextError>
 
 /// The value that a text writes, or the text's first refusal from the left.
 pub fn parse(alloc: Global, text: &[u8]) -> Result<Value, TextError>
-    ensures { IfParsed result (λ v. TextWrites text.now (value v)) (λ cause byte. TextRefused text.now cause byte) }
+    // What is answered holds of the text.
+    ensures holds { IfParsed result (λ v. TextWrites text.now (value v)) (λ cause byte. TextRefused text.now cause byte) }
+    // The value that the text writes is answered, unless memory runs out.
+    ensures written { (v : Plain) → TextWrites text.now v → IfParsed result (λ found. value found ≡ v) (λ _ _. ⊥) }
 {
     finished_is_written();
     stop_is_refusal();
+    written_is_finished();
+    at_most_one_value();
+    finish_or_stop();
     read(alloc, text)
 }

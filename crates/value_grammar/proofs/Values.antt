@@ -1,0 +1,267 @@
+-- The steps go through the tokens of a value that can be written.
+use Rattle.std.proofs.Common.{◌≡◌, ℕ, zero, suc, ◌+◌, ◌<◌, ◌≤◌, Bool, true, false, ◌&&◌, ◌||◌, not, nat_le, if◌then◌else◌, IsTrue, bytes_eq, codes, max, List, [], ◌∷◌, ◌++◌, map, take, drop, length, Option, Some, None, Result, Ok, Err, refl, sym, ap, ◌∙◌, subst, arith, append_assoc, append-nil}
+use Rattle.cell_nodes.specs.Equations.{one_le-unfolded}
+use Rattle.cell_nodes.specs.Good.{AllGood, IsGood, good, more, none}
+use Rattle.cell_nodes.specs.GoodParts.{good-depth}
+use Rattle.cell_nodes.specs.Tree.{is_exotic, total, tree_of, unfolded}
+use Rattle.cell_nodes.specs.Equations.{tree_of-out}
+use Rattle.cell_nodes.specs.declared.tree.Hidden.{Hidden}
+use Rattle.cell_nodes.specs.declared.tree.Kind.{Kind}
+use Rattle.cell_nodes.specs.declared.tree.Tree.{Tree, out-Tree}
+use Rattle.typed_value.specs.Values.{Plain, Plains, PlainPairs, Slice, a_pair, a_val, absent, bit_string, levels, levels_by, levels_in, list_of, map_of, most_levels, most_parts, no_pairs, no_vals, number, parts, parts_by, parts_in, raw, record_of, ref_to, rest, unknown}
+use Rattle.typed_value.specs.View.{names_in, pairs_of, vals_in, vals_of}
+use Rattle.value_text.specs.declared.lexeme.Sign.TheVariants.{CloseBracket, OpenBrace, OpenBracket, OpenParen, Less, Tilde, Caret, Bang, Percent}
+use Rattle.value_text.specs.declared.lexeme.Lexeme.{Lexeme}
+use Rattle.value_text.specs.declared.lexeme.Lexeme.TheVariants.{Sign as ASign, Number, Bits, Name, Hidden as AHidden}
+use Rattle.value_text.specs.Division.{Placed, lexeme_of, lexemes}
+use Rattle.value_text.specs.Text.{cell, count_before, entries, fields, hidden_entry, items, name_of, separated, tokens}
+use Rattle.value_text.specs.Text as text
+use Rattle.value_text.specs.Tokens.{Token, mark, bits, name, hidden}
+use Rattle.value_text.specs.Tokens as token
+use Rattle.value_text.specs.Writes.{AreEntries, AreFew, AreFields, AreFormed, AreHidden, IsFormed, IsRecordName, cells_by, cells_in, cells_of, comes_after, in_order, keys_of, most_cells}
+use Rattle.value_grammar.specs.Open.{Frame, Open, Part, Spot, after_entry, after_field, after_item, after_rest, at, bang, bits_due, body_text, done, due, entry_due, entry_or_end, field, field_due, field_or_end, in_cell, item, item_or_end, keyed, labelled, named, pair, paren_due, reference, rest_bits, rest_child, rest_paren}
+use Rattle.value_grammar.specs.Within.{begins_value, is_beyond, is_paren, limit_of, most_cell_levels}
+use Rattle.value_grammar.specs.Steps.{Held, Outcome, Stepped, and_then, begin, counted, give, give_cell, held_of, no_go, one_more, rest_of, run, step, step_at, the_map, the_record, unless_limit}
+use Rattle.value_grammar.proofs.Texts.{cell_text}
+use Rattle.value_grammar.proofs.Goes.{G, free, along, cons, cons_at, due_step, join, nothing, one, to}
+use Rattle.value_grammar.proofs.GoesCells.{Begins, cell_goes, one_cell, rest_begins}
+
+-- inside any values, where there is room
+abbrev pub AnyValue : Plain → Type 0
+AnyValue v = (below : List Frame) (m k : ℕ) → length below + levels v ≤ most_levels → m + parts v ≤ most_parts → k + cells_in v ≤ most_cells
+    → G (at due below) m k (tokens v) (give v below) (m + parts v) (k + cells_in v)
+
+abbrev pub AnyValues : Plains → Type 0
+AnyValues no_vals = Unit {0}
+AnyValues (a_val v vs) = AnyValue v × AnyValues vs
+
+abbrev pub AnyPairs : PlainPairs → Type 0
+AnyPairs no_pairs = Unit {0}
+AnyPairs (a_pair x v ps) = AnyValue v × AnyPairs ps
+
+-- ---- a token with which a value begins
+
+-- a value of one token
+pub leaf : (v : Plain) (t : Token) (below : List Frame) (m k : ℕ) → begins_value (lexeme_of t) ≡ true → (is_beyond (lexeme_of t) ≡ false)
+    → (is_paren (lexeme_of t) ≡ false) → ((p : ℕ) → begin (lexeme_of t) p below ≡ Ok (give v below)) → length below + 1 ≤ most_levels
+    → m + 1 ≤ most_parts → G (at due below) m k (t ∷ []) (give v below) (m + 1) (k + 0)
+leaf v t below m k b c d f l p =
+    to (at due below) m k (t ∷ []) (give v below) (give v below) (m + 1) k (m + 1) (k + 0) refl refl (omega arith)
+    (one (at due below) m k t (give v below) (m + 1) k
+    (λ x. due_step (lexeme_of t) x below m k false b c d (λ h. absurd (cc)) l p ∙ ap (λ (r : Outcome). counted r (m + 1) k) (f x)))
+
+-- ---- records
+
+-- names beside values
+abbrev pub zipped : List (List ℕ) → Plains → List (List ℕ × Plain)
+zipped names no_vals = []
+zipped [] (a_val v vs) = []
+zipped (x ∷ names) (a_val v vs) = (x, v) ∷ zipped names vs
+
+zipped_names : (names : List (List ℕ)) (vs : Plains) → AreFields names vs → names_in (zipped names vs) ≡ names
+zipped_names [] no_vals h = refl
+zipped_names (x ∷ names) no_vals h = absurd h
+zipped_names [] (a_val v vs) h = absurd h
+zipped_names (x ∷ names) (a_val v vs) h = ap (λ (l : List (List ℕ)). x ∷ l) (zipped_names names vs h.2)
+
+zipped_vals : (names : List (List ℕ)) (vs : Plains) → AreFields names vs → vals_in (zipped names vs) ≡ vs
+zipped_vals [] no_vals h = refl
+zipped_vals (x ∷ names) no_vals h = absurd h
+zipped_vals [] (a_val v vs) h = absurd h
+zipped_vals (x ∷ names) (a_val v vs) h = ap (λ (l : Plains). a_val v l) (zipped_vals names vs h.2)
+
+same_record : (n : Option (List ℕ)) (names : List (List ℕ)) (vs : Plains) → AreFields names vs → the_record n (zipped names vs) ≡ record_of n names vs
+same_record n names vs h = let e = zipped_names names vs h in let f = zipped_vals names vs h in (λ i. record_of n (e i) (f i))
+
+-- a field's name, its colon and its value
+field_goes : (o : Open) (n : Option (List ℕ)) (fs : List (List ℕ × Plain)) (x : List ℕ) (v : Plain) (below : List Frame) (m k : ℕ) → AnyValue v
+    → ((p : ℕ) → step (held_of o m k) (p, Name x) ≡ Ok (held_of (at (labelled n fs x) below) m k))
+    → length below + 1 + levels v ≤ most_levels → m + parts v ≤ most_parts → k + cells_in v ≤ most_cells
+    → G o m k (name x ∷ mark 58 ∷ tokens v) (at (after_field n (fs ++ (x, v) ∷ [])) below) (m + parts v) (k + cells_in v)
+field_goes o n fs x v below m k a f l p c =
+    cons o m k (name x) (mark 58 ∷ tokens v) (at (after_field n (fs ++ (x, v) ∷ [])) below) (m + parts v) (k + cells_in v) (at (labelled n fs x) below) m k f
+    (cons (at (labelled n fs x) below) m k (mark 58) (tokens v) (at (after_field n (fs ++ (x, v) ∷ [])) below) (m + parts v) (k + cells_in v)
+    (at due (field n fs x ∷ below)) m k (λ y. refl) (a (field n fs x ∷ below) m k (omega (arith, l)) p c))
+
+more_fields : (names : List (List ℕ)) (vs : Plains) (n : Option (List ℕ)) (fs : List (List ℕ × Plain)) (below : List Frame) (m k : ℕ) → AnyValues vs → AreFields names vs
+    → length below + 1 + levels_in vs ≤ most_levels → m + parts_in vs ≤ most_parts → k + cells_of vs ≤ most_cells
+    → G (at (after_field n fs) below) m k (text.more (fields names vs) ++ mark 125 ∷ []) (give (the_record n (fs ++ zipped names vs)) below) (m + parts_in vs) (k + cells_of vs)
+more_fields names no_vals n fs below m k a h l p c =
+    to (at (after_field n fs) below) m k (mark 125 ∷ []) (give (the_record n fs) below) (give (the_record n (fs ++ [])) below) m k (m + 0) (k + 0)
+    (ap (λ (gs : List (List ℕ × Plain)). give (the_record n gs) below) (sym (append-nil fs))) (omega arith) (omega arith)
+    (one (at (after_field n fs) below) m k (mark 125) (give (the_record n fs) below) m k (λ x. refl))
+more_fields [] (a_val v vs) n fs below m k a h l p c = absurd h
+more_fields (x ∷ names) (a_val v vs) n fs below m k a h l p c =
+    let e : List Token = name x ∷ mark 58 ∷ tokens v in
+    let es : List Token = text.more (fields names vs) in
+    let q : Open = give (the_record n ((fs ++ (x, v) ∷ []) ++ zipped names vs)) below in
+    to (at (after_field n fs) below) m k ((mark 44 ∷ e ++ es) ++ mark 125 ∷ []) q (give (the_record n (fs ++ (x, v) ∷ zipped names vs)) below)
+    (m + parts v + parts_in vs) (k + cells_in v + cells_of vs) (m + (parts v + parts_in vs)) (k + (cells_in v + cells_of vs))
+    (ap (λ (gs : List (List ℕ × Plain)). give (the_record n gs) below) (append_assoc fs ((x, v) ∷ []) (zipped names vs))) (omega arith) (omega arith)
+    (along (at (after_field n fs) below) m k (mark 44 ∷ (e ++ (es ++ mark 125 ∷ []))) ((mark 44 ∷ e ++ es) ++ mark 125 ∷ []) q (m + parts v + parts_in vs) (k + cells_in v + cells_of vs)
+    (ap (λ (ts : List Token). mark 44 ∷ ts) (sym (append_assoc e es (mark 125 ∷ []))))
+    (cons (at (after_field n fs) below) m k (mark 44) (e ++ (es ++ mark 125 ∷ [])) q (m + parts v + parts_in vs) (k + cells_in v + cells_of vs) (at (field_due n fs) below) m k (λ y. refl)
+    (join (at (field_due n fs) below) m k e (at (after_field n (fs ++ (x, v) ∷ [])) below) (m + parts v) (k + cells_in v) (es ++ mark 125 ∷ []) q (m + parts v + parts_in vs) (k + cells_in v + cells_of vs)
+    (field_goes (at (field_due n fs) below) n fs x v below m k a.0 (λ y. refl) (omega (arith, l)) (omega (arith, p)) (omega (arith, c)))
+    (more_fields names vs n (fs ++ (x, v) ∷ []) below (m + parts v) (k + cells_in v) a.1 h.2 (omega (arith, l)) (omega (arith, p)) (omega (arith, c))))))
+
+fields_go : (names : List (List ℕ)) (vs : Plains) (n : Option (List ℕ)) (below : List Frame) (m k : ℕ) → AnyValues vs → AreFields names vs
+    → length below + 1 + levels_in vs ≤ most_levels → m + parts_in vs ≤ most_parts → k + cells_of vs ≤ most_cells
+    → G (at (field_or_end n) below) m k (separated (fields names vs) ++ mark 125 ∷ []) (give (the_record n (zipped names vs)) below) (m + parts_in vs) (k + cells_of vs)
+fields_go names no_vals n below m k a h l p c =
+    to (at (field_or_end n) below) m k (mark 125 ∷ []) (give (the_record n []) below) (give (the_record n []) below) m k (m + 0) (k + 0) refl (omega arith) (omega arith)
+    (one (at (field_or_end n) below) m k (mark 125) (give (the_record n []) below) m k (λ x. refl))
+fields_go [] (a_val v vs) n below m k a h l p c = absurd h
+fields_go (x ∷ names) (a_val v vs) n below m k a h l p c =
+    let e : List Token = name x ∷ mark 58 ∷ tokens v in
+    let es : List Token = text.more (fields names vs) in
+    let q : Open = give (the_record n ((x, v) ∷ zipped names vs)) below in
+    to (at (field_or_end n) below) m k ((e ++ es) ++ mark 125 ∷ []) q q (m + parts v + parts_in vs) (k + cells_in v + cells_of vs) (m + (parts v + parts_in vs)) (k + (cells_in v + cells_of vs))
+    refl (omega arith) (omega arith)
+    (along (at (field_or_end n) below) m k (e ++ (es ++ mark 125 ∷ [])) ((e ++ es) ++ mark 125 ∷ []) q (m + parts v + parts_in vs) (k + cells_in v + cells_of vs)
+    (sym (append_assoc e es (mark 125 ∷ [])))
+    (join (at (field_or_end n) below) m k e (at (after_field n ((x, v) ∷ [])) below) (m + parts v) (k + cells_in v) (es ++ mark 125 ∷ []) q (m + parts v + parts_in vs) (k + cells_in v + cells_of vs)
+    (field_goes (at (field_or_end n) below) n [] x v below m k a.0 (λ y. refl) (omega (arith, l)) (omega (arith, p)) (omega (arith, c)))
+    (more_fields names vs n ((x, v) ∷ []) below (m + parts v) (k + cells_in v) a.1 h.2 (omega (arith, l)) (omega (arith, p)) (omega (arith, c)))))
+
+brace_goes : (names : List (List ℕ)) (vs : Plains) (n : Option (List ℕ)) (o : Open) (below : List Frame) (m i k : ℕ) → AnyValues vs → AreFields names vs
+    → ((p : ℕ) → step (held_of o m k) (p, ASign OpenBrace) ≡ Ok (held_of (at (field_or_end n) below) i k))
+    → length below + 1 + levels_in vs ≤ most_levels → i + parts_in vs ≤ most_parts → k + cells_of vs ≤ most_cells
+    → G o m k (mark 123 ∷ (separated (fields names vs) ++ mark 125 ∷ [])) (give (record_of n names vs) below) (i + parts_in vs) (k + cells_of vs)
+brace_goes names vs n o below m i k a h f l p c =
+    cons o m k (mark 123) (separated (fields names vs) ++ mark 125 ∷ []) (give (record_of n names vs) below) (i + parts_in vs) (k + cells_of vs) (at (field_or_end n) below) i k f
+    (to (at (field_or_end n) below) i k (separated (fields names vs) ++ mark 125 ∷ []) (give (the_record n (zipped names vs)) below) (give (record_of n names vs) below)
+    (i + parts_in vs) (k + cells_of vs) (i + parts_in vs) (k + cells_of vs) (ap (λ (v : Plain). give v below) (same_record n names vs h)) refl refl
+    (fields_go names vs n below i k a h l p c))
+
+not_x : (b : Bool) → IsTrue (not b) → b ≡ false
+not_x true h = absurd (cc)
+not_x false h = refl
+
+pub record_goes : (n : Option (List ℕ)) (names : List (List ℕ)) (vs : Plains) → IsRecordName n → AreFields names vs → AnyValues vs → AnyValue (record_of n names vs)
+record_goes None names vs r h a below m k l p c =
+    to (at due below) m k (tokens (record_of None names vs)) (give (record_of None names vs) below) (give (record_of None names vs) below) (m + 1 + parts_in vs) (k + cells_of vs)
+    (m + (1 + parts_in vs)) (k + cells_of vs) refl (omega arith) refl
+    (brace_goes names vs None (at due below) below m (m + 1) k a h
+    (λ x. due_step (ASign OpenBrace) x below m k false refl refl refl (λ e. absurd (cc)) (omega (arith, l)) (omega (arith, p))) (omega (arith, l)) (omega (arith, p)) (omega (arith, c)))
+record_goes (Some x) names vs r h a below m k l p c =
+    let no : bytes_eq x (codes "x") ≡ false = not_x (bytes_eq x (codes "x")) r.1 in
+    to (at due below) m k (tokens (record_of (Some x) names vs)) (give (record_of (Some x) names vs) below) (give (record_of (Some x) names vs) below) (m + 1 + parts_in vs) (k + cells_of vs)
+    (m + (1 + parts_in vs)) (k + cells_of vs) refl (omega arith) refl
+    (cons (at due below) m k (name x) (mark 123 ∷ (separated (fields names vs) ++ mark 125 ∷ [])) (give (record_of (Some x) names vs) below) (m + 1 + parts_in vs) (k + cells_of vs)
+    (at (named x) below) (m + 1) k
+    (λ y. due_step (Name x) y below m k false (ap not no) refl refl (λ e. absurd (cc)) (omega (arith, l)) (omega (arith, p))
+    ∙ ap (λ (b : Bool). counted (if b then no_go y else Ok (at (named x) below)) (m + 1) k) no)
+    (brace_goes names vs (Some x) (at (named x) below) below (m + 1) (m + 1) k a h (λ y. refl) (omega (arith, l)) (omega (arith, p)) (omega (arith, c))))
+
+-- ---- lists
+
+abbrev pub listed : Plains → List Plain
+listed no_vals = []
+listed (a_val v vs) = v ∷ listed vs
+
+listed_vals : (vs : Plains) → vals_of (listed vs) ≡ vs
+listed_vals no_vals = refl
+listed_vals (a_val v vs) = ap (λ (l : Plains). a_val v l) (listed_vals vs)
+
+more_items : (vs : Plains) (is : List Plain) (below : List Frame) (m k : ℕ) → AnyValues vs → length below + 1 + levels_in vs ≤ most_levels → m + parts_in vs ≤ most_parts
+    → k + cells_of vs ≤ most_cells
+    → G (at (after_item is) below) m k (text.more (items vs) ++ mark 93 ∷ []) (give (list_of (vals_of (is ++ listed vs))) below) (m + parts_in vs) (k + cells_of vs)
+more_items no_vals is below m k a l p c =
+    to (at (after_item is) below) m k (mark 93 ∷ []) (give (list_of (vals_of is)) below) (give (list_of (vals_of (is ++ []))) below) m k (m + 0) (k + 0)
+    (ap (λ (js : List Plain). give (list_of (vals_of js)) below) (sym (append-nil is))) (omega arith) (omega arith)
+    (one (at (after_item is) below) m k (mark 93) (give (list_of (vals_of is)) below) m k (λ x. refl))
+more_items (a_val v vs) is below m k a l p c =
+    let e : List Token = tokens v in
+    let es : List Token = text.more (items vs) in
+    let q : Open = give (list_of (vals_of ((is ++ v ∷ []) ++ listed vs))) below in
+    to (at (after_item is) below) m k ((mark 44 ∷ e ++ es) ++ mark 93 ∷ []) q (give (list_of (vals_of (is ++ v ∷ listed vs))) below)
+    (m + parts v + parts_in vs) (k + cells_in v + cells_of vs) (m + (parts v + parts_in vs)) (k + (cells_in v + cells_of vs))
+    (ap (λ (js : List Plain). give (list_of (vals_of js)) below) (append_assoc is (v ∷ []) (listed vs))) (omega arith) (omega arith)
+    (along (at (after_item is) below) m k (mark 44 ∷ (e ++ (es ++ mark 93 ∷ []))) ((mark 44 ∷ e ++ es) ++ mark 93 ∷ []) q (m + parts v + parts_in vs) (k + cells_in v + cells_of vs)
+    (ap (λ (ts : List Token). mark 44 ∷ ts) (sym (append_assoc e es (mark 93 ∷ []))))
+    (cons (at (after_item is) below) m k (mark 44) (e ++ (es ++ mark 93 ∷ [])) q (m + parts v + parts_in vs) (k + cells_in v + cells_of vs) (at due (item is ∷ below)) m k (λ y. refl)
+    (join (at due (item is ∷ below)) m k e (at (after_item (is ++ v ∷ [])) below) (m + parts v) (k + cells_in v) (es ++ mark 93 ∷ []) q (m + parts v + parts_in vs) (k + cells_in v + cells_of vs)
+    (a.0 (item is ∷ below) m k (omega (arith, l)) (omega (arith, p)) (omega (arith, c)))
+    (more_items vs (is ++ v ∷ []) below (m + parts v) (k + cells_in v) a.1 (omega (arith, l)) (omega (arith, p)) (omega (arith, c))))))
+
+first_is : (l m : Lexeme) (ls ms : List Lexeme) → l ∷ ls ≡ m ∷ ms → l ≡ m
+first_is l m ls ms e = cc
+
+-- after a `[` a value begins as it does where one is due
+begins_so : (t : Token) (ts : List Token) (below : List Frame) (m k : ℕ) (q : Open) (i j : ℕ)
+    → ((p : ℕ) → step (held_of (at item_or_end below) m k) (p, lexeme_of t) ≡ step (held_of (at due (item [] ∷ below)) m k) (p, lexeme_of t))
+    → G (at due (item [] ∷ below)) m k (t ∷ ts) q i j → G (at item_or_end below) m k (t ∷ ts) q i j
+begins_so t ts below m k q i j f g [] after e = absurd (cc)
+begins_so t ts below m k q i j f g (l ∷ ls) after e =
+    let same = first_is l.1 (lexeme_of t) (lexemes ls) (map lexeme_of ts) e in
+    let further : Stepped → Stepped = λ r. and_then r (λ next. run next (ls ++ after)) in
+    ap (λ (x : Lexeme). further (step (held_of (at item_or_end below) m k) (l.0, x))) same
+    ∙ ap further (f l.0)
+    ∙ ap (λ (x : Lexeme). further (step (held_of (at due (item [] ∷ below)) m k) (l.0, x))) (sym same)
+    ∙ g (l ∷ ls) after e
+
+cell_first : (exotic : Bool) (bs : List ℕ) (cs : List Tree) (below : List Frame) (m k : ℕ) (q : Open) (i j : ℕ)
+    → G (at due (item [] ∷ below)) m k ((bang exotic ++ body_text bs cs) ++ mark 41 ∷ []) q i j → G (at item_or_end below) m k ((bang exotic ++ body_text bs cs) ++ mark 41 ∷ []) q i j
+cell_first true bs cs below m k q i j g = begins_so (mark 33) (body_text bs cs ++ mark 41 ∷ []) below m k q i j (λ p. refl) g
+cell_first false bs cs below m k q i j g = begins_so (mark 40) (bits bs ∷ text.more (map cell cs) ++ mark 41 ∷ []) below m k q i j (λ p. refl) g
+
+tree_first : (kind : Kind) (bs : List ℕ) (cs : List Tree) (below : List Frame) (m k : ℕ) (q : Open) (i j : ℕ)
+    → G (at due (item [] ∷ below)) m k (cell (tree_of kind bs cs)) q i j → G (at item_or_end below) m k (cell (tree_of kind bs cs)) q i j
+tree_first kind bs cs below m k q i j g =
+    let e = cell_text (is_exotic kind) kind bs cs refl in
+    along (at item_or_end below) m k ((bang (is_exotic kind) ++ body_text bs cs) ++ mark 41 ∷ []) (cell (tree_of kind bs cs)) q i j (sym e)
+    (cell_first (is_exotic kind) bs cs below m k q i j (along (at due (item [] ∷ below)) m k (cell (tree_of kind bs cs)) ((bang (is_exotic kind) ++ body_text bs cs) ++ mark 41 ∷ []) q i j e g))
+
+value_first : (v : Plain) (below : List Frame) (m k : ℕ) (q : Open) (i j : ℕ) → G (at due (item [] ∷ below)) m k (tokens v) q i j → G (at item_or_end below) m k (tokens v) q i j
+value_first (number negative size) below m k q i j g = begins_so (token.number negative size) [] below m k q i j (λ p. refl) g
+value_first (bit_string bs) below m k q i j g = begins_so (bits bs) [] below m k q i j (λ p. refl) g
+value_first (record_of None names vs) below m k q i j g = begins_so (mark 123) (separated (fields names vs) ++ mark 125 ∷ []) below m k q i j (λ p. refl) g
+value_first (record_of (Some x) names vs) below m k q i j g = begins_so (name x) (mark 123 ∷ (separated (fields names vs) ++ mark 125 ∷ [])) below m k q i j (λ p. refl) g
+value_first absent below m k q i j g = begins_so (mark 126) [] below m k q i j (λ p. refl) g
+value_first (list_of vs) below m k q i j g = begins_so (mark 91) (separated (items vs) ++ mark 93 ∷ []) below m k q i j (λ p. refl) g
+value_first (ref_to a v) below m k q i j g = begins_so (mark 94) (tokens v) below m k q i j (λ p. refl) g
+value_first (unknown h) below m k q i j g = begins_so (hidden h) [] below m k q i j (λ p. refl) g
+value_first (map_of a ps us) below m k q i j g = begins_so (mark 60) (separated (entries ps us) ++ mark 62 ∷ []) below m k q i j (λ p. refl) g
+value_first (raw c) below m k q i j g =
+    let e = tree_of-out c in
+    let P : Tree → Type 0 = λ t. G (at item_or_end below) m k (cell t) q i j in
+    let Q : Tree → Type 0 = λ t. G (at due (item [] ∷ below)) m k (cell t) q i j in
+    subst P e (tree_first (out-Tree c).kind (out-Tree c).bits (out-Tree c).children below m k q i j (subst Q (sym e) g))
+value_first (rest s) below m k q i j g = begins_so (mark 37) (text.body s.bits (map cell s.refs)) below m k q i j (λ p. refl) g
+
+and_false : (a : Bool) → (a && false) ≡ false
+and_false true = refl
+and_false false = refl
+
+-- an empty list
+end_step : (below : List Frame) (m k x : ℕ) → step (held_of (at item_or_end below) m k) (x, ASign CloseBracket) ≡ Ok (held_of (give (list_of no_vals) below) m k)
+end_step below m k x =
+    let lim : limit_of m k item_or_end below (ASign CloseBracket) ≡ None =
+    free m k item_or_end below (ASign CloseBracket) (and_false (nat_le most_levels (suc (length below)))) refl refl refl in
+    (λ i. counted (unless_limit (lim i) x (Ok (give (list_of no_vals) below))) m k)
+
+items_go : (vs : Plains) (below : List Frame) (m k : ℕ) → AnyValues vs → length below + 1 + levels_in vs ≤ most_levels → m + parts_in vs ≤ most_parts → k + cells_of vs ≤ most_cells
+    → G (at item_or_end below) m k (separated (items vs) ++ mark 93 ∷ []) (give (list_of (vals_of (listed vs))) below) (m + parts_in vs) (k + cells_of vs)
+items_go no_vals below m k a l p c =
+    to (at item_or_end below) m k (mark 93 ∷ []) (give (list_of no_vals) below) (give (list_of no_vals) below) m k (m + 0) (k + 0) refl (omega arith) (omega arith)
+    (one (at item_or_end below) m k (mark 93) (give (list_of no_vals) below) m k (end_step below m k))
+items_go (a_val v vs) below m k a l p c =
+    let e : List Token = tokens v in
+    let es : List Token = text.more (items vs) in
+    let q : Open = give (list_of (vals_of (v ∷ listed vs))) below in
+    to (at item_or_end below) m k ((e ++ es) ++ mark 93 ∷ []) q q (m + parts v + parts_in vs) (k + cells_in v + cells_of vs) (m + (parts v + parts_in vs)) (k + (cells_in v + cells_of vs))
+    refl (omega arith) (omega arith)
+    (along (at item_or_end below) m k (e ++ (es ++ mark 93 ∷ [])) ((e ++ es) ++ mark 93 ∷ []) q (m + parts v + parts_in vs) (k + cells_in v + cells_of vs)
+    (sym (append_assoc e es (mark 93 ∷ [])))
+    (join (at item_or_end below) m k e (at (after_item (v ∷ [])) below) (m + parts v) (k + cells_in v) (es ++ mark 93 ∷ []) q (m + parts v + parts_in vs) (k + cells_in v + cells_of vs)
+    (value_first v below m k (at (after_item (v ∷ [])) below) (m + parts v) (k + cells_in v) (a.0 (item [] ∷ below) m k (omega (arith, l)) (omega (arith, p)) (omega (arith, c))))
+    (more_items vs (v ∷ []) below (m + parts v) (k + cells_in v) a.1 (omega (arith, l)) (omega (arith, p)) (omega (arith, c)))))
+
+pub list_goes : (vs : Plains) → AnyValues vs → AnyValue (list_of vs)
+list_goes vs a below m k l p c =
+    to (at due below) m k (tokens (list_of vs)) (give (list_of (vals_of (listed vs))) below) (give (list_of vs) below) (m + 1 + parts_in vs) (k + cells_of vs) (m + (1 + parts_in vs)) (k + cells_of vs)
+    (ap (λ (us : Plains). give (list_of us) below) (listed_vals vs)) (omega arith) refl
+    (cons (at due below) m k (mark 91) (separated (items vs) ++ mark 93 ∷ []) (give (list_of (vals_of (listed vs))) below) (m + 1 + parts_in vs) (k + cells_of vs) (at item_or_end below) (m + 1) k
+    (λ x. due_step (ASign OpenBracket) x below m k false refl refl refl (λ e. absurd (cc)) (omega (arith, l)) (omega (arith, p)))
+    (items_go vs below (m + 1) k a (omega (arith, l)) (omega (arith, p)) (omega (arith, c))))
