@@ -18,6 +18,8 @@ mod names;
 #[cfg(test)]
 mod numbers;
 #[cfg(test)]
+mod parsed_texts;
+#[cfg(test)]
 mod pools;
 #[cfg(test)]
 mod values;

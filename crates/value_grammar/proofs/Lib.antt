@@ -1,0 +1,14 @@
+mod ShapeSteps
+mod ShapeRuns
+mod ShapeLeft
+mod Texts
+mod Adds
+mod Orders
+mod Keys
+mod Kept
+mod KeptCells
+mod Counts
+mod Sound
+mod Tied
+mod Parens
+mod First

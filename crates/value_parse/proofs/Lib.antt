@@ -1,0 +1,4 @@
+pub mod Views
+pub mod Depths
+pub mod Reach
+pub mod Keys
