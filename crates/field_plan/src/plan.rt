@@ -22,8 +22,8 @@ use std::marker::Model;
 use tag_ambiguity::Accepted;
 use tlb_memory::NoMemory;
 
-/// The plan of an accepted schema. Contracts see it as the schema, the lists, and what each constructor has beside them,
-/// in the schema's order, which numbers constructors from 0.
+/// The plan of an accepted schema. Contracts see it as the schema, the lists, and what each constructor has beside
+/// them, in the schema's order, which numbers constructors from 0.
 #[derive(Drop)]
 pub struct Plan {
     accepted: Accepted,
