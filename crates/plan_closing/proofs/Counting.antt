@@ -1,14 +1,12 @@
 -- Turns of the loops that count nodes.
-use Rattle.std.proofs.Common.{◌≡◌, ℕ, ◌+◌, ◌<◌, ◌≤◌, List, [], ◌∷◌, ◌++◌, Option, Some, None, refl, ap, sym, ◌∙◌}
-use Rattle.std.proofs.Common.{subst, drop, length, get_or, arith}
-use Rattle.std.specs.Prelude.{option_to_list}
-use Rattle.std.proofs.lemmas.List.{at_drop_more, at_drop_all}
+use Rattle.std.proofs.Common.{◌≡◌, ℕ, ◌+◌, ◌<◌, List, ◌∷◌, Option, Some, None, refl, ap, sym, ◌∙◌}
+use Rattle.std.proofs.Common.{subst, drop, length, get_or}
+use Rattle.std.proofs.lemmas.List.{at_drop_more}
 use Rattle.nat_solver.specs.Number.{value}
 use Rattle.core_form.specs.Core.{Args}
-use Rattle.core_form.specs.Closed.{Closed, ClosedArgs, no_args, nodes, arg_nodes}
+use Rattle.core_form.specs.Closed.{Closed, ClosedArgs, nodes, arg_nodes}
 use Rattle.core_form.specs.Closing.{closing, closing_args, and_number, and_type}
 use Rattle.core_form.specs.Scope.{Scope}
-use Rattle.closed_type.specs.View.{AnArg, number, type, onto, joined}
 use Rattle.closed_type.specs.Nodes.{more}
 use Rattle.closed_type.specs.NodeLaws.{more_more}
 use Rattle.flat_form.specs.declared.lists.Flat.{Flat}
@@ -16,8 +14,7 @@ use Rattle.flat_form.specs.declared.lists.PlanArg.{PlanArg}
 use Rattle.flat_form.specs.declared.lists.PlanArg.TheVariants.{Nat, Ty, Out}
 use Rattle.flat_form.specs.Stands.{expr_at, args_in, arg_onto, type_at}
 use Rattle.flat_form.specs.Sound.{ArgsAreSound, ArgIsSound}
-use Rattle.plan_closing.specs.Counted.{counted, counted_args, counted_number, counted_arg, closed_alone}
-use Rattle.plan_closing.specs.Counted.{number_alone, type_alone}
+use Rattle.plan_closing.specs.Counted.{counted, counted_args, counted_number, counted_arg}
 
 number_counted : (n : Option ℕ) (count new : ℕ) (rest : Option ClosedArgs) → counted_number count n ≡ Some new → counted_args new rest ≡ counted_args count (and_number n rest)
 number_counted None count new rest e = cc

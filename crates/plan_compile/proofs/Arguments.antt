@@ -17,7 +17,7 @@ use Rattle.core_form.specs.Core.{Ty, Args}
 use Rattle.core_form.specs.Core as core
 use Rattle.schema_core.specs.Names.{Names, Variable, a_number, a_type, other}
 use Rattle.schema_core.specs.Numbers.{named_number}
-use Rattle.schema_core.specs.CoreOf.{alone, args_of, no_meaning, onto_out, type_of, body_of, under_ref}
+use Rattle.schema_core.specs.CoreOf.{alone, args_of, no_meaning, onto_out, type_of}
 use Rattle.flat_form.specs.Parts.{append_args}
 use Rattle.plan_compile.specs.Applied.{applied_to, arg_of, hiding, second_type}
 

@@ -1,14 +1,14 @@
 -- Turns of the loops over the parameters of a result.
-use Rattle.std.proofs.Common.{◌≡◌, ℕ, ◌+◌, ◌<◌, ◌≤◌, List, [], ◌∷◌, ◌++◌, Option, Some, None, refl, ap, sym, ◌∙◌, subst, drop}
+use Rattle.std.proofs.Common.{◌≡◌, ℕ, ◌+◌, ◌<◌, ◌≤◌, List, [], ◌∷◌, ◌++◌, refl, ap, sym, ◌∙◌, subst, drop}
 use Rattle.std.proofs.Common.{length, get_or, map, append_assoc, ◌↔◌, Bool, true, false}
-use Rattle.std.specs.Prelude.{All, IsTrue, option_to_list}
+use Rattle.std.specs.Prelude.{All, IsTrue}
 use Rattle.std.proofs.lemmas.List.{append-nil}
 use Rattle.std.proofs.lemmas.List.Elements.{All-append, All-cons, All-head, All-nil, All-tail}
 use Rattle.nat_solver.specs.Number.{Expr as NumberExpr}
 use Rattle.tlb_syntax.specs.declared.tree.Expr.{Expr}
 use Rattle.tlb_syntax.specs.declared.tree.Expr.TheVariants.{Named, Sum}
 use Rattle.tlb_syntax.specs.View.{expr as expr_view, exprs as exprs_view}
-use Rattle.tlb_syntax.specs.Tree.{ExprView, an_expr, named, plus, nested}
+use Rattle.tlb_syntax.specs.Tree.{ExprView, named, plus, nested}
 use Rattle.kind_terms.specs.Params.{bare_name}
 use Rattle.kind_terms.specs.SumLaws.{at_sum, expr_of_sum}
 use Rattle.kind_terms.specs.ViewLaws.{drop_at, drop_end, seen_named}

@@ -1,7 +1,6 @@
 -- Turns of the loop over constructors.
 use Rattle.std.proofs.Common.{◌≡◌, ℕ, suc, zero, ◌+◌, ◌<◌, ◌≤◌, List, [], ◌∷◌, ◌++◌, None, refl, ap, sym, ◌∙◌, subst, map}
-use Rattle.std.proofs.Common.{take, drop, length, get_or, arith}
-use Rattle.std.specs.Prelude.{All}
+use Rattle.std.proofs.Common.{take, length, get_or, arith}
 use Rattle.std.proofs.lemmas.Grind.{common_steps}
 use Rattle.tlb_syntax.specs.Tree.{ConstructorView, SchemaView}
 use Rattle.tlb_syntax.specs.View.{constructor, exprs as exprs_view, items as items_view}
@@ -11,15 +10,14 @@ use Rattle.schema_core.specs.Names.{Names}
 use Rattle.plan_compile.specs.Views.{names_by}
 use Rattle.plan_compile.specs.declared.names.InScope.{InScope}
 use Rattle.tlb_syntax.specs.declared.tree.Constructor.{Constructor}
-use Rattle.core_form.specs.Core.{Constructor as CoreConstructor, Input}
-use Rattle.nat_solver.specs.Number.{Expr}
+use Rattle.core_form.specs.Core.{Constructor as CoreConstructor}
 use Rattle.schema_core.specs.CoreOf.{core_of, inputs_of, items_of, names_after, names_at_result, outputs_of}
 use Rattle.schema_core.specs.Slots.{slots_in}
 use Rattle.flat_form.specs.declared.lists.Flat.{Flat}
 use Rattle.flat_form.specs.declared.lists.PlanOp.{PlanOp}
 use Rattle.flat_form.specs.declared.lists.ConstructorPlan.{ConstructorPlan}
-use Rattle.flat_form.specs.Stands.{expr_at, input_of, items_in, range, record_at, type_at}
-use Rattle.flat_form.specs.Sound.{IsFlat, IsPlainNumber, IsRange, OpsAreSound}
+use Rattle.flat_form.specs.Stands.{input_of, items_in, range, type_at}
+use Rattle.flat_form.specs.Sound.{IsFlat, OpsAreSound}
 use Rattle.flat_form.specs.Growth.{Adds}
 use Rattle.flat_form.specs.Parts.{AreOps, items_so_far}
 use Rattle.flat_form.specs.Entries.{StandsFor}

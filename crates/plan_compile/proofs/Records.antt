@@ -1,12 +1,12 @@
 -- Turns of the loop over a record's items.
-use Rattle.std.proofs.Common.{◌≡◌, ℕ, ◌+◌, ◌<◌, ◌≤◌, List, [], ◌∷◌, ◌++◌, Option, Some, None, refl, ap, sym, ◌∙◌, drop, length}
+use Rattle.std.proofs.Common.{◌≡◌, ℕ, ◌+◌, ◌<◌, ◌≤◌, List, ◌∷◌, ◌++◌, Option, Some, None, refl, ap, sym, ◌∙◌, drop, length}
 use Rattle.std.proofs.Common.{get_or, map, arith}
 use Rattle.std.proofs.lemmas.List.{at_drop_more, at_drop_all}
 use Rattle.core_form.specs.Core.{Item, Items, no_items, an_item}
 use Rattle.tlb_syntax.specs.declared.tree.Item.{Item as Term}
 use Rattle.tlb_syntax.specs.declared.tree.Expr.{Expr}
 use Rattle.tlb_syntax.specs.declared.tree.Expr.TheVariants.{Sum}
-use Rattle.tlb_syntax.specs.Tree.{ItemView, ItemList, SchemaView}
+use Rattle.tlb_syntax.specs.Tree.{SchemaView}
 use Rattle.tlb_syntax.specs.View.{item as item_view, items as items_view, expr as expr_view}
 use Rattle.kind_terms.specs.Positions.{is_unnamed}
 use Rattle.kind_terms.specs.SumLaws.{at_sum, expr_of_sum}

@@ -1,8 +1,7 @@
 -- Numbers with slots for names.
-use Rattle.std.proofs.Common.{◌≡◌, ℕ, ◌<◌, ◌≤◌, ◌-◌, ◌^◌, List, [], ◌∷◌, ◌++◌, Option, Some, None, refl, ap, sym, ◌∙◌, map}
+use Rattle.std.proofs.Common.{◌≡◌, ℕ, ◌≤◌, ◌-◌, ◌^◌, List, [], ◌∷◌, ◌++◌, Option, Some, None, refl, ap, sym, ◌∙◌, map}
 use Rattle.std.proofs.Common.{arith, Bool, true, false, ◌↔◌}
 use Rattle.std.specs.Prelude.{IsTrue, min, option_map, if◌then◌else◌}
-use Rattle.nat_solver.specs.declared.compare.Op.{Op}
 use Rattle.nat_solver.specs.declared.expr.NatExpr.{NatExpr, fold-roll-NatExpr}
 use Rattle.nat_solver.specs.declared.expr.NatExpr.TheVariants.{Sum, rolls-Sum}
 use Rattle.nat_solver.specs.declared.expr.NatExpr.TheOpen.{Sum as SumPart}

@@ -1,5 +1,5 @@
 -- A name with arguments as a type, and its arguments one by one.
-use Rattle.std.specs.Prelude.{ℕ, List, [], ◌∷◌, Option, Some, None}
+use Rattle.std.specs.Prelude.{Option, None}
 use Rattle.tlb_syntax.specs.Tree.{ExprView, ExprList, SchemaView, no_exprs, an_expr}
 use Rattle.kind_terms.specs.declared.kind.TermKind.{TermKind}
 use Rattle.kind_terms.specs.declared.kind.TermKind.TheVariants.{NumberIn, TypeIn, NumberOut, NoKind}

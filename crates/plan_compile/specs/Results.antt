@@ -1,5 +1,5 @@
 -- Outputs of a result, as numbers of expressions.
-use Rattle.std.specs.Prelude.{ℕ, ◌≡◌, List, [], All, map, Option, option_map, option_to_list}
+use Rattle.std.specs.Prelude.{ℕ, ◌≡◌, List, All, map, Option, option_to_list}
 use Rattle.nat_solver.specs.Number.{Expr}
 use Rattle.flat_form.specs.declared.lists.Flat.{Flat}
 use Rattle.flat_form.specs.Stands.{expr_at}

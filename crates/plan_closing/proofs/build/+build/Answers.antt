@@ -1,4 +1,4 @@
-use Rattle.std.proofs.Common.{◌≡◌, map, refl}
+use Rattle.std.proofs.Common.{map, refl}
 use Rattle.flat_form.specs.declared.lists.PlanArg.TheVariants.{Nat}
 use Rattle.plan_closing.proofs.Building.{build_turn, build_done}
 use Rattle.plan_closing.proofs.Counting.{first_sound}

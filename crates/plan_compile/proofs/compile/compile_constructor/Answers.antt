@@ -1,7 +1,6 @@
-use Rattle.std.proofs.Common.{◌≡◌, [], ap, map, ◌∙◌, ◌+◌}
+use Rattle.std.proofs.Common.{[], ap, map, ◌∙◌, ◌+◌}
 use Rattle.tlb_syntax.specs.View.{constructor, exprs as exprs_view, items as items_view}
-use Rattle.flat_form.specs.Stands.{input_of}
-use Rattle.schema_core.specs.CoreOf.{inputs_of, items_of, names_at_result, names_after, outputs_of}
+use Rattle.schema_core.specs.CoreOf.{inputs_of, items_of, names_at_result}
 use Rattle.schema_core.specs.Slots.{slots_in}
 use Rattle.plan_compile.specs.Views.{names_by}
 use Rattle.plan_compile.proofs.Plans.{names_then, outputs_then, plan_made}

@@ -1,4 +1,4 @@
-use Rattle.std.proofs.Common.{◌≡◌, ap, map, sym, subst, ◌∙◌, IfOk, arith, ◌+◌}
+use Rattle.std.proofs.Common.{◌≡◌, ap, map, subst, ◌∙◌, IfOk, arith}
 use Rattle.tlb_syntax.specs.View.{constructor, item as item_view}
 use Rattle.core_form.specs.Core.{Ty}
 use Rattle.core_form.specs.Core as core

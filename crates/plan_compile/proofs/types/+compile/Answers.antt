@@ -1,14 +1,14 @@
-use Rattle.std.proofs.Common.{◌≡◌, ap, map, sym, subst, ◌∙◌, IfOk, arith, ◌+◌, drop}
+use Rattle.std.proofs.Common.{◌≡◌, ap, map, subst, ◌∙◌, IfOk, arith, ◌+◌, drop}
 use Rattle.tlb_syntax.specs.View.{constructor, expr as expr_view, exprs as exprs_view}
 use Rattle.core_form.specs.Core.{Ty, Args}
 use Rattle.flat_form.specs.Stands.{type_at}
-use Rattle.flat_form.specs.Parts.{append_args, args_so_far, with_argument}
+use Rattle.flat_form.specs.Parts.{append_args, args_so_far}
 use Rattle.flat_form.specs.GrowthLaws.{adds_on, arguments_stay, arguments_sound, on_ok}
 use Rattle.core_form.specs.Core as core
 use Rattle.schema_core.specs.CoreOf.{args_of}
 use Rattle.plan_compile.specs.Applied.{applied_to}
-use Rattle.plan_compile.specs.Views.{names_by, variable_by}
-use Rattle.plan_compile.proofs.Arguments.{args_done, args_turn, hidden_is, kinds_done, no_argument, no_output, second_none, type_argument, type_of_sum, unhidden_is}
+use Rattle.plan_compile.specs.Views.{names_by}
+use Rattle.plan_compile.proofs.Arguments.{args_done, args_turn, kinds_done, no_argument, no_output, second_none, type_argument, type_of_sum, unhidden_is}
 use Rattle.plan_compile.proofs.types.+compile.Goals as goal
 
 pub compile_arg-push_type-requires-clause-args : goal.compile_arg-push_type-requires-clause-args
