@@ -76,7 +76,7 @@ fork_outer q l us vs X Y x y =
           ∙ (λ i. x.outer i ++ y.outer i) ∙ sym same;
       order = subst InOrder (sym same)
           (order-fork q l (below_parts p X.unknown) (below_parts r Y.unknown) (below-parts p X.unknown)
-              (below-parts r Y.unknown) x.order y.order);
+          (below-parts r Y.unknown) x.order y.order);
     }
   where
     shorter : (q p : List ℕ) (us : List KeyPart) → AllBelow (q ++ p) us → AllBelow q us
@@ -102,15 +102,15 @@ edge_outer f w q (a_fork l z a o b) =
     let B = spot (past w 1) (Some r) o ∷ edge_spots (in_edge (past w 1)) r b in
     let left = cell_outer f w p z (edge_spots (in_edge w) p a) (blank_edge f (in_edge w) p a) x.deep x.outer in
     let right = cell_outer f (past w 1) r o (edge_spots (in_edge (past w 1)) r b)
-        (blank_edge f (in_edge (past w 1)) r b) y.deep y.outer in
+    (blank_edge f (in_edge (past w 1)) r b) y.deep y.outer in
     let us = key_parts (filter f (spot w (Some p) z ∷ edge_spots (in_edge w) p a)) in
     let vs = key_parts (filter f (spot (past w 1) (Some r) o ∷ edge_spots (in_edge (past w 1)) r b)) in
     let same : key_parts (filter f ((spot w (Some p) z ∷ edge_spots (in_edge w) p a) ++
-        (spot (past w 1) (Some r) o ∷ edge_spots (in_edge (past w 1)) r b))) ≡ us ++ vs =
+    (spot (past w 1) (Some r) o ∷ edge_spots (in_edge (past w 1)) r b))) ≡ us ++ vs =
     ap key_parts (chosen-append f (spot w (Some p) z ∷ edge_spots (in_edge w) p a)
-        (spot (past w 1) (Some r) o ∷ edge_spots (in_edge (past w 1)) r b))
+    (spot (past w 1) (Some r) o ∷ edge_spots (in_edge (past w 1)) r b))
     ∙ key_parts-append (filter f (spot w (Some p) z ∷ edge_spots (in_edge w) p a))
-        (filter f (spot (past w 1) (Some r) o ∷ edge_spots (in_edge (past w 1)) r b)) in
+    (filter f (spot (past w 1) (Some r) o ∷ edge_spots (in_edge (past w 1)) r b)) in
     let P : List KeyPart → Type 0 = λ ks. AllDeeper q ks in
     let Q : List KeyPart → Type 0 = λ ks. Outer q ks (fork_part l (left_part f w q l z a) (right_part f w q l o b)) in
     record {
@@ -128,9 +128,9 @@ pairs-two S m us (a_pair k v ps) qs = go (some_begin us k) (pairs-two S m us ps 
   where
     go : (b : Bool) → blanked_pairs S m us (join ps qs) ≡ join (blanked_pairs S m us ps) (blanked_pairs S m us qs)
         → cond b (blanked_pairs S m us (join ps qs)) (a_pair k (blanked S (m ++ keyed k ∷ []) 0 v)
-            (blanked_pairs S m us (join ps qs)))
+        (blanked_pairs S m us (join ps qs)))
         ≡ join (cond b (blanked_pairs S m us ps) (a_pair k (blanked S (m ++ keyed k ∷ []) 0 v)
-            (blanked_pairs S m us ps))) (blanked_pairs S m us qs)
+        (blanked_pairs S m us ps))) (blanked_pairs S m us qs)
     go true h = h
     go false h = ap (a_pair k (blanked S (m ++ keyed k ∷ []) 0 v)) h
 
@@ -152,7 +152,7 @@ pairs-left S m p q sides us vs h (a_pair k v ps) =
     let e : some_begin (us ++ vs) (p ++ k) ≡ some_begin us (p ++ k) =
     some_begin-append us vs (p ++ k)
     ∙ ap (λ (b : Bool). some_begin us (p ++ k) || b) (none-begin q p sides vs h k) ∙ or-false
-        (some_begin us (p ++ k)) in
+    (some_begin us (p ++ k)) in
     λ i. cond (e i) (pairs-left S m p q sides us vs h ps i)
     (a_pair (p ++ k) (blanked S (m ++ keyed (p ++ k) ∷ []) 0 v) (pairs-left S m p q sides us vs h ps i))
 
@@ -176,7 +176,7 @@ pairs-hidden S m p c (a_pair k v ps) =
     ∙ ap (λ (b : Bool). b || false) (begins-append p k) in
     ap (λ (b : Bool). cond b (blanked_pairs S m (below_parts p (([], hidden_of c) ∷ [])) (below p ps))
     (a_pair (p ++ k) (blanked S (m ++ keyed (p ++ k) ∷ []) 0 v)
-        (blanked_pairs S m (below_parts p (([], hidden_of c) ∷ [])) (below p ps)))) e
+    (blanked_pairs S m (below_parts p (([], hidden_of c) ∷ [])) (below p ps)))) e
     ∙ pairs-hidden S m p c ps
 
 -- the pairs below q of what is left are those that blanking leaves
@@ -200,7 +200,7 @@ fork_stays S m q l ps qs X Y x y =
     parts-append q (below_parts (l ++ 0 ∷ []) X.unknown) (below_parts (l ++ 1 ∷ []) Y.unknown)
     ∙ (λ i. below-below q (l ++ 0 ∷ []) X.unknown i ++ below-below q (l ++ 1 ∷ []) Y.unknown i) in
     let pairs : (as2 bs : PlainPairs) → below q (join (below (l ++ 0 ∷ []) as2) (below (l ++ 1 ∷ []) bs)) ≡ join
-        (below p as2) (below r bs) =
+    (below p as2) (below r bs) =
     λ as2 bs. pairs-join q (below (l ++ 0 ∷ []) as2) (below (l ++ 1 ∷ []) bs)
     ∙ (λ i. join (pairs-below q (l ++ 0 ∷ []) as2 i) (pairs-below q (l ++ 1 ∷ []) bs i)) in
     (λ i. blanked_pairs S m (parts i) (pairs ps qs i))
@@ -216,7 +216,7 @@ fork_stays S m q l ps qs X Y x y =
 map_blanked : (S : List Spot) (m : List Stride) (us : List KeyPart) (ps : PlainPairs) (x : Parts) → edges_at m S ≡ us
     → Outer [] us x → PairsStay S m [] ps x
     → (◌≡◌ {A = Plain} (values.map_of tt (blanked_pairs S m (outermost (edges_at m S)) ps)
-        (put_all (outermost (edges_at m S)) [])) (map_with x))
+    (put_all (outermost (edges_at m S)) [])) (map_with x))
 map_blanked S m us ps x e o stay =
     let out : outermost (edges_at m S) ≡ below_parts [] x.unknown = ap outermost e ∙ o.outer in
     let pairs : blanked_pairs S m (below_parts [] x.unknown) ps ≡ x.pairs =
@@ -271,7 +271,7 @@ mutual
   items_right f S w n no_laids h = refl
   items_right f S w n (a_laid d ds) h =
       λ i. a_val (blank_right f S (stepped w (item n)) d h.0 i)
-          (items_right f S (past w (length (trees d))) (suc n) ds h.1 i)
+      (items_right f S (past w (length (trees d))) (suc n) ds h.1 i)
 
   edge_right : (f : Choice) (S : List Spot) (w : Where) (q : List ℕ) (e : LaidEdge) → RightEdge f S w q e
       → PairsStay S w.path q (plain_pairs e) (blank_edge f w q e)
@@ -282,9 +282,9 @@ mutual
       (cell_stays S w.path (q ++ (l ++ 0 ∷ [])) z (plain_pairs a) (blank_edge f (in_edge w) (q ++ (l ++ 0 ∷ [])) a)
       (f (spot w (Some (q ++ (l ++ 0 ∷ []))) z)) (edge_right f S (in_edge w) (q ++ (l ++ 0 ∷ [])) a h.0))
       (cell_stays S w.path (q ++ (l ++ 1 ∷ [])) o (plain_pairs b)
-          (blank_edge f (in_edge (past w 1)) (q ++ (l ++ 1 ∷ [])) b)
+      (blank_edge f (in_edge (past w 1)) (q ++ (l ++ 1 ∷ [])) b)
       (f (spot (past w 1) (Some (q ++ (l ++ 1 ∷ []))) o)) (edge_right f S (in_edge (past w 1)) (q ++ (l ++ 1 ∷ [])) b
-          h.1))
+      h.1))
 
 -- each record of the value has a name of its own for each field
 abbrev pub RootApart : LaidRoot → Type 0

@@ -133,7 +133,7 @@ same-bytes (b ∷ p) l k = go (bytes_eq l k) refl
         other : (t : Bool) → bytes_eq (b ∷ (p ++ l)) (b ∷ (p ++ k)) ≡ t → t ≡ false
         other true g =
             let h = (bytes_eq-Decides l k).1 (drop (b ∷ p) l k
-                ((bytes_eq-Decides (b ∷ (p ++ l)) (b ∷ (p ++ k))).0 g)) in
+            ((bytes_eq-Decides (b ∷ (p ++ l)) (b ∷ (p ++ k))).0 g)) in
             absurd (cc)
         other false g = refl
 

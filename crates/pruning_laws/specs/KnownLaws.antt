@@ -55,7 +55,7 @@ named-same w x y e = ap (λ (z : List ℕ). w ++ named z ∷ []) ((bytes_eq-Deci
 
 field_matches : (f : Choice) (w : Where) (names : List (List ℕ)) (ds : Laids) (name : List ℕ)
     → Matches f (w.path ++ named name ∷ []) (field_at names (plain_all ds) name)
-        (field_at names (blank_fields f w names ds) name)
+    (field_at names (blank_fields f w names ds) name)
 field_matches f w [] ds name = tt
 field_matches f w (x ∷ names) no_laids name = tt
 field_matches f w (x ∷ names) (a_laid d ds) name =
@@ -66,7 +66,7 @@ field_matches f w (x ∷ names) (a_laid d ds) name =
         (field_at names (blank_fields f (past w (length (trees d))) names ds) name)
         → Matches f (w.path ++ named name ∷ []) (cond b (Some (plain d)) (field_at names (plain_all ds) name))
         (cond b (Some (blank f (stepped w (named x)) d)) (field_at names
-            (blank_fields f (past w (length (trees d))) names ds) name))
+        (blank_fields f (past w (length (trees d))) names ds) name))
     go true e ih = (stepped w (named x), d, named-same w.path x name e, refl, refl)
     go false e ih = ih
 
@@ -98,14 +98,14 @@ zero_matches f m l z o a b A B r h =
     let P : Option Plain → Type 0 = λ u. Matches f m u (entry_at (fork_part l A B).pairs k) in
     let Q : Option Plain → Type 0 = λ u. Matches f m (entry_at (plain_pairs a) r) u in
     let value : (ps qs : PlainPairs) → entry_at (join (below (l ++ 0 ∷ []) ps) (below (l ++ 1 ∷ []) qs)) k ≡ entry_at
-        ps r =
+    ps r =
     λ ps qs. entry-join (below (l ++ 0 ∷ []) ps) (below (l ++ 1 ∷ []) qs) k
     ∙ (λ i. or_else (entry-below (l ++ 0 ∷ []) ps r i) (entry-other (l ++ 1 ∷ []) qs k (zero-not_one l r) i))
     ∙ or-none (entry_at ps r) in
     record {
       shown = some_begin-append (below_parts (l ++ 0 ∷ []) A.unknown) (below_parts (l ++ 1 ∷ []) B.unknown) k
           ∙ (λ i. (some_begin-same (l ++ 0 ∷ []) A.unknown r ∙ h.shown) i || some_begin-other (l ++ 1 ∷ []) B.unknown
-              k (zero-not_one l r) i);
+          k (zero-not_one l r) i);
       there = subst P (sym (value (plain_pairs a) (plain_pairs b))) (subst Q (sym (value A.pairs B.pairs)) h.there);
     }
 
@@ -116,13 +116,13 @@ one_matches f m l z o a b A B r h =
     let P : Option Plain → Type 0 = λ u. Matches f m u (entry_at (fork_part l A B).pairs k) in
     let Q : Option Plain → Type 0 = λ u. Matches f m (entry_at (plain_pairs b) r) u in
     let value : (ps qs : PlainPairs) → entry_at (join (below (l ++ 0 ∷ []) ps) (below (l ++ 1 ∷ []) qs)) k ≡ entry_at
-        qs r =
+    qs r =
     λ ps qs. entry-join (below (l ++ 0 ∷ []) ps) (below (l ++ 1 ∷ []) qs) k
     ∙ (λ i. or_else (entry-other (l ++ 0 ∷ []) ps k (one-not_zero l r) i) (entry-below (l ++ 1 ∷ []) qs r i)) in
     record {
       shown = some_begin-append (below_parts (l ++ 0 ∷ []) A.unknown) (below_parts (l ++ 1 ∷ []) B.unknown) k
           ∙ (λ i. some_begin-other (l ++ 0 ∷ []) A.unknown k (one-not_zero l r) i ||
-              (some_begin-same (l ++ 1 ∷ []) B.unknown r ∙ h.shown) i);
+          (some_begin-same (l ++ 1 ∷ []) B.unknown r ∙ h.shown) i);
       there = subst P (sym (value (plain_pairs a) (plain_pairs b))) (subst Q (sym (value A.pairs B.pairs)) h.there);
     }
 
@@ -149,7 +149,7 @@ cell_matches f w m e q p r c x kept h =
     let P : Bool → Type 0 = λ b. EdgeMatches f m e (cond b (hidden_part c) x) r in
     let B : List ℕ → Type 0 = λ k. begins (q ++ p) k ≡ true in
     subst P (sym (kept (spot w (Some (q ++ p)) c) (q ++ p) refl refl
-        (subst B (append_assoc q p r) (begins-append (q ++ p) r)))) h
+    (subst B (append_assoc q p r) (begins-append (q ++ p) r)))) h
 
 leaf_matches : (f : Choice) (w : Where) (q l : List ℕ) (d : Laid) (k : List ℕ)
     → EdgeMatches f (w.path ++ keyed (q ++ k) ∷ []) (a_leaf l d) (blank_edge f w q (a_leaf l d)) k
@@ -158,9 +158,14 @@ leaf_matches f w q l d k = record { shown = refl; there = go (bytes_eq l k) refl
     go : (b : Bool) → bytes_eq l k ≡ b
         → Matches f (w.path ++ keyed (q ++ k) ∷ []) (cond b (Some (plain d)) None)
         (cond b (Some (blank f (stepped w (keyed (q ++ l))) d)) None)
-    go true e =
-        (stepped w (keyed (q ++ l)), d, ap (λ (z : List ℕ). w.path ++ keyed (q ++ z) ∷ [])
-            ((bytes_eq-Decides l k).0 e), refl, refl)
+    go true e = (
+      stepped w (keyed (q ++ l)),
+      d,
+      ap (λ (z : List ℕ). w.path ++ keyed (q ++ z) ∷ [])
+          ((bytes_eq-Decides l k).0 e),
+      refl,
+      refl,
+    )
     go false e = tt
 
 -- what is left of the two edges of a fork
@@ -184,10 +189,10 @@ edge_matches f w q (a_fork l z a o b) k kept =
     go : GoesOn l k
         → ((r : List ℕ) → KeyKept f w.path ((q ++ (l ++ 0 ∷ [])) ++ r)
         → EdgeMatches f (w.path ++ keyed ((q ++ (l ++ 0 ∷ [])) ++ r) ∷ []) a
-            (blank_edge f (in_edge w) (q ++ (l ++ 0 ∷ [])) a) r)
+        (blank_edge f (in_edge w) (q ++ (l ++ 0 ∷ [])) a) r)
         → ((r : List ℕ) → KeyKept f w.path ((q ++ (l ++ 1 ∷ [])) ++ r)
         → EdgeMatches f (w.path ++ keyed ((q ++ (l ++ 1 ∷ [])) ++ r) ∷ []) b
-            (blank_edge f (in_edge (past w 1)) (q ++ (l ++ 1 ∷ [])) b) r)
+        (blank_edge f (in_edge (past w 1)) (q ++ (l ++ 1 ∷ [])) b) r)
         → EdgeMatches f (w.path ++ keyed (q ++ k) ∷ []) (a_fork l z a o b) (blank_edge f w q (a_fork l z a o b)) k
     go (to_zero r e) left right =
         let p = l ++ 0 ∷ [] in
@@ -196,14 +201,14 @@ edge_matches f w q (a_fork l z a o b) k kept =
         let L : List ℕ → Type 0 = λ k. KeyKept f w.path k in
         let x = left r (subst L (sym (append_assoc q p r)) there) in
         let P : List ℕ → Type 0 = λ k. EdgeMatches f (w.path ++ keyed k ∷ []) a (blank_edge f (in_edge w) (q ++ p) a)
-            r in
+        r in
         let y = subst P (append_assoc q p r) x in
         let c = cell_matches f w (w.path ++ keyed (q ++ (p ++ r)) ∷ []) a q p r z
-            (blank_edge f (in_edge w) (q ++ p) a) there y in
+        (blank_edge f (in_edge w) (q ++ p) a) there y in
         let Q : List ℕ → Type 0 = λ k. EdgeMatches f (w.path ++ keyed (q ++ k) ∷ []) (a_fork l z a o b)
-            (blank_edge f w q (a_fork l z a o b)) k in
+        (blank_edge f w q (a_fork l z a o b)) k in
         subst Q (sym e) (zero_matches f (w.path ++ keyed (q ++ (p ++ r)) ∷ []) l z o a b (left_part f w q l z a)
-            (right_part f w q l o b) r c)
+        (right_part f w q l o b) r c)
     go (to_one r e) left right =
         let p = l ++ 1 ∷ [] in
         let K : List ℕ → Type 0 = λ k. KeyKept f w.path (q ++ k) in
@@ -211,14 +216,14 @@ edge_matches f w q (a_fork l z a o b) k kept =
         let L : List ℕ → Type 0 = λ k. KeyKept f w.path k in
         let x = right r (subst L (sym (append_assoc q p r)) there) in
         let P : List ℕ → Type 0 = λ k. EdgeMatches f (w.path ++ keyed k ∷ []) b
-            (blank_edge f (in_edge (past w 1)) (q ++ p) b) r in
+        (blank_edge f (in_edge (past w 1)) (q ++ p) b) r in
         let y = subst P (append_assoc q p r) x in
         let c = cell_matches f (past w 1) (w.path ++ keyed (q ++ (p ++ r)) ∷ []) b q p r o
-            (blank_edge f (in_edge (past w 1)) (q ++ p) b) there y in
+        (blank_edge f (in_edge (past w 1)) (q ++ p) b) there y in
         let Q : List ℕ → Type 0 = λ k. EdgeMatches f (w.path ++ keyed (q ++ k) ∷ []) (a_fork l z a o b)
-            (blank_edge f w q (a_fork l z a o b)) k in
+        (blank_edge f w q (a_fork l z a o b)) k in
         subst Q (sym e) (one_matches f (w.path ++ keyed (q ++ (p ++ r)) ∷ []) l z o a b (left_part f w q l z a)
-            (right_part f w q l o b) r c)
+        (right_part f w q l o b) r c)
     go (nowhere x y) left right = no_matches f (w.path ++ keyed (q ++ k) ∷ []) l z o a b (left_part f w q l z a)
         (right_part f w q l o b) k x y
 
@@ -237,7 +242,7 @@ map_matches f m e x (keyed key) h = let y = h key refl in record { shown = y.sho
 
 record_matches : (f : Choice) (w : Where) (name : Option (List ℕ)) (names : List (List ℕ)) (ds : Laids) (s : Stride)
     → StepMatches f w.path (values.record_of name names (plain_all ds))
-        (values.record_of name names (blank_fields f w names ds)) s
+    (values.record_of name names (blank_fields f w names ds)) s
 record_matches f w name names ds (named x) = record { shown = refl; there = field_matches f w names ds x }
 record_matches f w name names ds (item i) = record { shown = refl; there = tt }
 record_matches f w name names ds (keyed k) = record { shown = refl; there = tt }
@@ -277,9 +282,9 @@ step_matches f w (ref_to_raw c) s refs edges =
 step_matches f w no_map s refs edges = none_match f w.path s
 step_matches f w (map_under c e) s refs edges =
     map_matches f w.path e (cond (f (spot w (Some []) c)) (hidden_part c) (blank_edge f (in_edge w) [] e)) s
-        (λ key same.
+    (λ key same.
     cell_matches f w (w.path ++ keyed key ∷ []) e [] [] key c (blank_edge f (in_edge w) [] e)
-        (key_kept f w.path s edges key same)
+    (key_kept f w.path s edges key same)
     (edge_matches f (in_edge w) [] e key (key_kept f w.path s edges key same)))
 step_matches f w (map_here e) s refs edges =
     map_matches f w.path e (blank_edge f w [] e) s (λ key same.
@@ -317,7 +322,7 @@ known_way f (s ∷ steps) w d kept =
   where
     go : (a b : Option Plain) → Matches f (w.path ++ s ∷ []) a b
         → ((w : Where) (d : Laid) → WayKept f w.path steps → known (blank f w d) steps ≡ as_named
-            (at_path (plain d) steps))
+        (at_path (plain d) steps))
         → known_at b (λ u. known u steps) ≡ as_named (onward a (λ u. at_path u steps))
     go None None h further = refl
     go None (Some y) h further = absurd h

@@ -247,7 +247,7 @@ fork_laid : (schema : CoreSchema) (p : List ℕ) (zs os : Entries) (ps : PlainPa
     → EdgeOf schema ys os B)
     → Contents (EachPair Whole schema ps) t (pairs_in (fork p zs os))
     → (a : LaidEdge) × (b : LaidEdge) × (join (below (p ++ 0 ∷ []) (plain_pairs a))
-        (below (p ++ 1 ∷ []) (plain_pairs b)) ≡ ps)
+    (below (p ++ 1 ∷ []) (plain_pairs b)) ≡ ps)
     × (hidden_in (fork p zs os) ≡ []) × A a × B b
 fork_laid schema p zs os ps able t A B left right h =
     let x = split_contents schema (p ++ 0 ∷ []) zs (under (p ++ 1 ∷ []) os) ps able t h in
@@ -279,7 +279,7 @@ mutual
   tree_laid schema n es s (two _ _ _ _ p m zs os z o same len l r dz do_) ps able t h =
       let P : Entries → Type 0 = λ x. Contents (EachPair Whole schema ps) t (pairs_in x) in
       let x = fork_laid schema p zs os ps able t (λ e. EdgeCell (SpellsEdge schema e) m t z)
-          (λ e. EdgeCell (SpellsEdge schema e) m t o)
+      (λ e. EdgeCell (SpellsEdge schema e) m t o)
       (λ xs able h. branch_laid schema m zs z dz xs able t h) (λ ys able h. branch_laid schema m os o do_ ys able t h)
       (subst P same h) in
       (a_fork p z x.0 o x.1, x.2, ap hidden_in same ∙ x.3, (m, len, l, r, x.4, x.5))
@@ -298,7 +298,7 @@ first_laid : (schema : CoreSchema) (n : ℕ) (es : Entries) (s after : Slice) �
 first_laid schema n es s after (forked p m zs os z o same len l r dz do_) ps able t h =
     let P : Entries → Type 0 = λ x. Contents (EachPair Whole schema ps) t (pairs_in x) in
     let x = fork_laid schema p zs os ps able t (λ e. EdgeCell (SpellsEdge schema e) m t z)
-        (λ e. EdgeCell (SpellsEdge schema e) m t o)
+    (λ e. EdgeCell (SpellsEdge schema e) m t o)
     (λ xs able h. branch_laid schema m zs z dz xs able t h) (λ ys able h. branch_laid schema m os o do_ ys able t h)
     (subst P same h) in
     (a_fork p z x.0 o x.1, x.2, ap hidden_in same ∙ x.3, (m, len, l, r, x.4, x.5))
@@ -321,7 +321,7 @@ dict_laid schema ps able us n t s outs after o (inr e) =
 
 dict_e_laid : (schema : CoreSchema) (ps : PlainPairs) → ByAble schema ps → (us : Unknowns) (n : ℕ) (t : Closed)
     (s : Slice) (outs : List ℕ) (after : Slice) → outs ≡ [] → SpellsDictE Whole (EachPair Whole schema ps) us n t s
-        after
+    after
     → Laying schema (values.map_of tt ps us) (typed (closed.dict_e n t)) s outs after
 dict_e_laid schema no_pairs able us n t s outs after o (no_entries a u b) =
     (no_map, (λ i. values.map_of tt no_pairs ((sym u) i)), (o, b))
@@ -362,9 +362,11 @@ mutual
       (list_of r.0, ap values.list_of r.1, (e.0, r.2))
   shape_laid schema (values.list_of vs) _ i s outs after e = absurd e
   shape_laid schema (values.record_of (Some name) names vs) (typed (closed.named x args)) i s outs after e =
-      let r = fields_laid schema e.1.core.items vs (all_laid schema vs) e.2 e.3 e.4 after e.8 in
-      (record_of (Some name) names r.0, ap (values.record_of (Some name) names) r.1,
-          (e.0, e.1, e.2, e.3, e.4, e.5, e.6, e.7, r.2, e.9))
+      let r = fields_laid schema e.1.core.items vs (all_laid schema vs) e.2 e.3 e.4 after e.8 in (
+        record_of (Some name) names r.0,
+        ap (values.record_of (Some name) names) r.1,
+        (e.0, e.1, e.2, e.3, e.4, e.5, e.6, e.7, r.2, e.9),
+      )
   shape_laid schema (values.record_of (Some name) names vs) _ i s outs after e = absurd e
   shape_laid schema (values.record_of None names vs) (fields_here is scope) i s outs after e =
       let r = fields_laid schema is vs (all_laid schema vs) scope s e.2 after e.3 in

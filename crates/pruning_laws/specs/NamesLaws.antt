@@ -139,7 +139,7 @@ mutual
       let P : List (List ℕ) → Type 0 = λ l. FieldsApart l ds in
       subst P (sym e.6)
       (fields_apart schema e.1.core.items ds (all_apart schema names ds) e.2 e.3 e.4 after (names e.0 e.1 e.5.there)
-          e.8)
+      e.8)
   shape_apart schema names (record_of (Some name) xs ds) _ s outs after h e = absurd e
   shape_apart schema names (record_of None xs ds) (fields_here is scope) s outs after h e =
       let P : List (List ℕ) → Type 0 = λ l. FieldsApart l ds in

@@ -319,12 +319,16 @@ edges-at w q (a_fork l z a o b) =
     let x = l ++ 0 ∷ [] in
     let y = l ++ 1 ∷ [] in
     all-append (AtEdges w.path w.around q) (spot w (Some (q ++ x)) z ∷ edge_spots (in_edge w) (q ++ x) a)
-    (spot (past w 1) (Some (q ++ y)) o ∷ edge_spots (in_edge (past w 1)) (q ++ y) b)
-    (edge-first w q x z, all-map (AtEdges w.path w.around (q ++ x)) (AtEdges w.path w.around q)
-        (edges-deeper w.path w.around q x) (edge_spots (in_edge w) (q ++ x) a) (edges-at (in_edge w) (q ++ x) a))
-    (edge-first (past w 1) q y o, all-map (AtEdges w.path w.around (q ++ y)) (AtEdges w.path w.around q)
-        (edges-deeper w.path w.around q y) (edge_spots (in_edge (past w 1)) (q ++ y) b)
-            (edges-at (in_edge (past w 1)) (q ++ y) b))
+    (spot (past w 1) (Some (q ++ y)) o ∷ edge_spots (in_edge (past w 1)) (q ++ y) b) (
+      edge-first w q x z,
+      all-map (AtEdges w.path w.around (q ++ x)) (AtEdges w.path w.around q)
+          (edges-deeper w.path w.around q x) (edge_spots (in_edge w) (q ++ x) a) (edges-at (in_edge w) (q ++ x) a),
+    ) (
+      edge-first (past w 1) q y o,
+      all-map (AtEdges w.path w.around (q ++ y)) (AtEdges w.path w.around q)
+          (edges-deeper w.path w.around q y) (edge_spots (in_edge (past w 1)) (q ++ y) b)
+          (edges-at (in_edge (past w 1)) (q ++ y) b),
+    )
 
 edges-below : (m : List Stride) (k : ℕ) (q : List ℕ) (x : Spot) → AtEdges m k q x → IsBelow m k x
 edges-below m k q x h = let e = h.1 in inl (h.0, omega (arith, e))
@@ -338,7 +342,7 @@ mutual
   below-spots w (bit_string bits) apart = tt
   below-spots w (record_of name names ds) apart =
       all-map (InFields w.path names) (IsBelow w.path w.around) (λ x h. inr (named h.0, h.1, h.2))
-          (spots_fields w names ds)
+      (spots_fields w names ds)
       (in-fields w names ds apart)
   below-spots w absent apart = tt
   below-spots w (list_of ds) apart =
@@ -355,16 +359,16 @@ mutual
     under-here w.path w.around,
     all-append (IsBelow w.path w.around) (edge_spots (in_edge w) [] e) (value_spots (in_edge w) [] e)
         (all-map (AtEdges w.path w.around []) (IsBelow w.path w.around) (edges-below w.path w.around [])
-            (edge_spots (in_edge w) [] e) (edges-at (in_edge w) [] e))
+        (edge_spots (in_edge w) [] e) (edges-at (in_edge w) [] e))
         (all-map (InValues w.path []) (IsBelow w.path w.around) (values-below w.path w.around [])
-            (value_spots (in_edge w) [] e) (in-values (in_edge w) [] e apart)),
+        (value_spots (in_edge w) [] e) (in-values (in_edge w) [] e apart)),
   )
   below-spots w (map_here e) apart =
       all-append (IsBelow w.path w.around) (edge_spots w [] e) (value_spots w [] e)
       (all-map (AtEdges w.path w.around []) (IsBelow w.path w.around) (edges-below w.path w.around [])
-          (edge_spots w [] e) (edges-at w [] e))
+      (edge_spots w [] e) (edges-at w [] e))
       (all-map (InValues w.path []) (IsBelow w.path w.around) (values-below w.path w.around []) (value_spots w [] e)
-          (in-values w [] e apart))
+      (in-values w [] e apart))
   below-spots w (rest s) apart = tt
 
   in-fields : (w : Where) (names : List (List ℕ)) (ds : Laids) → FieldsApart names ds
@@ -373,7 +377,7 @@ mutual
   in-fields w [] (a_laid d ds) apart = absurd apart
   in-fields w (y ∷ names) (a_laid d ds) apart =
       all-append (InFields w.path (y ∷ names)) (spots (stepped w (named y)) d)
-          (spots_fields (past w (length (trees d))) names ds)
+      (spots_fields (past w (length (trees d))) names ds)
       (all-map (IsBelow (w.path ++ named y ∷ []) 0) (InFields w.path (y ∷ names))
       (λ x h. let u = within w.path (named y) x.path x.around h in (y, u.0, u.1, inl refl))
       (spots (stepped w (named y)) d) (below-spots (stepped w (named y)) d apart.1))
@@ -397,12 +401,12 @@ mutual
       (spots (stepped w (keyed (q ++ l))) d) (below-spots (stepped w (keyed (q ++ l))) d apart)
   in-values w q (a_fork l z a o b) apart =
       all-append (InValues w.path q) (value_spots (in_edge w) (q ++ (l ++ 0 ∷ [])) a)
-          (value_spots (in_edge (past w 1)) (q ++ (l ++ 1 ∷ [])) b)
+      (value_spots (in_edge (past w 1)) (q ++ (l ++ 1 ∷ [])) b)
       (all-map (InValues w.path (q ++ (l ++ 0 ∷ []))) (InValues w.path q) (values-deeper w.path q (l ++ 0 ∷ []))
       (value_spots (in_edge w) (q ++ (l ++ 0 ∷ [])) a) (in-values (in_edge w) (q ++ (l ++ 0 ∷ [])) a apart.0))
       (all-map (InValues w.path (q ++ (l ++ 1 ∷ []))) (InValues w.path q) (values-deeper w.path q (l ++ 1 ∷ []))
       (value_spots (in_edge (past w 1)) (q ++ (l ++ 1 ∷ [])) b)
-          (in-values (in_edge (past w 1)) (q ++ (l ++ 1 ∷ [])) b apart.1))
+      (in-values (in_edge (past w 1)) (q ++ (l ++ 1 ∷ [])) b apart.1))
 
 -- ---- a list that has at each place of a value what was chosen there
 
@@ -432,7 +436,7 @@ abbrev mutual
   RightFields f S w names no_laids = Unit {0}
   RightFields f S w names (a_laid d ds) =
       RightAt f S (stepped w (named (first_name names))) d × RightFields f S (past w (length (trees d)))
-          (other_names names) ds
+      (other_names names) ds
 
   pub RightItems : Choice → List Spot → Where → ℕ → Laids → Type 0
   RightItems f S w i no_laids = Unit {0}
@@ -644,7 +648,7 @@ mutual
           miss x None (inl h) =
               let l = h.1 in
               ap (λ (b : Bool). same_path x.path w.path && b) (other x.around w.around l) ∙ and-false
-                  (same_path x.path w.path)
+              (same_path x.path w.path)
             where
               other : (k j : ℕ) → suc j ≤ k → nat_eq k j ≡ false
               other k j l = go (nat_eq k j) refl
@@ -659,14 +663,14 @@ mutual
       go : (b : Bool) → RightAt f (filter f (spots (in_ref w) d)) (in_ref w) d
           → All (IsBelow w.path (suc w.around)) (filter f (spots (in_ref w) d))
           → (ref_at w.path w.around (cond b (spot w None c ∷ filter f (spots (in_ref w) d))
-              (filter f (spots (in_ref w) d))) ≡ cond b (Some c) None)
+          (filter f (spots (in_ref w) d))) ≡ cond b (Some c) None)
           × RightAt f (cond b (spot w None c ∷ filter f (spots (in_ref w) d)) (filter f (spots (in_ref w) d)))
-              (in_ref w) d
+          (in_ref w) d
       go true r h = (
         ap (λ (t : Bool). cond t (Some c) (ref_at w.path w.around (filter f (spots (in_ref w) d)))) self,
         right-same f (filter f (spots (in_ref w) d)) (spot w None c ∷ filter f (spots (in_ref w) d)) (in_ref w) d
             (agree-before w.path (suc w.around) (spot w None c ∷ []) (filter f (spots (in_ref w) d))
-                (ref-foreign w c, tt)) r,
+            (ref-foreign w c, tt)) r,
       )
       go false r h = (absent-here (filter f (spots (in_ref w) d)) h, r)
   right-spots f w (ref_to_raw c) apart = go (f (spot w None c))
@@ -681,7 +685,7 @@ mutual
   right-spots f w (map_under c e) apart =
       map-right f w (in_edge w) (spot w (Some []) c ∷ edge_spots (in_edge w) [] e) e refl
       ((refl, refl, ([], refl)), edges-at (in_edge w) [] e) (in-values (in_edge w) [] e apart)
-          (right-edge f (in_edge w) [] e apart)
+      (right-edge f (in_edge w) [] e apart)
   right-spots f w (map_here e) apart =
       map-right f w w (edge_spots w [] e) e refl (edges-at w [] e) (in-values w [] e apart) (right-edge f w [] e apart)
   right-spots f w (rest s) apart = tt
@@ -696,18 +700,18 @@ mutual
       let A = filter f (spots (stepped w (named y)) d) in
       let B = filter f (spots_fields (past w (length (trees d))) names ds) in
       let both : filter f (spots (stepped w (named y)) d ++ spots_fields (past w (length (trees d))) names ds) ≡ A ++
-          B =
+      B =
       chosen-append f (spots (stepped w (named y)) d) (spots_fields (past w (length (trees d))) names ds) in
       let P : List Spot → Type 0 = λ S. RightAt f S (stepped w (named y)) d × RightFields f S
-          (past w (length (trees d))) names ds in
+      (past w (length (trees d))) names ds in
       let a = all-chosen f (IsBelow (w.path ++ named y ∷ []) 0) (spots (stepped w (named y)) d)
-          (below-spots (stepped w (named y)) d apart.1) in
+      (below-spots (stepped w (named y)) d apart.1) in
       let b = all-chosen f (InFields w.path names) (spots_fields (past w (length (trees d))) names ds)
-          (in-fields (past w (length (trees d))) names ds apart.2) in
+      (in-fields (past w (length (trees d))) names ds apart.2) in
       subst P (sym both) (
         right-same f A (A ++ B) (stepped w (named y)) d
             (agree-after (w.path ++ named y ∷ []) 0 A B (fields-foreign w.path y names B apart.0 b))
-                (right-spots f (stepped w (named y)) d apart.1),
+            (right-spots f (stepped w (named y)) d apart.1),
         fields-same f B (A ++ B) (past w (length (trees d))) names ds
             (field-agrees w.path y A B a names ds apart.2 apart.0)
             (right-fields f (past w (length (trees d))) names ds apart.2),
@@ -720,20 +724,20 @@ mutual
       let A = filter f (spots (stepped w (item i)) d) in
       let B = filter f (spots_items (past w (length (trees d))) (suc i) ds) in
       let both : filter f (spots (stepped w (item i)) d ++ spots_items (past w (length (trees d))) (suc i) ds) ≡ A ++
-          B =
+      B =
       chosen-append f (spots (stepped w (item i)) d) (spots_items (past w (length (trees d))) (suc i) ds) in
       let P : List Spot → Type 0 = λ S. RightAt f S (stepped w (item i)) d × RightItems f S
-          (past w (length (trees d))) (suc i) ds in
+      (past w (length (trees d))) (suc i) ds in
       let a = all-chosen f (IsBelow (w.path ++ item i ∷ []) 0) (spots (stepped w (item i)) d)
-          (below-spots (stepped w (item i)) d apart.0) in
+      (below-spots (stepped w (item i)) d apart.0) in
       let b = all-chosen f (InItems w.path (suc i)) (spots_items (past w (length (trees d))) (suc i) ds)
-          (in-items (past w (length (trees d))) (suc i) ds apart.1) in
+      (in-items (past w (length (trees d))) (suc i) ds apart.1) in
       subst P (sym both) (
         right-same f A (A ++ B) (stepped w (item i)) d
             (agree-after (w.path ++ item i ∷ []) 0 A B
             (all-map (InItems w.path (suc i)) (Foreign (w.path ++ item i ∷ []) 0)
             (λ x h. step-foreign w.path (item h.0) (item i) (λ e. let l = h.3 in other-item i h.0 (omega (arith, l))
-                e) x h.1 h.2) B b))
+            e) x h.1 h.2) B b))
             (right-spots f (stepped w (item i)) d apart.0),
         items-same f B (A ++ B) (past w (length (trees d))) (suc i) ds
             (λ j l. agree-before (w.path ++ item j ∷ []) 0 A B
@@ -752,15 +756,15 @@ mutual
       let A = filter f (value_spots (in_edge w) (q ++ (l ++ 0 ∷ [])) x) in
       let B = filter f (value_spots (in_edge (past w 1)) (q ++ (l ++ 1 ∷ [])) y) in
       let both : filter f (value_spots (in_edge w) (q ++ (l ++ 0 ∷ [])) x ++ value_spots (in_edge (past w 1))
-          (q ++ (l ++ 1 ∷ [])) y) ≡ A ++ B =
+      (q ++ (l ++ 1 ∷ [])) y) ≡ A ++ B =
       chosen-append f (value_spots (in_edge w) (q ++ (l ++ 0 ∷ [])) x)
-          (value_spots (in_edge (past w 1)) (q ++ (l ++ 1 ∷ [])) y) in
+      (value_spots (in_edge (past w 1)) (q ++ (l ++ 1 ∷ [])) y) in
       let P : List Spot → Type 0 = λ S. RightEdge f S (in_edge w) (q ++ (l ++ 0 ∷ [])) x × RightEdge f S
-          (in_edge (past w 1)) (q ++ (l ++ 1 ∷ [])) y in
+      (in_edge (past w 1)) (q ++ (l ++ 1 ∷ [])) y in
       let a = all-chosen f (InValues w.path p) (value_spots (in_edge w) (q ++ (l ++ 0 ∷ [])) x)
-          (in-values (in_edge w) p x apart.0) in
+      (in-values (in_edge w) p x apart.0) in
       let b = all-chosen f (InValues w.path r) (value_spots (in_edge (past w 1)) (q ++ (l ++ 1 ∷ [])) y)
-          (in-values (in_edge (past w 1)) r y apart.1) in
+      (in-values (in_edge (past w 1)) r y apart.1) in
       subst P (sym both) (
         edge-same f A (A ++ B) (in_edge w) p x (λ k.
             agree-after (w.path ++ keyed (p ++ k) ∷ []) 0 A B
@@ -771,6 +775,6 @@ mutual
             agree-before (w.path ++ keyed (r ++ k) ∷ []) 0 A B
             (all-map (InValues w.path p) (Foreign (w.path ++ keyed (r ++ k) ∷ []) 0)
             (λ s h. step-foreign w.path (keyed (p ++ h.0)) (keyed (r ++ k)) (λ e. other-key q l k h.0 (sym e)) s h.1
-                h.2) A a))
+            h.2) A a))
             (right-edge f (in_edge (past w 1)) r y apart.1),
       )

@@ -174,13 +174,13 @@ one_more_go M N V ps qs rs u ws us s middle after e f x y holds =
       prune = all-append x.front qs y.front rs x.prune y.prune;
       spells = λ os l.
           let mid : length (rs ++ os) ≡ length middle.refs = counts rs os y.front middle.refs after.refs y.prune
-              y.parts l in
+          y.parts l in
           let start : length (qs ++ (rs ++ os)) ≡ length s.refs = counts qs (rs ++ os) x.front s.refs middle.refs
-              x.prune x.parts mid in
+          x.prune x.parts mid in
           let T : List Tree → Type 0 = λ l. M (a_val u us) (with_refs s l) (with_refs after os) in
           subst T (sym (append_assoc qs rs os))
           (holds (qs ++ (rs ++ os)) (rs ++ os) (with_refs after os) start mid (x.spells (rs ++ os) mid)
-              (y.spells os l));
+          (y.spells os l));
     }))
 
 repeat_reads : (schema : CoreSchema) (K : ForRest) (R : ForRaw) (ds : Laids) → AllRead schema K R ds → (k : ℕ)
@@ -193,7 +193,7 @@ repeat_reads schema K R (a_laid d ds) reads k t s after ps ws clean r c =
     let x = at_goal schema K R d reads.0 (at_type t) s r.1 r.2 c.0 c.2 clean r.4 c.6 in
     let y = repeat_reads schema K R ds reads.1 r.0 t r.2 after c.1 c.3 (clean-after _ c.0 s r.2 x clean) r.6 c.7 in
     one_more_go (λ ws a b. Repeats (Each Partial schema ws) k t a b)
-        (λ ws a b. Repeats (Each Partial schema ws) r.0 t a b)
+    (λ ws a b. Repeats (Each Partial schema ws) r.0 t a b)
     (λ u a b. Spells Partial schema u (at_type t) a r.1 b) ps c.0 c.1 c.2 ws c.3 s r.2 after c.4 c.5 x y
     (λ a b end la lb v more. (r.0, r.1, with_refs r.2 b, r.3, v, takes s r.2 a b la lb r.5, more))
 
@@ -207,8 +207,13 @@ fields_read schema K R no_items no_laids reads scope s end after ps ws clean f c
 fields_read schema K R no_items (a_laid d ds) reads scope s end after ps ws clean f c = absurd f
 fields_read schema K R (an_item (check a op b i) is) ds reads scope s end after ps ws clean f c =
     let r = fields_read schema K R is ds reads scope s end after ps ws clean f.5 c in
-    record { front = r.front; parts = r.parts; prune = r.prune; spells = λ rs l.
-        (f.0, f.1, f.2, f.3, f.4, r.spells rs l) }
+    record {
+      front = r.front;
+      parts = r.parts;
+      prune = r.prune;
+      spells = λ rs l.
+          (f.0, f.1, f.2, f.3, f.4, r.spells rs l);
+    }
 fields_read schema K R (an_item (solve v a b i) is) ds reads scope s end after ps ws clean f c =
     let r = fields_read schema K R is ds reads (with_number v f.0 scope) s end after ps ws clean f.2 c in
     record { front = r.front; parts = r.parts; prune = r.prune; spells = λ rs l. (f.0, f.1, r.spells rs l) }
@@ -216,7 +221,7 @@ fields_read schema K R (an_item (field y slot e t) is) no_laids reads scope s en
 fields_read schema K R (an_item (field g slot e t) is) (a_laid d ds) reads scope s end after ps ws clean f c =
     let x = at_goal schema K R d reads.0 (at_field e t scope) s f.0 f.1 c.0 c.2 clean f.2 c.6 in
     let y = fields_read schema K R is ds reads.1 (bind (sets slot t) f.0 scope) f.1 end after c.1 c.3
-        (clean-after _ c.0 s f.1 x clean) f.3 c.7 in
+    (clean-after _ c.0 s f.1 x clean) f.3 c.7 in
     one_more_go (λ ws a b. Fields (an_item (field g slot e t) is) (Each Partial schema ws) scope a end b)
     (λ ws a b. Fields is (Each Partial schema ws) (bind (sets slot t) f.0 scope) a end b)
     (λ u a b. Spells Partial schema u (at_field e t scope) a f.0 b) ps c.0 c.1 c.2 ws c.3 s f.1 after c.4 c.5 x y
@@ -290,14 +295,14 @@ holds_go schema K R d reads (at_type t) c clean k qs u cuts =
     let x = at_goal schema K R d reads (at_type t) k.0 k.1 nothing qs u (clean-cell c k.0 k.2 clean) k.3 cuts in
     let y = cell_opens (λ z. Spells Partial schema u (at_type t) z k.1 nothing)
     (λ rs. Spells Partial schema u (at_type t) (with_refs k.0 (qs ++ rs)) k.1 (with_refs nothing rs)) c k.0 qs k.2 x
-        (λ h. h) in
+    (λ h. h) in
     record { prunes = y.prunes; holds = (with_refs k.0 qs, k.1, y.cell, y.spells) }
 holds_go schema K R d reads (at_field e t scope) c clean k qs u cuts =
     let x = at_goal schema K R d reads (at_field e t scope) k.0 k.1 nothing qs u (clean-cell c k.0 k.2 clean) k.3
-        cuts in
+    cuts in
     let y = cell_opens (λ z. Spells Partial schema u (at_field e t scope) z k.1 nothing)
     (λ rs. Spells Partial schema u (at_field e t scope) (with_refs k.0 (qs ++ rs)) k.1 (with_refs nothing rs)) c k.0
-        qs k.2 x (λ h. h) in
+    qs k.2 x (λ h. h) in
     record { prunes = y.prunes; holds = (with_refs k.0 qs, k.1, y.cell, y.spells) }
 
 -- ---- references
@@ -337,7 +342,7 @@ IsRefTo c g =
     ((h : Hidden) (s : Slice) (outs : List ℕ) (after : Slice) (p : Tree) → outs ≡ [] → Then s (only_ref p) after
     → unseen Partial p ≡ Some h → (schema : CoreSchema) → SpellsShape Partial schema (values.unknown h) c s outs after)
     × ((schema : CoreSchema) (u : Plain) (s : Slice) (outs : List ℕ) (after : Slice) (p : Tree) → outs ≡ [] → Then s
-        (only_ref p) after
+    (only_ref p) after
     → Holds Partial (Spells Partial schema u) g p → SpellsShape Partial schema (values.ref_to tt u) c s outs after)
 
 ref_reads : (schema : CoreSchema) (K : ForRest) (R : ForRaw) (e : Tree) (d : Laid) → Reads schema K R d → (c : Shape)
@@ -355,7 +360,7 @@ ref_reads schema K R e d reads c g is s outs after ps w clean f o t k b cuts = g
         let Q : Plain → Type 0 = λ w. GoingShape schema c (stub e 0 ∷ []) w s outs after in
         subst P (sym h.0) (subst Q (sym h.1)
         (one_goes (λ a b. SpellsShape Partial schema (values.unknown (hidden_of e)) c a outs b) e (stub e 0) s after
-            there
+        there
         (is_hidden e 0 no_level) (λ a b u. is.0 (hidden_of e) a outs b (stub e 0) o u (stub-hides e good.good) schema)))
     go e same (inr h) =
         let T : Tree → Type 0 = λ x. Then s (only_ref x) after in
@@ -367,7 +372,7 @@ ref_reads schema K R e d reads c g is s outs after ps w clean f o t k b cuts = g
         let Q : Plain → Type 0 = λ w. GoingShape schema c (cell_with e h.0 ∷ []) w s outs after in
         subst P (sym h.2) (subst Q (sym h.3)
         (one_goes (λ a b. SpellsShape Partial schema (values.ref_to tt h.1) c a outs b) e (cell_with e h.0) s after
-            there
+        there
         x.prunes (λ a b u. is.1 schema h.1 a outs b (cell_with e h.0) o u x.holds)))
 
 raw_reads : (schema : CoreSchema) (K : ForRest) (R : ForRaw) → Trusts K R → (e : Tree) (s : Slice) (outs : List ℕ)
@@ -640,8 +645,11 @@ rest_reads schema K R trust r s outs after ps clean o same end k =
       spells = λ rs l.
           let z : rs ≡ [] = nil_from_length rs (l ∙ ap length none_after) in (
             o,
-            (λ i. record { bits = (same i).bits; refs = (sym (append-nil ps) ∙ ap (λ (x : List Tree). ps ++ x)
-                (sym z)) i }),
+            (λ i. record {
+              bits = (same i).bits;
+              refs = (sym (append-nil ps) ∙ ap (λ (x : List Tree). ps ++ x)
+                  (sym z)) i;
+            }),
             (λ i. record { bits = (end i).bits; refs = z i }),
           );
     }
@@ -729,14 +737,14 @@ mutual
       (number_reads schema negative size c s outs after e)
   reads schema K R trust (bit_string bits) c s outs after ps w clean e cuts =
       small_reads schema (values.bit_string bits) c s outs after ps w cuts.0 cuts.1
-          (string_reads schema bits c s outs after e)
+      (string_reads schema bits c s outs after e)
   reads schema K R trust absent c s outs after ps w clean e cuts =
       small_reads schema values.absent c s outs after ps w cuts.0 cuts.1 (absent_reads schema c s outs after e)
   reads schema K R trust (record_of (Some name) names ds) (typed (closed.named x args)) s outs after ps w clean e cuts =
       let Q : Plain → Type 0 = λ w. GoingShape schema (typed (closed.named x args)) ps w s outs after in
       subst Q (sym cuts.1)
       (record_reads schema K R name names ds (read_all schema K R trust ds) x args s outs after ps cuts.0 clean e
-          cuts.2)
+      cuts.2)
   reads schema K R trust (record_of (Some name) names ds) _ s outs after ps w clean e cuts = absurd e
   reads schema K R trust (record_of None names ds) (fields_here is scope) s outs after ps w clean e cuts =
       let Q : Plain → Type 0 = λ w. GoingShape schema (fields_here is scope) ps w s outs after in
@@ -792,5 +800,5 @@ mutual
       leaf_here schema K R l d (reads schema K R trust d) n t s outs after ps x clean o k c
   here_reads schema K R trust (a_fork l z a o b) n t s outs after ps x clean oo k c =
       fork_here schema K R l z a o b (tree_reads schema K R trust a) (tree_reads schema K R trust b) n t s outs after
-          ps x
+      ps x
       clean oo k c

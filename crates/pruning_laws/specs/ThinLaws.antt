@@ -88,7 +88,7 @@ clean-kind c h = go (out-Tree c).kind refl
     go Pruned e =
         let P : Kind → Type 0 = λ k. IsTrue (has_layout k (out-Tree c).bits (length (out-Tree c).children)) in
         let l = pruned_layout (out-Tree c).bits (length (out-Tree c).children)
-            (subst P e (good-sound c h.good).layout) in
+        (subst P e (good-sound c h.good).layout) in
         let m = mask-pruned c e in
         let z = h.level in
         let one = l.some in
@@ -104,13 +104,13 @@ cell_how c p ts e (hidden _ _ _) = inl refl
 cell_how c p ts e (ordinary bits us ps _ all) =
     let children : us ≡ ts =
     sym (children-is Ordinary bits us) ∙ ap (λ (t : Tree). (out-Tree t).children) e ∙ children-is Ordinary
-        (out-Tree c).bits ts in
+    (out-Tree c).bits ts in
     let P : List Tree → Type 0 = λ us. AllPrune us ps 0 in
     inr (ps, (λ i. tree_of Ordinary ((sym (bits-is Ordinary bits us)) i) ps), subst P children all)
 cell_how c p ts e (proof bits t q _ low one) =
     let kinds : Proof ≡ Ordinary =
     sym (kind-is Proof bits (t ∷ [])) ∙ ap (λ (t : Tree). (out-Tree t).kind) e ∙ kind-is Ordinary (out-Tree c).bits
-        ts in
+    ts in
     absurd (cc)
 
 seen_by : (k : Kind) (b : List ℕ) (cs : List Tree) → hidden_by k b (mask (tree_of k b cs)) ≡ None
@@ -280,10 +280,10 @@ pub record Thin (root : Tree) (w : Where) (d : Laid) (ps : List Tree) : Type 0 w
   pub thins : Thins (blank (pruned_in root) w d) value
 
 pub record ThinCell (root : Tree) (w : Where) (q : List ℕ) (c : Tree) (e : LaidEdge) (X : Parts) (p : Tree) : Type 0
-    where
-  pub parts : Parts
-  pub cuts : CutsCell (CutsEdge for_rest for_raw e) c p parts
-  pub thins : PartsThin (cond (pruned_in root (spot w (Some q) c)) (hidden_part c) X) parts
+  where
+    pub parts : Parts
+    pub cuts : CutsCell (CutsEdge for_rest for_raw e) c p parts
+    pub thins : PartsThin (cond (pruned_in root (spot w (Some q) c)) (hidden_part c) X) parts
 
 pub record ThinEdge (root : Tree) (w : Where) (q : List ℕ) (e : LaidEdge) (ps : List Tree) : Type 0 where
   pub parts : Parts
@@ -315,7 +315,7 @@ ref_thin root w c d ps filled_in a x inner =
         let hide : pruned_in root (spot w None c) ≡ true = ap is_pruned (at ∙ ap Some h) ∙ stub-pruned c in
         let P : Bool → Type 0 = λ b.
         Thins (cond b (values.unknown (hidden_of c)) (values.ref_to tt (blank (pruned_in root) (in_ref w) d)))
-            (values.unknown (hidden_of c)) in
+        (values.unknown (hidden_of c)) in
         record {
           value = values.unknown (hidden_of c);
           cuts = inl (e ∙ ap (λ (t : Tree). t ∷ []) h, refl);
@@ -326,7 +326,7 @@ ref_thin root w c d ps filled_in a x inner =
         let y = inner h.0 h.2 (placed-in root (in_ref w) c h.0 (at ∙ ap Some h.1) refl) in
         let P : Bool → Type 0 = λ b.
         Thins (cond b (values.unknown (hidden_of c)) (values.ref_to tt (blank (pruned_in root) (in_ref w) d)))
-            (values.ref_to tt y.value) in
+        (values.ref_to tt y.value) in
         record {
           value = values.ref_to tt y.value;
           cuts = inr (h.0, y.value, e ∙ ap (λ (t : Tree). t ∷ []) h.1, refl, y.cuts);
@@ -347,7 +347,7 @@ raw_thin root w c ps clean a x =
         let hide : pruned_in root (spot w None c) ≡ true = ap is_pruned (at ∙ ap Some h) ∙ stub-pruned c in
         let P : Bool → Type 0 = λ b.
         Thins (cond b (values.unknown (hidden_of c)) (values.ref_to tt (values.raw c)))
-            (values.unknown (hidden_of c)) in
+        (values.unknown (hidden_of c)) in
         record {
           value = values.unknown (hidden_of c);
           cuts = inl (e ∙ ap (λ (t : Tree). t ∷ []) h, refl);
@@ -357,7 +357,7 @@ raw_thin root w c ps clean a x =
         let show : pruned_in root (spot w None c) ≡ false = ap is_pruned at ∙ h.1 in
         let P : Bool → Type 0 = λ b.
         Thins (cond b (values.unknown (hidden_of c)) (values.ref_to tt (values.raw c)))
-            (values.ref_to tt (values.raw p)) in
+        (values.ref_to tt (values.raw p)) in
         record {
           value = values.ref_to tt (values.raw p);
           cuts = inr (p, e, refl, (prunes, h.0));
@@ -383,7 +383,7 @@ cell_thin root w q c e p filled_in prunes at inner = go (cell_how c p (edge_tree
         }
     go (inr h) =
         let show : pruned_in root (spot w (Some q) c) ≡ false = ap is_pruned (at ∙ ap Some h.1) ∙ cell-not_pruned c
-            h.0 in
+        h.0 in
         let y = inner h.0 h.2 (placed-in root (in_edge w) c h.0 (at ∙ ap Some h.1) refl) in
         let P : Bool → Type 0 = λ b.
         PartsThin (cond b (hidden_part c) (blank_edge (pruned_in root) (in_edge w) q e)) y.parts in
@@ -393,7 +393,7 @@ fork_thin : (root : Tree) (w : Where) (q l : List ℕ) (z : Tree) (a : LaidEdge)
     (ps : List Tree) → ps ≡ y ∷ (u ∷ [])
     → ThinCell root w (q ++ (l ++ 0 ∷ [])) z a (blank_edge (pruned_in root) (in_edge w) (q ++ (l ++ 0 ∷ [])) a) y
     → ThinCell root (past w 1) (q ++ (l ++ 1 ∷ [])) o b (blank_edge (pruned_in root) (in_edge (past w 1))
-        (q ++ (l ++ 1 ∷ [])) b) u
+    (q ++ (l ++ 1 ∷ [])) b) u
     → ThinEdge root w q (a_fork l z a o b) ps
 fork_thin root w q l z a o b y u ps e x t = record {
   parts = fork_part l x.parts t.parts;
@@ -488,7 +488,7 @@ mutual
       (thin root (stepped w (named (first_name names))) d filled_in.0 (clean-left (trees d) (trees_all ds) clean) p.0 p.3
       (placed-left root w (named (first_name names)) p.0 p.1 y))
       (thin_fields root (past w (length (trees d))) (other_names names) ds filled_in.1
-          (clean-right (trees d) (trees_all ds) clean) p.1 p.4
+      (clean-right (trees d) (trees_all ds) clean) p.1 p.4
       (placed-right root w (length (trees d)) p.0 p.1 (all-length (trees d) p.0 p.3) y))
 
   thin_items : (root : Tree) (w : Where) (n : ℕ) (ds : Laids) → AreFilled ds → AllClean (trees_all ds) → (ps : List Tree)
@@ -502,7 +502,7 @@ mutual
       (thin root (stepped w (item n)) d filled_in.0 (clean-left (trees d) (trees_all ds) clean) p.0 p.3
       (placed-left root w (item n) p.0 p.1 y))
       (thin_items root (past w (length (trees d))) (suc n) ds filled_in.1 (clean-right (trees d) (trees_all ds) clean) p.1
-          p.4
+      p.4
       (placed-right root w (length (trees d)) p.0 p.1 (all-length (trees d) p.0 p.3) y))
 
   thin_edge : (root : Tree) (w : Where) (q : List ℕ) (e : LaidEdge) → IsFilledEdge e → AllClean (edge_trees e)
@@ -526,10 +526,10 @@ mutual
       fork_thin root w q l z i o j two.0 two.1 ps two.2
       (cell_thin root w (q ++ (l ++ 0 ∷ [])) z i two.0 filled_in.0 two.3 at
       (λ qs b t. thin_edge root (in_edge w) (q ++ (l ++ 0 ∷ [])) i filled_in.1
-          (clean-cell z (edge_trees i) filled_in.0 clean.0) qs b t))
+      (clean-cell z (edge_trees i) filled_in.0 clean.0) qs b t))
       (cell_thin root (past w 1) (q ++ (l ++ 1 ∷ [])) o j two.1 filled_in.2 two.4 next
       (λ qs b t. thin_edge root (in_edge (past w 1)) (q ++ (l ++ 1 ∷ [])) j filled_in.3
-          (clean-cell o (edge_trees j) filled_in.2 clean.1.0) qs b t))
+      (clean-cell o (edge_trees j) filled_in.2 clean.1.0) qs b t))
 
 -- ---- the root
 
@@ -562,7 +562,7 @@ root_thins schema t c p (laid d) clean lies small apart prunes =
     go e filled_in (inl h) = inl h
     go e filled_in (inr h) =
         let y = thin p at_root d filled_in (clean-cell c (trees d) e clean) h.0 h.2
-            (placed-in p at_root c h.0 (ap Some h.1) refl) in
+        (placed-in p at_root c h.0 (ap Some h.1) refl) in
         let x = cut_shows schema for_rest for_raw trusts_pruned t c d clean lies small h.0 y.value y.cuts in
         let P : Tree → Type 0 = λ p. Reading Partial schema t p y.value in
         let Q : Plain → Type 0 = λ v. Thins v y.value in

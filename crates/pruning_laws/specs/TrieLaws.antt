@@ -146,7 +146,7 @@ and-false false = refl
 not_longer : (q k : List ℕ) (n : ℕ) → length k ≡ length q + n → (begins k q && nat_lt (length k) (length q)) ≡ false
 not_longer q k n e =
     ap (λ (t : Bool). begins k q && t) (ap (λ (m : ℕ). nat_lt m (length q)) e ∙ ge-add (length q) n) ∙ and-false
-        (begins k q)
+    (begins k q)
 
 none_shorter : (q : List ℕ) (us : List KeyPart) → AllBelow q us → others_begin us q ≡ false
 none_shorter q [] h = refl
@@ -167,7 +167,7 @@ outer-none : (u : KeyPart) (us ws : List KeyPart) → AllDeeper u.0 ws → outer
 outer-none u us [] h = refl
 outer-none u us (w ∷ ws) h =
     ap (λ (b : Bool). cond b (outer_among (u ∷ us) ws) (w ∷ outer_among (u ∷ us) ws))
-        (covers u us w.0 h.0.0 h.0.1 h.0.2)
+    (covers u us w.0 h.0.0 h.0.1 h.0.2)
     ∙ outer-none u us ws h.1
 
 pub outermost-one : (u : KeyPart) (us : List KeyPart) → AllDeeper u.0 us → outermost (u ∷ us) ≡ u ∷ []
