@@ -44,9 +44,9 @@ IsTabled s (Err e) = IsFirst (tag_refusals (cores s)) e
 
 -- ---- the answers of the whole judgement
 
--- The schema is accepted, or its first refusal by its tags is reported.
+-- The schema is accepted and has no refusal by its tags, or the first of them is reported.
 abbrev pub IsJudged : SchemaView → Result Schema TagError → Type 0
-IsJudged s (Ok accepted) = IsAccepted s × (schema accepted ≡ s)
+IsJudged s (Ok accepted) = IsAccepted s × (tag_refusals (cores s) ≡ []) × (schema accepted ≡ s)
 IsJudged s (Err e) = IsFirst (tag_refusals (cores s)) e
 
 -- The schema passes, unless out of memory.

@@ -39,7 +39,8 @@ returns-in-Ok-clause-judged c =
     let list : c.as_slice.result.now ≡ c.args.kinded.constructors = c.as_slice.ensures ∙ ap (λ (z : Schema). z.constructors) e.same in
     let T : List Constructor → Type 0 = λ z. (tag_refusals (cores (map constructor z)) ≡ []) × IsLeadTable (map constructor z) c.in-Ok.table in
     let judged = subst T list c.in-Ok.ensures in
-    (accepted_by c.accepted_or_refused.ensures s e.within e.kinded (nothing_passed_over s e.ordinary e.no_dictionaries) judged.0, refl)
+    let kept = nothing_passed_over s e.ordinary e.no_dictionaries in
+    (accepted_by c.accepted_or_refused.ensures s e.within e.kinded kept judged.0, judged.0, refl)
 
 pub returns-in-Ok-clause-one_constructor : goal.returns-in-Ok-clause-one_constructor
 returns-in-Ok-clause-one_constructor c =
