@@ -1,10 +1,10 @@
 -- First refusals.
-use Rattle.std.proofs.Common.{◌≡◌, ◌≢◌, ◌∙◌, ap, sym, refl, List, [], ◌∷◌, ◌++◌}
-use Rattle.std.specs.Prelude.{Option, Some, None, Result, Ok, Err}
+use Rattle.std.proofs.Common.{◌≡◌, ◌∙◌, ap, sym, refl, List, [], ◌∷◌, ◌++◌}
+use Rattle.std.specs.Prelude.{Some, None, Result, Ok, Err}
 use Rattle.accepted_schema.specs.Refusals.{TagRefusal, tag_too_long, ambiguous, first_of}
 use Rattle.tag_ambiguity.specs.declared.error.TagError.{TagError}
 use Rattle.tag_ambiguity.specs.declared.error.TagError.TheVariants.{TagTooLong, Ambiguous, NoMemory}
-use Rattle.tag_ambiguity.specs.Judged.{Finds, IsFirst, Reports, refusal_by}
+use Rattle.tag_ambiguity.specs.Judged.{Finds, IsFirst, Reports}
 
 -- with further refusals after them
 more : (rs qs : List TagRefusal) (r : TagRefusal) → first_of rs ≡ Some r → first_of (rs ++ qs) ≡ Some r

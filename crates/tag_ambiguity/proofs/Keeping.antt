@@ -1,5 +1,5 @@
 -- A schema in which nothing is passed over.
-use Rattle.std.proofs.Common.{◌≡◌, ◌∙◌, ◌<◌, ◌⊎◌, inl, inr, sym, Some, ap, refl, subst, ℕ, Bool, true, false, [], ◌∷◌, zero, suc, arith}
+use Rattle.std.proofs.Common.{◌≡◌, ◌∙◌, ◌⊎◌, inl, inr, sym, Some, ap, refl, subst, Bool, false, [], ◌∷◌, zero, suc, arith}
 use Rattle.std.specs.Prelude.{None, All, filter, not, cond}
 use Rattle.tlb_syntax.specs.Tree.{ConstructorView, SchemaView}
 use Rattle.kind_terms.specs.Classes.{is_dictionary}

@@ -1,6 +1,6 @@
 -- The marks of constructors, and what they say of two of them.
 use Rattle.std.proofs.Common.{◌≡◌, ◌∙◌, ◌<◌, ◌+◌, ℕ, zero, suc, Bool, true, false, List, [], ◌∷◌, ◌++◌, length, take, refl, sym, ap, arith, get_or, map, ◌↔◌}
-use Rattle.std.specs.Prelude.{IsTrue, Option, Some, slice_get, nat_eq, ◌||◌, ◌&&◌}
+use Rattle.std.specs.Prelude.{IsTrue, Some, slice_get, nat_eq, ◌||◌, ◌&&◌}
 use Rattle.std.proofs.lemmas.List.{length-map, map-append}
 use Rattle.std.proofs.lemmas.Bool.{eq-eqb, eqb-true}
 use Rattle.bit_slice.specs.Bits.{BeginsWith}

@@ -4,7 +4,7 @@ use Rattle.std.specs.Prelude.{Option, Some, None, option_map, bytes_eq, cond}
 use Rattle.std.specs.Option.{option_or}
 use Rattle.tlb_syntax.specs.declared.tree.ParamKind.{ParamKind}
 use Rattle.tlb_syntax.specs.declared.tree.ParamKind.TheVariants.{Nat, Ty}
-use Rattle.tlb_syntax.specs.Tree.{ExprView, ItemView, ItemList, implicit, check, explicit, no_items, an_item, plus, nested, no_exprs, an_expr}
+use Rattle.tlb_syntax.specs.Tree.{ItemView, ItemList, implicit, check, explicit, no_items, an_item}
 use Rattle.kind_terms.specs.Words.{Word}
 use Rattle.kind_terms.specs.Forms.{is_field_of_numbers}
 use Rattle.schema_core.specs.CoreOf.{names_after}

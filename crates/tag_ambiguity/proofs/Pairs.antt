@@ -1,6 +1,6 @@
 -- The refusals of pairs by places are those of pairs.
 use Rattle.std.proofs.Common.{◌≡◌, ◌∙◌, ◌<◌, ◌≤◌, ◌+◌, ℕ, zero, suc, Bool, true, false, List, [], ◌∷◌, ◌++◌, length, take, drop, refl, sym, ap, subst, arith, append_assoc}
-use Rattle.std.specs.Prelude.{Option, Some, None, slice_get, bytes_eq, nat_eq, cond, not, ◌&&◌}
+use Rattle.std.specs.Prelude.{Option, Some, slice_get, bytes_eq, nat_eq, cond, not, ◌&&◌}
 use Rattle.std.specs.List.{flat_map}
 use Rattle.std.proofs.lemmas.Slice.Eq.{bytes_eq-Decides}
 use Rattle.tlb_syntax.specs.Tree.{SchemaView}

@@ -2,7 +2,7 @@
 use Rattle.std.proofs.Common.{◌≡◌, ◌∙◌, ap, sym, refl, ℕ, Bool, true, false, ◌↔◌, List, [], ◌∷◌, ◌++◌, append_assoc, map}
 use Rattle.std.specs.Prelude.{IsTrue, Option, Some, None}
 use Rattle.std.proofs.lemmas.List.{map-append}
-use Rattle.tlb_syntax.specs.Tree.{ExprView, ExprList, plus, nested, no_exprs, an_expr}
+use Rattle.tlb_syntax.specs.Tree.{ExprView, ExprList, plus, nested, an_expr}
 use Rattle.tlb_syntax.specs.declared.tree.Expr.{Expr}
 use Rattle.tlb_syntax.specs.declared.tree.Expr.TheVariants.{Named, Sum}
 use Rattle.tlb_syntax.specs.View.{expr}

@@ -9,7 +9,7 @@ use Rattle.schema_leads.specs.PatternLaws.{exclude_sound, exclude_complete}
 use Rattle.schema_leads.specs.Separation.{exclude, excluding}
 use Rattle.tag_ambiguity.specs.declared.inputs.Input.{Input as ProgramInput}
 use Rattle.tag_ambiguity.specs.declared.inputs.Input.TheVariants.{Number}
-use Rattle.tag_ambiguity.specs.Inputs.{IsVerdict, input_by, inputs_by, or_those_after, plain_pattern, plain_input, plain_inputs}
+use Rattle.tag_ambiguity.specs.Inputs.{IsVerdict, input_by, inputs_by, or_those_after, plain_pattern, plain_inputs}
 use Rattle.tag_ambiguity.proofs.Listing.{left_at}
 
 plain_exclude : (p q : Pattern) → exclude (plain_pattern p) (plain_pattern q) ≡ exclude p q

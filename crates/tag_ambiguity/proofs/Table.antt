@@ -1,5 +1,5 @@
 -- The table of a schema, place by place.
-use Rattle.std.proofs.Common.{◌≡◌, ◌∙◌, ◌<◌, List, [], ℕ, length, sym, ap, arith, get_or, map}
+use Rattle.std.proofs.Common.{◌≡◌, ◌∙◌, ◌<◌, [], ℕ, length, sym, ap, arith, get_or, map}
 use Rattle.std.specs.Prelude.{Some, option_map, slice_get}
 use Rattle.std.proofs.lemmas.List.{length-map}
 use Rattle.tlb_syntax.specs.Tree.{SchemaView}

@@ -1,12 +1,10 @@
 -- The refusals of tags, one by one.
 use Rattle.std.proofs.Common.{◌≡◌, ◌∙◌, ◌<◌, ◌≤◌, ◌+◌, ℕ, suc, Bool, true, false, [], ◌∷◌, ◌++◌, length, drop, refl, sym, ap, arith}
 use Rattle.std.specs.Prelude.{Some, cond, nat_lt}
-use Rattle.std.proofs.lemmas.Bool.{false≢true}
 use Rattle.std.proofs.lemmas.Bool.Decides.{Decides-ltb}
 use Rattle.tlb_syntax.specs.Tree.{SchemaView}
-use Rattle.core_form.specs.Core.{Declaration}
 use Rattle.schema_leads.specs.Tags.{cores}
-use Rattle.accepted_schema.specs.Refusals.{of_tag, of_tags, first_of, tag_too_long}
+use Rattle.accepted_schema.specs.Refusals.{of_tags, first_of, tag_too_long}
 use Rattle.lead_table.specs.declared.heads.Head.{Head}
 use Rattle.tag_ambiguity.proofs.Listing.{left_at}
 use Rattle.tag_ambiguity.proofs.Pairs.{IsAt}

@@ -1,5 +1,5 @@
 -- The inputs of results, as far as their patterns go.
-use Rattle.std.specs.Prelude.{◌≡◌, Bool, false, List, [], ◌∷◌, map, Option, Some, None}
+use Rattle.std.specs.Prelude.{◌≡◌, Bool, List, [], ◌∷◌, map, Option, Some, None}
 use Rattle.nat_solver.specs.declared.pattern.Pattern.{Pattern}
 use Rattle.nat_solver.specs.declared.pattern.Pattern.TheVariants.{Lit, Var, Plus}
 use Rattle.core_form.specs.Core.{Input, number, type}

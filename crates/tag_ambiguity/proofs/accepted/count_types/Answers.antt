@@ -1,4 +1,4 @@
-use Rattle.std.proofs.Common.{◌≡◌, ◌∙◌, ◌≤◌, ◌+◌, Some, ap, arith, length, sym}
+use Rattle.std.proofs.Common.{◌≡◌, ◌∙◌, ◌≤◌, Some, ap, arith, length, sym}
 use Rattle.std.specs.Prelude.{slice_get}
 use Rattle.tag_ambiguity.proofs.Counting.{counted, counted_first, counted_other}
 use Rattle.tag_ambiguity.proofs.Listing.{got, head_count}

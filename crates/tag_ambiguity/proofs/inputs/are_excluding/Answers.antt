@@ -1,4 +1,4 @@
-use Rattle.std.proofs.Common.{◌≡◌, ◌∙◌, sym}
+use Rattle.std.proofs.Common.{◌∙◌, sym}
 use Rattle.std.specs.Prelude.{None, Some}
 use Rattle.tag_ambiguity.specs.declared.inputs.Input.TheVariants.{OfType}
 use Rattle.tag_ambiguity.proofs.Listing.{got}

@@ -1,4 +1,4 @@
-use Rattle.std.proofs.Common.{◌≡◌, ◌∙◌, ◌+◌, ◌<◌, ◌≤◌, Some, ap, arith, drop, length, refl, sym}
+use Rattle.std.proofs.Common.{◌∙◌, ◌+◌, ◌<◌, ◌≤◌, Some, ap, arith, drop, length, refl, sym}
 use Rattle.tlb_syntax.specs.View.{item, items}
 use Rattle.kind_terms.specs.ViewLaws.{item_at, item_end}
 use Rattle.tag_ambiguity.proofs.Names.{found_first, found_here, found_in}

@@ -1,4 +1,4 @@
-use Rattle.std.proofs.Common.{◌≡◌, ◌∙◌, List, ℕ, Bool, ap, sym, subst}
+use Rattle.std.proofs.Common.{◌∙◌, ap}
 use Rattle.schema_leads.specs.Leads.{begins}
 use Rattle.tag_ambiguity.proofs.Marks.{tested_begin}
 use Rattle.tag_ambiguity.proofs.judge.begins.Goals as goal

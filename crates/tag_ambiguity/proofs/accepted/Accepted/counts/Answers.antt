@@ -1,4 +1,4 @@
-use Rattle.std.proofs.Common.{◌≡◌, ◌∙◌, ◌≤◌, [], ap, arith, length, subst, sym}
+use Rattle.std.proofs.Common.{◌∙◌, [], ap, arith, length, subst, sym}
 use Rattle.tlb_syntax.specs.declared.tree.Schema.{Schema}
 use Rattle.tlb_syntax.specs.View.{schema}
 use Rattle.tag_ambiguity.specs.Separated.{IsSeparated}
