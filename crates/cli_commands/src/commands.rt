@@ -59,7 +59,12 @@ impl Verb {
             text_by result }
     {
         match self {
-            Verb::Read => read(alloc, bytes_at(contents, 0), word_at(words, 1), bytes_at(contents, 1)),
+            Verb::Read => read(
+                alloc,
+                bytes_at(contents, 0),
+                word_at(words, 1),
+                bytes_at(contents, 1),
+            ),
             Verb::Hash => hash(alloc, bytes_at(contents, 0)),
             Verb::Check => check(alloc, bytes_at(contents, 0)),
         }

@@ -34,9 +34,9 @@ answer-line (Ok text) refusal = absurd refusal
 answer-line (Err r) refusal = record { cause = words_of r; whole = refl }
 
 -- that of a stage comes after all files were loaded
-answer-of_stage : (judged : Answer → Type 0) → IsStage judged → (a : Answer) → judged a → IsStageStatus (verdict_of a).status
-answer-of_stage judged stage (Ok text) answers = tt
-answer-of_stage judged stage (Err r) answers = stage.refuses r answers
+answer-of_stage : (relation : Answer → Type 0) → IsStage relation → (a : Answer) → relation a → IsStageStatus (verdict_of a).status
+answer-of_stage relation stage (Ok text) answers = tt
+answer-of_stage relation stage (Err r) answers = stage.refuses r answers
 
 stage-loaded : (s : Status) → IsStageStatus s → IsLoaded s
 stage-loaded ReadFault of_stage = of_stage
