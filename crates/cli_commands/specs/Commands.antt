@@ -3,18 +3,20 @@ use Rattle.std.specs.Prelude.{ℕ, List, [], ◌∷◌, Option, None, Some, if�
 use Rattle.std.specs.Str.{bytes_eq}
 use Rattle.tlb_edge.specs.Files.{Name}
 use Rattle.cli_refusals.specs.Refusal.{Answer}
+use Rattle.cli_commands.specs.Check.{check}
 use Rattle.cli_commands.specs.Command.{Command}
 use Rattle.cli_commands.specs.Hash.{hash}
 use Rattle.cli_commands.specs.Read.{read}
 use Rattle.cli_commands.specs.declared.commands.Verb.{Verb}
-use Rattle.cli_commands.specs.declared.commands.Verb.TheVariants.{Read, Hash}
+use Rattle.cli_commands.specs.declared.commands.Verb.TheVariants.{Read, Hash, Check}
 
 abbrev pub command_of : Verb → Command
 command_of Read = read
 command_of Hash = hash
+command_of Check = check
 
 abbrev pub verbs : List Verb
-verbs = Read ∷ Hash ∷ []
+verbs = Read ∷ Hash ∷ Check ∷ []
 
 -- ---- what holds of the whole table
 

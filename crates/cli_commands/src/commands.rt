@@ -8,6 +8,7 @@ ghost use Rattle.cli_commands.specs.Commands.{CommandAnswers, command_of, verb_o
 ghost use Rattle.cli_commands.specs.Forms.{files_in};
 ghost use Rattle.cli_commands.specs.View.{text_by};
 
+use crate::check::check;
 use crate::hash::hash;
 use crate::read::read;
 use crate::slot::Slot;
@@ -19,6 +20,7 @@ use std::alloc::Global;
 pub enum Verb {
     Read,
     Hash,
+    Check,
 }
 
 impl Verb {
@@ -29,6 +31,7 @@ impl Verb {
         match word {
             "read" => Some(Verb::Read),
             "hash" => Some(Verb::Hash),
+            "check" => Some(Verb::Check),
             _ => None,
         }
     }
@@ -40,6 +43,7 @@ impl Verb {
         match self {
             Verb::Read => &[Slot::Schema, Slot::TypeWord, Slot::Bag],
             Verb::Hash => &[Slot::Bag],
+            Verb::Check => &[Slot::Schema],
         }
     }
 
@@ -62,6 +66,7 @@ impl Verb {
                 bytes_at(contents, 1),
             ),
             Verb::Hash => hash(alloc, bytes_at(contents, 0)),
+            Verb::Check => check(alloc, bytes_at(contents, 0)),
         }
     }
 }

@@ -15,6 +15,8 @@ use Rattle.field_path.specs.declared.part.Part.TheVariants as places
 use Rattle.tlb_kinds.specs.declared.error.KindError.{KindError}
 use Rattle.tlb_kinds.specs.declared.error.KindError.TheVariants as kinds
 use Rattle.tlb_kinds.specs.declared.spot.Spot.{Spot as At}
+use Rattle.tag_ambiguity.specs.declared.error.TagError.{TagError}
+use Rattle.tag_ambiguity.specs.declared.error.TagError.TheVariants as tags
 use Rattle.flat_records.specs.Form.{field_name}
 use Rattle.flat_records.specs.declared.declaration.Declaration.{Declaration}
 use Rattle.flat_records.specs.declared.declaration.Field.{Field}
@@ -112,6 +114,13 @@ kind_cause (kinds.Reserved s) = spaced (codes "Reserved") (item_text s)
 kind_cause (kinds.Unguarded s) = spaced (codes "Unguarded") (item_text s)
 kind_cause kinds.NoMemory = []
 
+-- the cause of a refusal by the tags: TYPE.CONSTRUCTOR, or the type and two constructors; none is refused for lack of
+-- memory
+abbrev pub tag_cause : TagError → List ℕ
+tag_cause (tags.TagTooLong x c) = spaced (codes "TagTooLong") (x ++ codes "." ++ c)
+tag_cause (tags.Ambiguous x c d) = spaced (spaced (spaced (codes "Ambiguous") x) c) d
+tag_cause tags.NoMemory = []
+
 -- the name of the field with that number, where there is one
 abbrev pub name_at : List Field → ℕ → List ℕ
 name_at fields number = unwrap_or (option_map field_name (slice_get fields number)) []
@@ -130,10 +139,11 @@ abbrev pub cell_cause : CellCause → List ℕ
 cell_cause Exotic = codes "Exotic"
 cell_cause (Reading cause) = cause_text cause
 
--- the cause of a schema's refusal: by its text, by its kinds, or a form that isn't read yet
+-- the cause of a schema's refusal: by its text, by its kinds, by its tags, or a form that isn't read yet
 abbrev pub schema_cause : SchemaCause → List ℕ
 schema_cause (schemas.Text error) = grammar_cause error
 schema_cause (schemas.Kinds error) = kind_cause error
+schema_cause (schemas.Tags error) = tag_cause error
 schema_cause schemas.Unsupported = codes "Unsupported"
 
 abbrev pub type_cause : TypeCause → List ℕ

@@ -5,6 +5,7 @@ mod kind_lines;
 mod lines;
 mod refusal;
 mod status;
+mod tag_lines;
 
 pub use lines::spot_words;
 pub use refusal::{CellCause, Refusal, SchemaCause, TypeCause};

@@ -7,9 +7,11 @@ ghost use Rattle.cli_refusals.specs.View.{refusal_by};
 use crate::kind_lines::kind_words;
 use crate::lines::{bag_words, cause_words, grammar_words, spaced};
 use crate::status::Status;
+use crate::tag_lines::tag_words;
 use bag_cells::BagError;
 use flat_records::Cause;
 use std::alloc::Global;
+use tag_ambiguity::TagError;
 use tlb_grammar::GrammarError;
 use tlb_kinds::KindError;
 use tlb_memory::NoMemory;
@@ -19,6 +21,7 @@ use tlb_memory::NoMemory;
 pub enum SchemaCause {
     Text(GrammarError),
     Kinds(KindError),
+    Tags(TagError),
     /// It is of no form that is read yet.
     Unsupported,
 }
@@ -55,6 +58,7 @@ fn schema_words(alloc: Global, cause: &SchemaCause) -> Result<Vec<u8>, NoMemory>
     match cause {
         SchemaCause::Text(error) => grammar_words(alloc, *error),
         SchemaCause::Kinds(error) => kind_words(alloc, error),
+        SchemaCause::Tags(error) => tag_words(alloc, error),
         SchemaCause::Unsupported => {
             let text = Vec::from_slice(alloc, b"Unsupported")?;
             Ok(text)

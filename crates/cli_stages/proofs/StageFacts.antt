@@ -16,7 +16,7 @@ use Rattle.kind_declarations.specs.Faults.{first}
 use Rattle.tlb_grammar.specs.Answer.{Refuses}
 use Rattle.tlb_grammar.specs.declared.error.GrammarError.{GrammarError}
 use Rattle.tlb_kinds.specs.RefusalLaws.{refused_not_kinded}
-use Rattle.tlb_kinds.specs.Refusals.{IsKinded, refusals}
+use Rattle.tlb_kinds.specs.Refusals.{kept_of, refusals}
 use Rattle.tlb_kinds.specs.declared.error.KindError.{KindError}
 use Rattle.tlb_lexer.specs.Tokenization.{Tokenizes, TokenRefusal}
 use Rattle.tlb_lexer.specs.declared.LexError.{LexError}
@@ -24,16 +24,23 @@ use Rattle.tlb_lexer.specs.declared.Token.{Token}
 use Rattle.tlb_syntax.specs.Tree.{SchemaView}
 use Rattle.tlb_syntax.specs.Written.{Writes}
 use Rattle.typed_value.specs.Values.{Plain}
+use Rattle.core_form.specs.Core.{Word}
+use Rattle.schema_leads.specs.Tags.{cores}
+use Rattle.accepted_schema.specs.Refusals.{TagRefusal, tag_too_long, ambiguous, first_of, tag_refusals}
+use Rattle.tag_ambiguity.specs.Judged.{refusal_by}
+use Rattle.tag_ambiguity.specs.declared.error.TagError.{TagError}
+use Rattle.tag_ambiguity.specs.declared.error.TagError.TheVariants.{TagTooLong, Ambiguous, NoMemory as NoTagMemory}
 use Rattle.cli_refusals.specs.Lines.{spot_text}
 use Rattle.cli_refusals.specs.Refusal.{Refusal, schema, bag, cell, status_of}
 use Rattle.cli_refusals.specs.declared.refusal.CellCause.TheVariants.{Reading as ByReading}
-use Rattle.cli_refusals.specs.declared.refusal.SchemaCause.TheVariants.{Text, Kinds as ByKinds}
+use Rattle.cli_refusals.specs.declared.refusal.SchemaCause.TheVariants.{Text, Kinds as ByKinds, Tags as ByTags}
 use Rattle.cli_stages.specs.Bag.{Bag, RefusesBag}
 use Rattle.cli_stages.specs.Cell.{Cell, RefusesCell, exotic, stuck, SpellsValue}
 use Rattle.cli_stages.specs.FlatForm.{FlatForm, FormOf, RefusesForm}
 use Rattle.cli_stages.specs.Kinds.{Kinds, RefusesKinds}
 use Rattle.cli_stages.specs.SchemaText.{SchemaText, RefusesText}
 use Rattle.cli_stages.specs.Stage.{stage, IsAnswered, IsStageStatus, IsOnce, IsStage}
+use Rattle.cli_stages.specs.Tags.{Tags, IsTagRefusal, RefusesTags}
 use Rattle.cli_stages.specs.TypeWord.{TypeWord, RefusesWord}
 use Rattle.cli_stages.proofs.Layers.{Bags, Forms, Readings, Texts}
 
@@ -73,25 +80,64 @@ text-stage laws text = record {
 
 -- ---- its kinds
 
-unit-once : (P : Type 0) (x y : Unit {0}) → P → P → x ≡ y
-unit-once P x y a b = refl
-
 kinds-by : (es : List KindError) → (es ≡ []) ⊎ ((e : KindError) × (first es ≡ Some e))
 kinds-by [] = inl refl
 kinds-by (e ∷ es) = inr (e, refl)
 
 kinds-some : (s : SchemaView) → (refusals s ≡ []) ⊎ ((e : KindError) × (first (refusals s) ≡ Some e)) → IsAnswered (Kinds s)
-kinds-some s (inl is) = (Ok tt, is)
+kinds-some s (inl is) = (Ok (kept_of s), (is, refl))
 kinds-some s (inr h) = (Err _, (h.0, h.1, refl))
 
 pub kinds-stage : (s : SchemaView) → IsStage (Kinds s)
 kinds-stage s = record {
   once = stage-once (RefusesKinds s) _
       (λ r t a b. a.2 ∙ ap (λ e. schema (ByKinds e)) (some-same a.0 b.0 _ a.1 b.1) ∙ sym b.2)
-      (unit-once (IsKinded s))
-      (λ r done a b. refused_not_kinded s a.0 a.1 b);
+      (λ k l a b. a.1 ∙ sym b.1)
+      (λ r kept a b. refused_not_kinded s a.0 a.1 b.0);
   answered = kinds-some s (kinds-by (refusals s));
   refuses = λ r given. judged-as r _ given.2 tt;
+}
+
+-- ---- its tags
+
+too-long-same : (x c : Word) (f : TagError) → Some (tag_too_long x c) ≡ refusal_by f → TagTooLong x c ≡ f
+too-long-same x c (TagTooLong y d) is = cc
+too-long-same x c (Ambiguous y d e) is = cc
+too-long-same x c NoTagMemory is = cc
+
+ambiguous-same : (x c d : Word) (f : TagError) → Some (ambiguous x c d) ≡ refusal_by f → Ambiguous x c d ≡ f
+ambiguous-same x c d (TagTooLong y e) is = cc
+ambiguous-same x c d (Ambiguous y e g) is = cc
+ambiguous-same x c d NoTagMemory is = cc
+
+errors-same : (e f : TagError) → (e ≡ NoTagMemory → ⊥) → refusal_by e ≡ refusal_by f → e ≡ f
+errors-same (TagTooLong x c) f ne is = too-long-same x c f is
+errors-same (Ambiguous x c d) f ne is = ambiguous-same x c d f is
+errors-same NoTagMemory f ne is = absurd (ne refl)
+
+tags-same : (s : SchemaView) (r q : Refusal) → RefusesTags s r → RefusesTags s q → r ≡ q
+tags-same s r q a b =
+    let same : a.0 ≡ b.0 = errors-same a.0 b.0 a.1.is_refusal (sym a.1.first ∙ b.1.first) in
+    a.1.is ∙ ap (λ e. schema (ByTags e)) same ∙ sym b.1.is
+
+reported-none : (rs : List TagRefusal) (e : TagError) → rs ≡ [] → (e ≡ NoTagMemory → ⊥) → first_of rs ≡ refusal_by e → ⊥
+reported-none rs (TagTooLong x c) none ne is = let same : None ≡ Some (tag_too_long x c) = sym (ap first_of none) ∙ is in cc
+reported-none rs (Ambiguous x c d) none ne is = let same : None ≡ Some (ambiguous x c d) = sym (ap first_of none) ∙ is in cc
+reported-none rs NoTagMemory none ne is = ne refl
+
+tags-some : (s : SchemaView) (rs : List TagRefusal) → tag_refusals (cores s) ≡ rs → IsAnswered (Tags s)
+tags-some s [] is = (Ok s, (is, refl))
+tags-some s (tag_too_long x c ∷ rs) is =
+    (Err (schema (ByTags (TagTooLong x c))), (TagTooLong x c, record { is_refusal = λ same. cc; first = ap first_of is; is = refl }))
+tags-some s (ambiguous x c d ∷ rs) is =
+    (Err (schema (ByTags (Ambiguous x c d))), (Ambiguous x c d, record { is_refusal = λ same. cc; first = ap first_of is; is = refl }))
+
+pub tags-stage : (s : SchemaView) → IsStage (Tags s)
+tags-stage s = record {
+  once = stage-once (RefusesTags s) _ (tags-same s) (λ k l a b. a.1 ∙ sym b.1)
+      (λ r kept a b. reported-none (tag_refusals (cores s)) a.0 b.0 a.1.is_refusal a.1.first);
+  answered = tags-some s (tag_refusals (cores s)) refl;
+  refuses = λ r given. judged-as r _ given.1.is tt;
 }
 
 -- ---- its form

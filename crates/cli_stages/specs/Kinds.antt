@@ -1,7 +1,7 @@
 -- The stage of a schema's kinds and its guard.
 use Rattle.std.specs.Prelude.{◌≡◌, Some, Result}
 use Rattle.tlb_syntax.specs.Tree.{SchemaView}
-use Rattle.tlb_kinds.specs.Refusals.{IsKinded, first_refusal}
+use Rattle.tlb_kinds.specs.Refusals.{IsKinded, first_refusal, kept_of}
 use Rattle.tlb_kinds.specs.declared.error.KindError.{KindError}
 use Rattle.cli_refusals.specs.Refusal.{Refusal, schema}
 use Rattle.cli_stages.specs.Stage.{stage}
@@ -11,6 +11,6 @@ use Rattle.cli_refusals.specs.declared.refusal.SchemaCause.TheVariants.{Kinds as
 abbrev pub RefusesKinds : SchemaView → Refusal → Type 0
 RefusesKinds s refusal = (error : KindError) × (first_refusal s ≡ Some error) × (refusal ≡ schema (ByKinds error))
 
--- or it has none
-abbrev pub Kinds : SchemaView → Result (Unit {0}) Refusal → Type 0
-Kinds s = stage (RefusesKinds s) (λ done. IsKinded s)
+-- or it has none, and is given without the declarations that are passed over
+abbrev pub Kinds : SchemaView → Result SchemaView Refusal → Type 0
+Kinds s = stage (RefusesKinds s) (λ kept. IsKinded s × (kept ≡ kept_of s))

@@ -6,4 +6,5 @@ pub mod SchemaText
 pub mod Stage
 pub mod StageLaws
 pub mod Stages
+pub mod Tags
 pub mod TypeWord

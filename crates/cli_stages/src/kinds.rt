@@ -9,7 +9,7 @@ use crate::Stop;
 use cli_refusals::{Refusal, SchemaCause};
 use std::alloc::Global;
 use tlb_grammar::Schema;
-use tlb_kinds::{KindError, kind_check};
+use tlb_kinds::{KindError, Kinded, kind_check};
 
 fn is_no_memory(error: &KindError) -> bool
     ensures { result ≡ false → error.now ≢ KindError.NoMemory }
@@ -20,13 +20,13 @@ fn is_no_memory(error: &KindError) -> bool
     }
 }
 
-/// Whether the schema has no refusal by its kinds or its guard.
-pub fn kinds(alloc: Global, tree: Schema) -> Result<(), Stop>
+/// The schema without the declarations that are passed over, where it has no refusal by its kinds or its guard.
+pub fn kinds(alloc: Global, tree: Schema) -> Result<Kinded, Stop>
     requires { IsWithinLimits (schema_view tree) }
-    ensures { Answers (Kinds (schema_view tree)) (λ done. done) result }
+    ensures { Answers (Kinds (schema_view tree)) schema_view result }
 {
     match kind_check(alloc, tree) {
-        Ok(_kinded) => Ok(()),
+        Ok(kinded) => Ok(kinded),
         Err(error) => {
             if is_no_memory(&error) {
                 return Err(Stop::NoMemory);

@@ -8,6 +8,7 @@ pub mod kinds;
 pub mod laws;
 pub mod schema_text;
 mod stop;
+pub mod tags;
 pub mod type_word;
 
 pub use stop::Stop;

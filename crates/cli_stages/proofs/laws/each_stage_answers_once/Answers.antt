@@ -1,5 +1,5 @@
 use Rattle.cli_stages.proofs.Layers.{Bags, Forms, Readings, Texts}
-use Rattle.cli_stages.proofs.StageFacts.{bag-stage, cell-stage, form-stage, kinds-stage, text-stage, word-stage}
+use Rattle.cli_stages.proofs.StageFacts.{bag-stage, cell-stage, form-stage, kinds-stage, tags-stage, text-stage, word-stage}
 use Rattle.cli_stages.proofs.laws.each_stage_answers_once.Goals as goal
 
 pub returns : goal.returns
@@ -33,6 +33,7 @@ returns c =
     record {
       schema_text = text-stage texts;
       kinds = kinds-stage;
+      tags = tags-stage;
       flat_form = form-stage forms;
       type_word = word-stage;
       bag = bag-stage bags;

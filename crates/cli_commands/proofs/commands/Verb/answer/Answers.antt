@@ -5,3 +5,6 @@ returns-in-Read c = rw (c.in-Read.is, ← c.bytes_at.ensures, ← c.word_at.ensu
 
 pub returns-in-Hash : goal.returns-in-Hash
 returns-in-Hash c = rw (c.in-Hash.is, ← c.bytes_at-in-Hash.ensures) c.hash.ensures
+
+pub returns-in-Check : goal.returns-in-Check
+returns-in-Check c = rw (c.in-Check.is, ← c.bytes_at-in-Check.ensures) c.check.ensures
