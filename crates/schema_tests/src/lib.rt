@@ -12,4 +12,6 @@ mod texts;
 #[cfg(test)]
 mod token_rows;
 #[cfg(test)]
+mod type_words;
+#[cfg(test)]
 mod verdicts;
