@@ -18,4 +18,6 @@ mod texts;
 #[cfg(test)]
 mod token_rows;
 #[cfg(test)]
+mod type_words;
+#[cfg(test)]
 mod verdicts;
