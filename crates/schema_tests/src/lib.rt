@@ -2,11 +2,15 @@
 #![tactic(auto)]
 
 #[cfg(test)]
+mod closing_rows;
+#[cfg(test)]
 mod dictionary_lines;
 #[cfg(test)]
 mod judgements;
 #[cfg(test)]
 mod lead_rows;
+#[cfg(test)]
+mod plan_rows;
 #[cfg(test)]
 mod records;
 #[cfg(test)]
