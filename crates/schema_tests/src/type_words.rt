@@ -5,7 +5,8 @@ use std::process::Abort;
 use type_index::TypeIndex;
 use type_word::{TypeError, resolve};
 
-const SCHEMA: &str = "nothing$0 {X:Type} = Maybe X; just$1 {X:Type} value:X = Maybe X; unit$_ = Unit; pair$_ {X:Type} {Y:Type} first:X second:Y = Both X Y; unary_zero$0 = Unary ~0; unary_succ$1 {n:#} x:(Unary ~n) = Unary ~(n + 1); v$_ {n:#} x:(uint n) = V n;";
+const SCHEMA: &str =
+    "nothing$0 {X:Type} = Maybe X; just$1 {X:Type} value:X = Maybe X; unit$_ = Unit; pair$_ {X:Type} {Y:Type} first:X second:Y = Both X Y; unary_zero$0 = Unary ~0; unary_succ$1 {n:#} x:(Unary ~n) = Unary ~(n + 1); v$_ {n:#} x:(uint n) = V n;";
 
 // A word, and its answer: a cause with the place or the name that it carries, or the number of nodes.
 static WORDS: [(&str, &str); 45] = [
@@ -65,7 +66,10 @@ fn shown(rt: &impl Abort, alloc: Global, word: &str) -> String {
         Err(TypeError::UnknownType(name)) => format!(in alloc; "unknown {}", name_text(&name)),
         Err(TypeError::Arity(name)) => format!(in alloc; "arity {}", name_text(&name)),
         Err(TypeError::Output(name)) => format!(in alloc; "output {}", name_text(&name)),
-        Err(TypeError::KindMismatch(Some(name))) => format!(in alloc; "mismatch {}", name_text(&name)),
+        Err(TypeError::KindMismatch(Some(name))) => format!(in alloc;
+            "mismatch {}",
+            name_text(&name)
+        ),
         Err(TypeError::KindMismatch(None)) => format!(in alloc; "mismatch"),
         Err(TypeError::TooWide) => format!(in alloc; "wide"),
         Err(TypeError::BigType) => format!(in alloc; "big"),
@@ -84,6 +88,9 @@ fn name_text(name: &bit_slice::Name) -> &str {
 #[test]
 fn words_name_types_or_have_one_first_refusal(rt: HostRuntime) {
     for (word, answer) in WORDS.iter() {
-        assert!(rt; shown(&rt, rt.alloc(), word).as_str() == *answer, "at {word}");
+        assert!(rt;
+            shown(&rt, rt.alloc(), word).as_str() == *answer,
+            "at {word}"
+        );
     }
 }
