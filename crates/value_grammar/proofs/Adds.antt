@@ -286,7 +286,7 @@ part_closed_text false bs refs = ordinary_text bs refs
 pub closed_text : (p : Part) → IfMade (closed p) (λ t. cell t ≡ (bang p.exotic ++ body_text p.bits p.refs) ++ mark 41 ∷ [])
 closed_text p = part_closed_text p.exotic p.bits p.refs
 
--- a reference more, behind a comma
+-- one more reference, after a comma
 push_text : (f b p g m c : List Token) → f ++ (b ++ p ++ (g ++ (m ++ mark 44 ∷ c))) ≡ (f ++ (b ++ (p ++ (g ++ m ++ mark 44 ∷ [])))) ++ c
 push_text f b p g m c = simp append_assoc refl
 

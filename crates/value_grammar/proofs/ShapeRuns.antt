@@ -124,7 +124,7 @@ start = at due []
 pub whole_runs : (s : List Shape) → IsWhole s → run start s ≡ Some (at done [])
 whole_runs s h = value_run h []
 
--- ---- fronts
+-- ---- prefixes
 
 pub run-append : (p : State) (xs ys : List Shape) → run p (xs ++ ys) ≡ onward (run p xs) (λ q. run q ys)
 run-append p [] ys = refl
@@ -134,19 +134,19 @@ run-append p (x ∷ xs) ys =
       | None ↦ refl
     ]
 
--- a front that goes on leads somewhere
-pub front_runs : (front : List Shape) → CanGoOn front → run start front ≡ None → ⊥
-front_runs front g e =
-    let there : run start (front ++ g.more) ≡ None = run-append start front g.more ∙ ap (λ (o : Option State). onward o (λ q. run q g.more)) e in
-    let no : Some (at done []) ≡ None = sym (whole_runs (front ++ g.more) g.whole) ∙ there in
+-- a prefix that goes on leads somewhere
+pub prefix_runs : (prefix : List Shape) → CanGoOn prefix → run start prefix ≡ None → ⊥
+prefix_runs prefix g e =
+    let there : run start (prefix ++ g.more) ≡ None = run-append start prefix g.more ∙ ap (λ (o : Option State). onward o (λ q. run q g.more)) e in
+    let no : Some (at done []) ≡ None = sym (whole_runs (prefix ++ g.more) g.whole) ∙ there in
     absurd (cc)
 
-pub stuck : (front : List Shape) (p : State) (c : Shape) → run start front ≡ Some p → step p c ≡ None → CanGoOn (front ++ c ∷ []) → ⊥
-stuck front p c e n g =
-    front_runs (front ++ c ∷ []) g
-    (run-append start front (c ∷ []) ∙ ap (λ (o : Option State). onward o (λ q. run q (c ∷ []))) e ∙ ap (λ (o : Option State). onward o (λ q. run q [])) n)
+pub stuck : (prefix : List Shape) (p : State) (c : Shape) → run start prefix ≡ Some p → step p c ≡ None → CanGoOn (prefix ++ c ∷ []) → ⊥
+stuck prefix p c e n g =
+    prefix_runs (prefix ++ c ∷ []) g
+    (run-append start prefix (c ∷ []) ∙ ap (λ (o : Option State). onward o (λ q. run q (c ∷ []))) e ∙ ap (λ (o : Option State). onward o (λ q. run q [])) n)
 
-pub not_whole : (front : List Shape) (p : State) → run start front ≡ Some p → (p ≡ at done [] → ⊥) → IsWhole front → ⊥
-not_whole front p e n h =
-    let same : Some p ≡ Some (at done []) = sym e ∙ whole_runs front h in
+pub not_whole : (prefix : List Shape) (p : State) → run start prefix ≡ Some p → (p ≡ at done [] → ⊥) → IsWhole prefix → ⊥
+not_whole prefix p e n h =
+    let same : Some p ≡ Some (at done []) = sym e ∙ whole_runs prefix h in
     n (let f : p ≡ at done [] = cc in f)

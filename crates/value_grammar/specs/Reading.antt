@@ -35,7 +35,8 @@ IsUnfinished spot = Unit {0}
 -- the text is refused
 pub data Stops (file : List ℕ) : Cause → ℕ → Type 0 where
   -- a lexeme has no step
-  at_lexeme : {place n byte : ℕ} {h : Held} {l : Lexeme} {cause : Cause} → Reaches file place h → Stands l n (drop place file)
+  at_lexeme : {place n byte : ℕ} {h : Held} {l : Lexeme} {cause : Cause}
+      → Reaches file place h → Stands l n (drop place file)
       → step h (place, l) ≡ Err (cause, byte) → Stops file cause byte
   -- no lexeme stands there
   at_nothing : {place : ℕ} {h : Held} → Reaches file place h → drop place file ≢ [] → NothingStands (drop place file)
