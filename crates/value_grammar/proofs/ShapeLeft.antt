@@ -1,6 +1,6 @@
 -- What may come after where the text stands: each step read backwards is a production. So every text that the machine
 -- goes through can go on.
-use Rattle.std.proofs.Common.{◌≡◌, ℕ, zero, suc, Bool, true, false, List, [], ◌∷◌, ◌++◌, Option, Some, None, refl, sym, ap, ◌∙◌, subst, append-nil}
+use Rattle.std.proofs.Common.{◌≡◌, ℕ, zero, suc, Bool, true, false, List, [], ◌∷◌, ◌++◌, Option, Some, None, refl, sym, subst, append-nil}
 use Rattle.value_text.specs.declared.lexeme.Sign.{Sign}
 use Rattle.value_text.specs.declared.lexeme.Sign.TheVariants.{OpenBrace, CloseBrace, OpenBracket, CloseBracket, OpenParen, CloseParen, Less, Greater, Comma, Colon, Tilde, Caret, Bang, Percent}
 use Rattle.value_grammar.specs.Shapes.{Shape, sign, number, bits, name, x_name, hidden}

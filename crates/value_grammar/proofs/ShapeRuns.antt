@@ -1,9 +1,9 @@
 -- What the productions derive, the machine goes through: one line a production.
-use Rattle.std.proofs.Common.{◌≡◌, ℕ, zero, suc, Bool, true, false, List, [], ◌∷◌, ◌++◌, Option, Some, None, refl, sym, ap, ◌∙◌}
-use Rattle.value_text.specs.declared.lexeme.Sign.TheVariants.{OpenBrace, CloseBrace, OpenBracket, CloseBracket, OpenParen, CloseParen, Less, Greater, Comma, Colon, Tilde, Caret, Bang, Percent}
-use Rattle.value_grammar.specs.Shapes.{Shape, sign, number, bits, name, x_name, hidden}
+use Rattle.std.proofs.Common.{◌≡◌, ℕ, suc, Bool, true, false, List, [], ◌∷◌, ◌++◌, Option, Some, None, refl, sym, ap, ◌∙◌}
+use Rattle.value_text.specs.declared.lexeme.Sign.TheVariants.{CloseBrace, CloseBracket, OpenParen, CloseParen, Greater, Colon, Bang}
+use Rattle.value_grammar.specs.Shapes.{Shape, sign, bits}
 use Rattle.value_grammar.specs.Grammar.{ACell, AField, AValue, AnEntry, Body, CanGoOn, Children, Entries, Fields, IsLabel, IsWhole, Items, MoreEntries, MoreFields, MoreItems, a_body, a_cell, a_child, a_field, a_hidden, a_hidden_part, a_list, a_map, a_named, a_nameless, a_number, a_pair, a_reference, a_rest, an_absent, an_exotic, an_ordinary, by_name, by_x, entries_end, fields_end, items_end, next_entry, next_field, next_item, no_child, no_entry, no_field, no_item, some_bits, some_entries, some_fields, some_items}
-use Rattle.value_grammar.proofs.ShapeSteps.{Around, State, Where, after_entry, after_field, after_item, after_part, after_rest, at, bits_due, cell_given, child_due, done, due, entry_due, entry_or_end, field_due, field_or_end, given, in_field, in_item, in_pair, in_reference, item_or_end, keyed, labelled, named, onward, paren_due, rest_bits, rest_child, rest_paren, run, step}
+use Rattle.value_grammar.proofs.ShapeSteps.{Around, State, after_entry, after_field, after_item, after_part, after_rest, at, bits_due, cell_given, child_due, done, due, entry_due, entry_or_end, field_due, field_or_end, given, in_field, in_item, in_pair, in_reference, item_or_end, onward, paren_due, rest_child, rest_paren, run, step}
 
 -- both go on alike
 abbrev Same : State → List Shape → State → List Shape → Type 0

@@ -1,5 +1,5 @@
 -- Where the steps lead in a text: to a place, to a whole value at its end, or to a refusal.
-use Rattle.std.specs.Prelude.{◌≡◌, ◌≢◌, ℕ, ◌+◌, List, [], drop, Result, Ok, Err}
+use Rattle.std.specs.Prelude.{◌≡◌, ◌≢◌, ℕ, ◌+◌, List, [], drop, Ok, Err}
 use Rattle.typed_value.specs.Values.{Plain}
 use Rattle.value_text.specs.declared.lexeme.Lexeme.{Lexeme}
 use Rattle.value_text.specs.Division.{Divides, Placed, space_before, without_space}

@@ -3,7 +3,7 @@
 -- Where a text stands, it has been divided into lexemes, and a value is open of which they are what has been written.
 -- It is refused at the next place where a lexeme passes a limit, where no value can go on with the lexeme, where no
 -- lexeme stands, or where the text ends too early.
-use Rattle.std.specs.Prelude.{◌≡◌, ◌≢◌, ℕ, ◌+◌, List, [], ◌∷◌, ◌++◌, map, Option, Some, None, Result, Ok, Err}
+use Rattle.std.specs.Prelude.{◌≡◌, ◌≢◌, ℕ, ◌+◌, List, [], ◌∷◌, ◌++◌, map, Some, None, Err}
 use Rattle.value_text.specs.declared.lexeme.Sign.TheVariants.{CloseParen, OpenParen}
 use Rattle.value_text.specs.declared.lexeme.Lexeme.{Lexeme}
 use Rattle.value_text.specs.declared.lexeme.Lexeme.TheVariants.{Sign as ASign}
@@ -13,7 +13,7 @@ use Rattle.value_text.specs.Text.{cell, more}
 use Rattle.value_text.specs.Tokens.{bits}
 use Rattle.value_grammar.specs.Grammar.{CanGoOn, IsWhole}
 use Rattle.value_grammar.specs.Open.{Frame, Open, Part, Spot, after_part, at, in_cell, so_far}
-use Rattle.value_grammar.specs.Shapes.{Shape, shape, shapes}
+use Rattle.value_grammar.specs.Shapes.{shape, shapes}
 use Rattle.value_grammar.specs.declared.cause.Cause.{Cause}
 use Rattle.value_grammar.specs.declared.cause.Cause.TheVariants.{Syntax}
 use Rattle.value_grammar.specs.Within.{IsWithin, closed, limit}

@@ -1,6 +1,6 @@
 -- What is open is within the limits, and its maps are in order. This project's own; the bounds of cells are those of
 -- the TON documentation, "Cells as data storage".
-use Rattle.std.specs.Prelude.{◌≡◌, ◌⊎◌, ℕ, suc, ◌+◌, ◌≤◌, Bool, true, false, ◌&&◌, ◌||◌, not, nat_le, nat_lt, bytes_eq, codes, if◌then◌else◌, IsTrue, List, [], ◌∷◌, ◌++◌, length, Option, Some, None, Result, Ok, Err}
+use Rattle.std.specs.Prelude.{◌≡◌, ℕ, suc, ◌+◌, ◌≤◌, Bool, true, false, ◌&&◌, ◌||◌, not, nat_le, nat_lt, bytes_eq, codes, if◌then◌else◌, IsTrue, List, [], ◌∷◌, ◌++◌, length, Option, Some, None, Result, Ok, Err}
 use Rattle.cell_nodes.specs.Good.{AllGood}
 use Rattle.cell_nodes.specs.Layout.{exotic_kind}
 use Rattle.cell_nodes.specs.Tree.{deepest, tree_of}
@@ -12,10 +12,9 @@ use Rattle.bit_slice.specs.Names.{IsName}
 use Rattle.typed_value.specs.Values.{Plain, Slice, levels, levels_by, levels_in, most_levels, most_parts}
 use Rattle.typed_value.specs.View.{names_in, pairs_of, vals_in, vals_of}
 use Rattle.value_text.specs.declared.lexeme.Sign.{Sign}
-use Rattle.value_text.specs.declared.lexeme.Sign.TheVariants.{OpenBrace, CloseBrace, OpenBracket, CloseBracket, OpenParen, CloseParen, Less, Greater, Comma, Colon, Tilde, Caret, Bang, Percent}
+use Rattle.value_text.specs.declared.lexeme.Sign.TheVariants.{OpenBrace, OpenBracket, OpenParen, Less, Tilde, Caret, Bang, Percent}
 use Rattle.value_text.specs.declared.lexeme.Lexeme.{Lexeme}
 use Rattle.value_text.specs.declared.lexeme.Lexeme.TheVariants.{Sign as ASign, Number, Bits, Name, Hidden as AHidden, Beyond}
-use Rattle.value_text.specs.Text.{comes_before}
 use Rattle.value_text.specs.Writes.{AreEntries, AreFew, AreFields, AreFormed, AreHidden, IsFormed, IsRecordName, comes_after, in_order, keys_of, most_cells}
 use Rattle.value_grammar.specs.declared.cause.Cause.{Cause}
 use Rattle.value_grammar.specs.declared.cause.Cause.TheVariants.{BulkText, DeepText, KeyOrder, Range}
