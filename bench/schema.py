@@ -3,8 +3,10 @@
 
 Writes texts of at most 1,048,576 bytes: open brackets alone, sums of half a million numbers and of as many variables, a row of
 parameters, a row of fields, 4,096 declarations, 4,096 declarations with fields of each other's types, types in one chain, in one
-ring, and types of which each exposes many later ones and the last exposes itself. Runs the built program on each and prints its
-line and its processor time.
+ring, and types of which each exposes many later ones and the last exposes itself. Runs the built program by `read` on each and
+prints its line and its processor time. Then by `check` on schemas whose tags and leads take work: many types, large types with long
+tags and parameters, a chain of empty tags, leads that pass 64 at every second type, and one computed tag of a text of that size. All
+take time in proportion to their size, but for large types, where each two constructors of a type are compared.
 """
 import os
 import resource
@@ -31,21 +33,38 @@ def texts():
     yield "late cycle", "".join(f"a$_ {fields(i, 20)} = T{i};\n" for i in range(4095)) + "a$_ x:T4095 = T4095;"
 
 
+def tag_texts():
+    yield "types", "".join(f"a$0 = T{i};\n" for i in range(4096))
+    yield "large types", "".join(f"a{j}${j:063b} = T{i} 1 2 3 4 5 6 7 8;\n" for i in range(16) for j in range(256))
+    yield "chain of empty tags", "".join(f"_ x:T{i + 1} = T{i};\n" for i in range(4094)) + "a$0 = T4094; b$1 = T4094;"
+    yield "more than 64 leads", "".join(over_64(i) for i in range(0, 124, 2))
+    yield "computed tag", "a {" + "0+" * 524_270 + "0 = 0} = T;"
+
+
+def over_64(i):
+    return "".join(f"a{j}${j:07b} = T{i};\n" for j in range(65)) + f"_ x:T{i} = T{i + 1};\n"
+
+
 def fields(i, count):
     return " ".join(f"f{j}:T{min(i + j + 1, 4095)}" for j in range(count))
 
 
+def run(folder, text, words):
+    path = os.path.join(folder, "schema")
+    with open(path, "w", encoding="ascii") as out:
+        out.write(text)
+    before = resource.getrusage(resource.RUSAGE_CHILDREN)
+    done = subprocess.run([PROGRAM, words[0], path, *words[1:]], stdout=subprocess.PIPE, check=False)
+    after = resource.getrusage(resource.RUSAGE_CHILDREN)
+    return after.ru_utime - before.ru_utime + after.ru_stime - before.ru_stime, done.stdout.decode().strip()
+
+
 def main():
     with tempfile.TemporaryDirectory() as folder:
-        for name, text in texts():
-            path = os.path.join(folder, "schema")
-            with open(path, "w", encoding="ascii") as out:
-                out.write(text)
-            before = resource.getrusage(resource.RUSAGE_CHILDREN)
-            done = subprocess.run([PROGRAM, "read", path, "T", BAG], stdout=subprocess.PIPE, check=False)
-            after = resource.getrusage(resource.RUSAGE_CHILDREN)
-            spent = after.ru_utime - before.ru_utime + after.ru_stime - before.ru_stime
-            print(f"{name}, {len(text)} bytes: {spent:.2f} s, {done.stdout.decode().strip()}")
+        for listed, words in ((texts(), ["read", "T", BAG]), (tag_texts(), ["check"])):
+            for name, text in listed:
+                spent, line = run(folder, text, words)
+                print(f"{words[0]}: {name}, {len(text)} bytes: {spent:.2f} s, {line}")
 
 
 if __name__ == "__main__":

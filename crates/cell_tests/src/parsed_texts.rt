@@ -36,7 +36,10 @@ static TEXTS: [(&str, &str); 25] = [
         "<x{2_}:1,x{6_}?00000000000000000000000000000000000000000000000000000000000000ff.0>",
     ),
     ("(x{})", "(x{})"),
-    ("( x{1} ,(x{2} , (x{3})),(x{}))", "(x{1},(x{2},(x{3})),(x{}))"),
+    (
+        "( x{1} ,(x{2} , (x{3})),(x{}))",
+        "(x{1},(x{2},(x{3})),(x{}))",
+    ),
     ("%(x{D2C_},(x{}))", "%(x{D2C_},(x{}))"),
     (
         "%(x{},(x{}),(x{}),(x{}),(x{}),(x{}))",
@@ -110,16 +113,8 @@ static REFUSED: [(&str, &str, u64); 40] = [
     ("x{8_}", "Syntax", 0),
     ("x{a}", "Syntax", 0),
     ("?00", "Syntax", 0),
-    (
-        "340282366920938463463374607431768211456",
-        "Range",
-        0,
-    ),
-    (
-        "1 340282366920938463463374607431768211456",
-        "Range",
-        2,
-    ),
+    ("340282366920938463463374607431768211456", "Range", 0),
+    ("1 340282366920938463463374607431768211456", "Range", 2),
     (
         "{?00000000000000000000000000000000000000000000000000000000000000ff.65536",
         "Range",
@@ -154,7 +149,8 @@ fn repeated(rt: &impl Abort, alloc: Global, part: &str, count: usize, after: &st
     for _ in 0..count {
         text.extend_from_slice(part.as_bytes()).expect(rt, "memory");
     }
-    text.extend_from_slice(after.as_bytes()).expect(rt, "memory");
+    text.extend_from_slice(after.as_bytes())
+        .expect(rt, "memory");
     text
 }
 
@@ -175,6 +171,9 @@ fn deep_texts_are_refused(rt: HostRuntime) {
     for (part, count, after, cause, place) in DEEP.iter() {
         let text = repeated(&rt, rt.alloc(), part, *count, after);
         let found = refused(&rt, rt.alloc(), text.as_slice());
-        assert!(rt; found.0 == *cause && found.1 == *place, "{count} of {part} and {after}");
+        assert!(rt;
+            found.0 == *cause && found.1 == *place,
+            "{count} of {part} and {after}"
+        );
     }
 }

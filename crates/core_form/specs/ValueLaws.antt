@@ -90,7 +90,7 @@ none_exceeds (plus a b) env n u i v =
         large_itself (plus a b) env (x + y) u (λ j. exact_sum (p j) (q j))
         ((λ j. sum_within (s j) (t j)) ∙ (λ j. sum_within (ls j) (rs j))) v
         (none_append (parts a) _ env (none_from_value a env l s)
-            ∙ none_append (parts b) _ env (none_from_value b env r t))
+        ∙ none_append (parts b) _ env (none_from_value b env r t))
 none_exceeds (times k a) env n u i v =
     cases (number a env) refl (value a env) refl i (λ l p q. none_exceeds a env l u p q)
   where

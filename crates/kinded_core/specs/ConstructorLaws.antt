@@ -44,7 +44,7 @@ type_kind : (is : ItemList) (names : Names) (next : ℕ) (x : Word) (v : ℕ) �
 type_kind no_items names next x v n m = let bad : None ≡ Some (typed v) = sym n ∙ m in cc
 type_kind (an_item (implicit y k) is) names next x v n m =
     cases (bytes_eq y x) refl k refl (λ o. type_kind is (names ++ declares (implicit y k) next)
-        (next_slot next (implicit y k)) x v o m)
+    (next_slot next (implicit y k)) x v o m)
   where
     here : bytes_eq y x ≡ true → meaning (names_after is (names ++ declares (implicit y k) next)
         (next_slot next (implicit y k))) x
@@ -52,7 +52,7 @@ type_kind (an_item (implicit y k) is) names next x v n m =
     here b = meaning_after is (names ++ declares (implicit y k) next)
         (next_slot next (implicit y k)) x (implicit_variable k next)
         (meaning_new names (declares (implicit y k) next) x n
-            ∙ ap (λ b. cond b (Some (implicit_variable k next)) None) b)
+        ∙ ap (λ b. cond b (Some (implicit_variable k next)) None) b)
 
     cases : (b : Bool) → bytes_eq y x ≡ b → (l : ParamKind) → k ≡ l
         → (meaning (names ++ declares (implicit y k) next) x ≡ None → implicit_kind is x ≡ Some Ty)
@@ -60,15 +60,15 @@ type_kind (an_item (implicit y k) is) names next x v n m =
     cases true b Ty i r = refl
     cases true b Nat i r =
         let e : Some (implicit_variable Nat next) ≡ Some (typed v) = ap (λ l. Some (implicit_variable l next)) (sym i)
-            ∙ sym (here b) ∙ m in cc
+        ∙ sym (here b) ∙ m in cc
     cases false b l i r = r (meaning_new names (declares (implicit y k) next) x n
         ∙ other_word y x (implicit_variable k next) b)
 type_kind (an_item (check a op b) is) names next x v n m =
     type_kind is (names ++ declares (check a op b) next)
-        (next_slot next (check a op b)) x v (meaning_new names [] x n) m
+    (next_slot next (check a op b)) x v (meaning_new names [] x n) m
 type_kind (an_item (explicit None t) is) names next x v n m =
     type_kind is (names ++ declares (explicit None t) next)
-        (next_slot next (explicit None t)) x v (meaning_new names [] x n) m
+    (next_slot next (explicit None t)) x v (meaning_new names [] x n) m
 type_kind (an_item (explicit (Some y) t) is) names next x v n m =
     cases (bytes_eq y x) refl (is_field_of_numbers t) refl
     (λ o. type_kind is (names ++ declares (explicit (Some y) t) next) (next_slot next (explicit (Some y) t)) x v o m)
@@ -87,10 +87,10 @@ type_kind (an_item (explicit (Some y) t) is) names next x v n m =
         → implicit_kind is x ≡ Some Ty
     cases true b true i r =
         let e : Some (field_variable true next) ≡ Some (typed v) = ap (λ f. Some (field_variable f next)) (sym i)
-            ∙ sym (here b) ∙ m in cc
+        ∙ sym (here b) ∙ m in cc
     cases true b false i r =
         let e : Some (field_variable false next) ≡ Some (typed v) = ap (λ f. Some (field_variable f next)) (sym i)
-            ∙ sym (here b) ∙ m in cc
+        ∙ sym (here b) ∙ m in cc
     cases false b f i r = r (meaning_new names (declares (explicit (Some y) t) next) x n ∙ other_word y x _ b)
 
 -- what further inputs set stays set
@@ -98,8 +98,11 @@ known_more : (xs ys : List Input) → Grows (known_by ys) (known_by (xs ++ ys))
 known_more [] ys = record { numbers = λ v h. h; types = λ v h. h }
 known_more (core.number p ∷ xs) ys =
     let g = known_more xs ys in
-    record { numbers = λ v h. in_more (pattern_sets p)
-        (known_by (xs ++ ys)).numbers v (g.numbers v h); types = g.types }
+    record {
+      numbers = λ v h. in_more (pattern_sets p)
+          (known_by (xs ++ ys)).numbers v (g.numbers v h);
+      types = g.types;
+    }
 known_more (core.type w ∷ xs) ys =
     let g = known_more xs ys in
     record { numbers = g.numbers; types = λ v h. in_more (w ∷ []) (known_by (xs ++ ys)).types v (g.types v h) }
@@ -135,7 +138,7 @@ sum_input_set is end ti a b rest x h m = cases (is_literal b) (bare_name a) refl
           let n : meaning end y ≡ Some (numbered v) = ap (meaning end) (sym same) ∙ m in
           let slot : named_number end (bare_name a) ≡ Some v = ap (named_number end) j ∙ ap number_slot n in
           ap (λ o. is_in (known_by (sum_input o (literal_of b) ++ rest)).numbers v) slot
-              ∙ in_one v (known_by rest).numbers;
+          ∙ in_one v (known_by rest).numbers;
       types = λ v m.
           let n : meaning end y ≡ Some (typed v) = ap (meaning end) (sym same) ∙ m in
           let k : kind_of is (plus a b) ≡ NoKind = e ∙ ap kind_in_sum (ti y v n) in
@@ -176,7 +179,7 @@ each_input : (is : ItemList) (end : Names) → TypesImplicit is end → (es : Ex
 each_input is end ti no_exprs h x m = let bad : false ≡ true = m in cc
 each_input is end ti (an_expr e es) h x m =
     cases (is_among (option_list (variable_of e)) x) refl
-        (sym (list_any-append (bytes_eq x) (option_list (variable_of e)) (inputs es)) ∙ m)
+    (sym (list_any-append (bytes_eq x) (option_list (variable_of e)) (inputs es)) ∙ m)
     (λ n. each_input is end ti es h.1 x n)
   where
     cases : (b : Bool) → is_among (option_list (variable_of e)) x ≡ b → (b || is_among (inputs es) x) ≡ true
@@ -234,7 +237,7 @@ constructor_determined types tag c h kinds =
     let s = items_set c.items (first types c) [] k 0 1 0 start (λ x v m. let bad : None ≡ Some v = m in cc)
     (inputs_set c.items end (λ x v m. type_kind c.items [] 0 x v refl m) c.params kinds) q.0 in
     both_true _ _ s.all (outputs_valued c.params (at_result types c) end
-        (after_all (items_of types [] 0 1 0 c.items) k) s.end q.1)
+    (after_all (items_of types [] 0 1 0 c.items) k) s.end q.1)
 
 pub constructor_parameters : (types : SchemaView) (tag : List ℕ) (c : ConstructorView)
     → AreClean (constructor_nodes types c)
@@ -245,4 +248,4 @@ constructor_parameters types tag c h kinds =
     let q = clean_both (record_nodes c.items (first types c)) _ p.0 in
     are_parameters c.items (names_after c.items [] 0)
     (λ x k i. implicit_meaning c.items (first types c) [] 0 q.0
-        (λ y v m. let bad : None ≡ Some v = m in cc) x refl k i) c.params kinds
+    (λ y v m. let bad : None ≡ Some v = m in cc) x refl k i) c.params kinds

@@ -69,7 +69,7 @@ side_set (plus e f) a names k g most q h =
 side_set (star e f) a names k g most q h =
     let p = clean_both (expr_nodes e a (Some (a_number greatest q))) _ h.1 in
     product_side k (closed e) (closed f) _ _ (side_set e a names k g greatest q p.0)
-        (side_set f a names k g greatest q p.1)
+    (side_set f a names k g greatest q p.1)
     (factor_closed e f a most q h)
 side_set (out e) a names k g most q h =
     let w = out_slot e a names k g most q (clean_use _ h.0) in ap (λ o. is_valued_side k (sought_or_none o)) w.1
@@ -96,7 +96,7 @@ side_is_number (plus e f) a names most h =
 side_is_number (star e f) a names most h =
     let p = clean_both (expr_nodes e a (Some (a_number greatest None))) _ h.1 in
     product_same (closed e) (closed f) _ _ _ _ (side_is_number e a names greatest p.0)
-        (side_is_number f a names greatest p.1)
+    (side_is_number f a names greatest p.1)
 side_is_number (out e) a names most h =
     let w = out_sought a.scope most None e (clean_use _ h.0) in let b : None ≡ Some w.name = w.sought in cc
 side_is_number nat32 a names most h = refl
@@ -207,7 +207,7 @@ unknowns_are_outs (plus e f) a names most x v c h =
 unknowns_are_outs (star e f) a names most x v c h =
     let p = clean_both (expr_nodes e a (Some (a_number greatest (Some x)))) _ h.1 in
     cases (closed e) (closed f) refl refl (unknowns_are_outs e a names greatest x v c p.0)
-        (unknowns_are_outs f a names greatest x v c p.1)
+    (unknowns_are_outs f a names greatest x v c p.1)
     (factor_closed e f a most (Some x) h)
     ∙ sym (each_both v (parts e) (parts f))
   where
@@ -217,13 +217,13 @@ unknowns_are_outs (star e f) a names most x v c h =
     cases (Some m) n i j p q one = q ∙ ap (λ us. us ++ each_out v (parts f)) (sym (closed_has_no_out e m i v))
     cases None (Some n) i j p q one =
         p ∙ sym (append_nil (each_out v (parts e))) ∙ ap (λ us. each_out v (parts e) ++ us)
-            (sym (closed_has_no_out f n j v))
+        (sym (closed_has_no_out f n j v))
     cases None None i j p q one = absurd (one i j)
 unknowns_are_outs (out e) a names most x v c h =
     let w = out_sought a.scope most (Some x) e (clean_use _ h.0) in
     let same : x ≡ w.name = some_same w.sought in
     let slot : named_number names (bare_name e) ≡ Some v = ap (λ f. named_number names (bare_name f)) w.is
-        ∙ ap (number_called names) (sym same) ∙ c in
+    ∙ ap (number_called names) (sym same) ∙ c in
     ap (λ o. unknowns (sought_or_none o)) slot ∙ sym (ap (λ f. each_out v (parts (out f))) w.is)
   where
     some_same : {z : Word} → ◌≡◌ {A = Option Word} (Some x) (Some z) → x ≡ z
@@ -270,16 +270,16 @@ none_cancelled (named y (an_expr e es)) a names most x v c h i = refl
 none_cancelled (plus e f) a names most x v c h i =
     let p = clean_both (expr_nodes e a (Some (a_number greatest (Some x)))) _ h.1 in
     let j = or_parts (list_any cancels (parts e)) (list_any cancels (parts f))
-        (sym (list_any-append cancels (parts e) (parts f)) ∙ i) in
+    (sym (list_any-append cancels (parts e) (parts f)) ∙ i) in
     λ t. none_cancelled e a names greatest x v c p.0 j.0 t ++ none_cancelled f a names greatest x v c p.1 j.1 t
 none_cancelled (star e f) a names most x v c h i =
     let p = clean_both (expr_nodes e a (Some (a_number greatest (Some x)))) _ h.1 in
     let o = or_parts (cancels (star e f)) (list_any cancels (parts e ++ parts f)) i in
     let j = or_parts (list_any cancels (parts e)) (list_any cancels (parts f))
-        (sym (list_any-append cancels (parts e) (parts f)) ∙ o.1) in
+    (sym (list_any-append cancels (parts e) (parts f)) ∙ o.1) in
     let z = or_parts (is_zero (closed e) && holds_out f) (is_zero (closed f) && holds_out e) o.0 in
     cases (closed e) (closed f) refl refl (unknowns_are_outs e a names greatest x v c p.0)
-        (unknowns_are_outs f a names greatest x v c p.1)
+    (unknowns_are_outs f a names greatest x v c p.1)
     (none_cancelled e a names greatest x v c p.0 j.0) (none_cancelled f a names greatest x v c p.1 j.1) z.0 z.1
   where
     cases : (m n : Option ℕ) → closed e ≡ m → closed f ≡ n → unknowns (side_of names e) ≡ each_out v (parts e)
@@ -402,10 +402,10 @@ pub unknown_found : (x : Word) (l : ExprView) (op : Op) (r : ExprView) (a : Item
 unknown_found x l op r a names k g s h i =
     let e = equation_sought x l op r s in
     let w = number_variable a.scope names k g x (number (out_or_none l a greatest x h)
-        (out_or_none r a greatest x i) e.1) in
+    (out_or_none r a greatest x i) e.1) in
     let c : number_called names x ≡ Some w.0 = ap number_slot w.1 in
     let kept = or_parts (list_any cancels (parts l)) (list_any cancels (parts r))
-        (sym (list_any-append cancels (parts l) (parts r)) ∙ e.1.kept) in
+    (sym (list_any-append cancels (parts l) (parts r)) ∙ e.1.kept) in
     let all : unknowns (side_of names l) ++ unknowns (side_of names r) ≡ w.0 ∷ [] =
     (λ t. unknowns_are_outs l a names greatest x w.0 c h t ++ unknowns_are_outs r a names greatest x w.0 c i t)
     ∙ sym (each_both w.0 (parts l) (parts r)) ∙ ap (map (λ (p : ExprView). w.0)) e.1.outs.1 in (

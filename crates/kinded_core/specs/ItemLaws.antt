@@ -333,13 +333,13 @@ constraint_set l op r a names k place g h = cases (sought l op r) refl
         (constraint_of names l op r place)
     cases None is =
         let P : Option Word → Type 0 = λ q. AreClean (expr_nodes l a (Some (a_number greatest q)) ++ expr_nodes r a
-            (Some (a_number greatest q))) in
+        (Some (a_number greatest q))) in
         let p = clean_both (expr_nodes l a (Some (a_number greatest None))) _ (subst P is h) in
         let Q : Option Word → Type 0 = λ q. ConstraintSet names k (option_list q) (constraint_of names l op r place) in
         subst Q (sym is) (none is p.0 p.1)
     cases (Some x) is =
         let P : Option Word → Type 0 = λ q. AreClean (expr_nodes l a (Some (a_number greatest q)) ++ expr_nodes r a
-            (Some (a_number greatest q))) in
+        (Some (a_number greatest q))) in
         let p = clean_both (expr_nodes l a (Some (a_number greatest (Some x)))) _ (subst P is h) in
         let Q : Option Word → Type 0 = λ q. ConstraintSet names k (option_list q) (constraint_of names l op r place) in
         subst Q (sym is) (one x is p.0 p.1)
@@ -434,7 +434,7 @@ field_settled t a names k next inner shown_name x g h new y m =
           is = meaning_stays names (declares (explicit x t) next) y (numbered w.0) w.1;
           numbers = λ v f. let s : w.0 ≡ v = cc in
               ap (is_in (set.after (field_of a.scope.types names shown_name
-                  (own_slot x (is_field_of_numbers t) next) inner t) k).numbers) (sym s) ∙ w.2;
+              (own_slot x (is_field_of_numbers t) next) inner t) k).numbers) (sym s) ∙ w.2;
           types = λ v f. cc;
         }
 
@@ -477,20 +477,20 @@ mutual
       let n = new_name (h.fields ++ h.inner) (at h (implicit x kind)).path x p.0 in
       let m = new_meaning names h.fields h.inner f x n (implicit_variable kind next) in
       let e = meaning_after is (names ++ declares (implicit x kind) next)
-          (next_slot next (implicit x kind)) x (implicit_variable kind next) m in
+      (next_slot next (implicit x kind)) x (implicit_variable kind next) m in
       let g' = agrees_after h.scope (implicit x kind) names next k k g (grows_not k)
       (λ y j. implicit_settled h.scope.inputs x y (implicit_variable kind next) names _ k m e i j) in
       let r = items_set is (nodes.next h (implicit x kind))
-          (names ++ declares (implicit x kind) next) k (next_slot next (implicit x kind))
+      (names ++ declares (implicit x kind) next) k (next_slot next (implicit x kind))
       (place + 1) unnamed g' (fields_more names h.fields (implicit x kind) next f) i p.1 in
       record { all = r.all; end = r.end }
   items_set (an_item (check l op r) is) h names k next place unnamed g f i c =
       let p = clean_both (item_nodes (check l op r) (at h (check l op r)) (h.fields ++ h.inner)) _ c in
       let s = constraint_set l op r (at h (check l op r)) names k place g p.0 in
       let g' = agrees_after h.scope (check l op r) names next k
-          (set.after (constraint_of names l op r place) k) g s.grows s.settled in
+      (set.after (constraint_of names l op r place) k) g s.grows s.settled in
       let q = items_set is (nodes.next h (check l op r)) (names ++ declares (check l op r) next)
-          (set.after (constraint_of names l op r place) k)
+      (set.after (constraint_of names l op r place) k)
       (next_slot next (check l op r)) (place + 1) unnamed g' (fields_more names h.fields (check l op r) next f)
       (inputs_grow h.scope.inputs _ k _ s.grows i) p.1 in
       record { all = both_true _ _ s.item q.all; end = q.end }
@@ -499,12 +499,12 @@ mutual
       let q = clean_both (name_at (at h (explicit x t)).path (h.fields ++ h.inner) x) _ p.0 in
       let inner = next + field_slots x (is_field_of_numbers t) in
       let core_item = field_of h.scope.types names (shown x unnamed)
-          (own_slot x (is_field_of_numbers t) next) inner t in
+      (own_slot x (is_field_of_numbers t) next) inner t in
       let grows = field_grows h.scope.types names (shown x unnamed)
-          (own_slot x (is_field_of_numbers t) next) inner t k in
+      (own_slot x (is_field_of_numbers t) next) inner t k in
       let settled = field_settled t (at h (explicit x t)) names k next inner (shown x unnamed) x g q.1
       (λ z j v. new_meaning names h.fields h.inner f z
-          (named_new (h.fields ++ h.inner) (at h (explicit x t)).path x z j q.0) v) in
+      (named_new (h.fields ++ h.inner) (at h (explicit x t)).path x z j q.0) v) in
       let g' = agrees_after h.scope (explicit x t) names next k (set.after core_item k) g grows settled in
       let r = items_set is (nodes.next h (explicit x t)) (names ++ declares (explicit x t) next) (set.after core_item k)
       (next_slot next (explicit x t)) (place + 1) (unnamed_by (is_unnamed (explicit x t)) unnamed) g'

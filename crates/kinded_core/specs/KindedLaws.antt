@@ -44,21 +44,21 @@ headed : (before s : SchemaView) → of_headings before s ≡ [] → All IsHeade
 headed before [] h = All-nil IsHeaded
 headed before (c ∷ cs) h =
     let p = append_none (refusals_at (heading before c) (heading_nodes (heading before c)))
-        (of_headings (before ++ c ∷ []) cs) h in
+    (of_headings (before ++ c ∷ []) cs) h in
     let js = clean_nodes (heading_nodes (heading before c))
     (map_none (refusal_at (heading before c)) (faults (heading_nodes (heading before c))) p.0) in
     All-cons IsHeaded c cs (have_kinds (heading before c) no_exprs c.params
-        (clean_both (param_nodes (heading before c) no_exprs c.params) _ js.1).0)
+    (clean_both (param_nodes (heading before c) no_exprs c.params) _ js.1).0)
     (headed (before ++ c ∷ []) cs p.1)
 
 judged : (types before s : SchemaView) → of_contents types before s ≡ [] → All (IsJudgedClean types) s
 judged types before [] h = All-nil (IsJudgedClean types)
 judged types before (c ∷ cs) h =
     let p = append_none (refusals_at (heading before c) (constructor_nodes types c))
-        (of_contents types (before ++ c ∷ []) cs) h in
+    (of_contents types (before ++ c ∷ []) cs) h in
     All-cons (IsJudgedClean types) c cs
     (clean_nodes (constructor_nodes types c)
-        (map_none (refusal_at (heading before c)) (faults (constructor_nodes types c)) p.0))
+    (map_none (refusal_at (heading before c)) (faults (constructor_nodes types c)) p.0))
     (judged types (before ++ c ∷ []) cs p.1)
 
 resolved : (types : SchemaView) (tag : ConstructorView → List ℕ) (before s : SchemaView) → All IsHeaded s
@@ -67,7 +67,7 @@ resolved : (types : SchemaView) (tag : ConstructorView → List ℕ) (before s :
 resolved types tag before [] h j = All-nil (λ (d : Declaration). IsResolved d.core)
 resolved types tag before (c ∷ cs) h j =
     All-cons (λ (d : Declaration). IsResolved d.core) (declaration_of types (tag c) before c)
-        (cores_after types tag (before ++ c ∷ []) cs)
+    (cores_after types tag (before ++ c ∷ []) cs)
     (record {
       plain = core_is_plain types (tag c) c;
       within = core_is_within types (tag c) c;
@@ -91,7 +91,7 @@ kinded_is_resolved s tag k =
     let p = both_none s k in
     resolved (kept_of s) tag [] (kept_of s)
     (All-filter (λ (c : ConstructorView). not (is_dictionary c.result)) IsHeaded (ordinary s)
-        (headed [] (ordinary s) p.0))
+    (headed [] (ordinary s) p.0))
     (judged (kept_of s) [] (kept_of s) p.1)
 
 -- ---- names, as the guard reads them

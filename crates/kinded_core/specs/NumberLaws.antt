@@ -81,7 +81,7 @@ pub number_known : (s : Scope) (most : ℕ) (q : Option Word) (x : Word)
     → is_known s x ≡ true
 number_known s most q x c =
     cases (is_number_meaning (meaning_of s x)) (is_known s x)
-        (number_meaning s most q x (named x no_exprs) refl c) c.unknown
+    (number_meaning s most q x (named x no_exprs) refl c) c.unknown
   where
     cases : (n k : Bool) → n ≡ true → (n && not k) ≡ false → k ≡ true
     cases true true n h = refl
@@ -220,11 +220,11 @@ closed_or_held (named x (an_expr e es)) a most q h i = absurd (number_args a.sco
 closed_or_held (plus e f) a most q h i =
     let p = clean_both (expr_nodes e a (Some (a_number greatest q))) _ h.1 in
     of_either a.scope e f (closed_or_held e a greatest q p.0) (closed_or_held f a greatest q p.1)
-        (none_of_sum (closed e) (closed f) i)
+    (none_of_sum (closed e) (closed f) i)
 closed_or_held (star e f) a most q h i =
     let p = clean_both (expr_nodes e a (Some (a_number greatest q))) _ h.1 in
     of_either a.scope e f (closed_or_held e a greatest q p.0) (closed_or_held f a greatest q p.1)
-        (none_of_product (closed e) (closed f) i)
+    (none_of_product (closed e) (closed f) i)
 closed_or_held (out e) a most q h i =
     let w = out_sought a.scope most q e (clean_use _ h.0) in
     let P : ExprView → Type 0 = λ f. CleanUse (use_of a.scope (a_number most q) (out f)) in
@@ -276,7 +276,7 @@ number_set (plus e f) a names k g most h =
 number_set (star e f) a names k g most h =
     let p = clean_both (expr_nodes e a (Some (a_number greatest None))) _ h.1 in
     product_set k (closed e) (closed f) _ _ (number_set e a names k g greatest p.0)
-        (number_set f a names k g greatest p.1)
+    (number_set f a names k g greatest p.1)
     (factor_closed e f a most None h)
 number_set (out e) a names k g most h =
     let w = out_sought a.scope most None e (clean_use _ h.0) in let b : None ≡ Some w.name = w.sought in cc

@@ -88,7 +88,7 @@ implicit_meaning no_items h names next c f x n k i = cc
 implicit_meaning (an_item (implicit y l) is) h names next c f x n k i =
     let p = clean_both (item_nodes (implicit y l) (at h (implicit y l)) (h.fields ++ h.inner)) _ c in
     cases (bytes_eq y x) refl i (λ m j. implicit_meaning is (nodes.next h (implicit y l))
-        (names ++ declares (implicit y l) next)
+    (names ++ declares (implicit y l) next)
     (next_slot next (implicit y l)) p.1 (fields_more names h.fields (implicit y l) next f) x m k j)
   where
     cases : (b : Bool) → bytes_eq y x ≡ b → cond b (Some l) (implicit_kind is x) ≡ Some k
@@ -99,7 +99,7 @@ implicit_meaning (an_item (implicit y l) is) h names next c f x n k i =
         let same : l ≡ k = cc in
         let here : meaning (names ++ declares (implicit y l) next) x ≡ Some (implicit_variable l next) =
         meaning_new names (declares (implicit y l) next) x n
-            ∙ ap (λ b. cond b (Some (implicit_variable l next)) None) b in (
+        ∙ ap (λ b. cond b (Some (implicit_variable l next)) None) b in (
           next,
           meaning_after is (names ++ declares (implicit y l) next)
               (next_slot next (implicit y l)) x (implicit_variable l next) here
@@ -110,12 +110,12 @@ implicit_meaning (an_item (implicit y l) is) h names next c f x n k i =
 implicit_meaning (an_item (check a op b) is) h names next c f x n k i =
     let p = clean_both (item_nodes (check a op b) (at h (check a op b)) (h.fields ++ h.inner)) _ c in
     implicit_meaning is (nodes.next h (check a op b)) (names ++ declares (check a op b) next)
-        (next_slot next (check a op b)) p.1
+    (next_slot next (check a op b)) p.1
     (fields_more names h.fields (check a op b) next f) x (meaning_new names [] x n) k i
 implicit_meaning (an_item (explicit None t) is) h names next c f x n k i =
     let p = clean_both (item_nodes (explicit None t) (at h (explicit None t)) (h.fields ++ h.inner)) _ c in
     implicit_meaning is (nodes.next h (explicit None t)) (names ++ declares (explicit None t) next)
-        (next_slot next (explicit None t)) p.1
+    (next_slot next (explicit None t)) p.1
     (fields_more names h.fields (explicit None t) next f) x (meaning_new names [] x n) k i
 implicit_meaning (an_item (explicit (Some y) t) is) h names next c f x n k i =
     let p = clean_both (item_nodes (explicit (Some y) t) (at h (explicit (Some y) t)) (h.fields ++ h.inner)) _ c in
@@ -161,13 +161,13 @@ named_parameter is end im x ps ins outs h r = cases (implicit_kind is x) refl h
     cases (Some Nat) i h =
         let w = im x Nat i in
         let P : Option ParamKind → Type 0 = λ o. AreParameters (parameter_of (kind_alone o) ∷ ps)
-            (variable_input (meaning end x) ++ ins) outs in
+        (variable_input (meaning end x) ++ ins) outs in
         let Q : Option Variable → Type 0 = λ o. AreParameters (core.number_in ∷ ps) (variable_input o ++ ins) outs in
         subst P (sym i) (subst Q (sym w.1) r)
     cases (Some Ty) i h =
         let w = im x Ty i in
         let P : Option ParamKind → Type 0 = λ o. AreParameters (parameter_of (kind_alone o) ∷ ps)
-            (variable_input (meaning end x) ++ ins) outs in
+        (variable_input (meaning end x) ++ ins) outs in
         let Q : Option Variable → Type 0 = λ o. AreParameters (core.type_in ∷ ps) (variable_input o ++ ins) outs in
         subst P (sym i) (subst Q (sym w.1) r)
 
@@ -199,13 +199,13 @@ sum_parameter is end im a b ps ins outs h r = cases (is_literal b) (bare_name a)
         let bad : false ≡ true = sym (ap has_kind e) ∙ h in cc
     cases true None i j h =
         let e : kind_of is (plus a b) ≡ NoKind = ap (λ l. kind_of_sum is (cond l (bare_name a) None)) i
-            ∙ ap (kind_of_sum is) j in
+        ∙ ap (kind_of_sum is) j in
         let bad : false ≡ true = sym (ap has_kind e) ∙ h in cc
     cases true (Some x) i j h =
         let e : kind_of is (plus a b) ≡ kind_in_sum (implicit_kind is x) =
         ap (λ l. kind_of_sum is (cond l (bare_name a) None)) i ∙ ap (kind_of_sum is) j in
         let P : TermKind → Type 0 = λ k. AreParameters (parameter_of k ∷ ps)
-            (sum_input (named_number end (bare_name a)) (literal_of b) ++ ins) outs in
+        (sum_input (named_number end (bare_name a)) (literal_of b) ++ ins) outs in
         subst P (sym e) (number x j (implicit_kind is x) refl (sym (ap has_kind e) ∙ h))
 
 pub are_parameters : (is : ItemList) (end : Names) → Implicits is end → (es : ExprList) → HaveKinds is es

@@ -167,7 +167,7 @@ class_applied types a names k x e es r Free u o b h = cases (of_type types x) re
         (args_of types names (declared_kinds (declared_by (of_type types x))) (an_expr e es))) ≡ true
     cases [] is u h =
         let b : true ≡ false = sym (ap (λ s. names_none (Some (declared_as s)) &&
-            (true || nat_lt 0 (count (an_expr e es)))) is) ∙ u in cc
+        (true || nat_lt 0 (count (an_expr e es)))) is) ∙ u in cc
     cases (c ∷ cs) is u h =
         let P : SchemaView → Type 0 = λ s. AreClean (arg_nodes (an_expr e es) a (parameters (declared_as s)) []) in
         ap (λ s. is_set_type k (applied (declared_by s) x (number_of names e) (first_type types names es)
@@ -253,7 +253,7 @@ mutual
   type_set (star e f) a names k g w p h =
       let q = clean_both (expr_nodes e a (Some (a_number greatest None))) _ h.1 in
       both_true _ _ (number_set e a names k g greatest q.0)
-          (type_set f a names k g Inner (placed_where Inner refl refl f) q.1)
+      (type_set f a names k g Inner (placed_where Inner refl refl f) q.1)
   type_set (ref e) a names k g w p h = type_set e a names k g (under w)
       (placed_where (under w) p (under_under w p) e) h.1
   type_set (named x no_exprs) a names k g w p h = alone_set a.scope names k g w x (clean_use _ h.0)
@@ -291,7 +291,7 @@ mutual
   args_set (an_expr e es) a names k g (TypeIn ∷ ks) before h =
       let q = clean_both (expr_nodes e a (Some (a_type Inner))) _ h in
       both_true _ _ (type_set e a names k g Inner (placed_where Inner refl refl e) q.0)
-          (args_set es a names k g ks _ q.1)
+      (args_set es a names k g ks _ q.1)
   args_set (an_expr e es) a names k g (NumberOut ∷ ks) before h =
       let q = clean_both (expr_nodes e a (Some (an_output before))) _ h in
       onto_out_set k (named_number names (out_name e)) _ (args_set es a names k g ks _ q.1)
@@ -432,11 +432,11 @@ class_outs a types names x e es y r Free h m = cases (of_type types x) refl h m
         (args_of types names (declared_kinds (declared_by (of_type types x))) (an_expr e es)))) y
     cases [] is h m =
         let b : false ≡ true = sym (ap (λ s. is_among (all_given_out (parameters (declared_as s)) (an_expr e es)) y)
-            is) ∙ m in cc
+        is) ∙ m in cc
     cases (c ∷ cs) is h m =
         let n = sym (ap (λ s. is_among (all_given_out (parameters (declared_as s)) (an_expr e es)) y) is) ∙ m in
         let P : SchemaView → Type 0 = λ s. IsSetBy names (type_outs
-            (applied (declared_by s) x (number_of names e) (first_type types names es)
+        (applied (declared_by s) x (number_of names e) (first_type types names es)
         (args_of types names (declared_kinds (declared_by s)) (an_expr e es)))) y in
         let Q : SchemaView → Type 0 = λ s. AreClean (arg_nodes (an_expr e es) a (parameters (declared_as s)) []) in
         subst P (sym is) (r (kinds c) (subst Q is h) n)
@@ -449,7 +449,7 @@ args_of_type : (x : Word) (e : ExprView) (es : ExprList) (a : ItemContext) (name
 unfolding type_named
 args_of_type x e es a names k g h y m =
     class_outs a a.scope.types names x e es y (λ ks c n. args_out (an_expr e es) a names k g ks [] c y n)
-        (word_class x) h m
+    (word_class x) h m
 
 -- the outputs of a field's type are set by it
 pub outputs_set : (e : ExprView) (a : ItemContext) (names : Names) (k : Known) → Agrees a.scope names k

@@ -185,7 +185,7 @@ solved_is_proposed left right env v x one s = cases (is_empty (unknowns left)) r
     at_right f g a b n x none low l r =
         let z : f * x ≡ 0 = ap (λ w. w * x) none ∙ zero-mul x in
         let e : a ≡ b + g * x = omega (arith, l, r, z) in cond-true (nat_eq f 0) _ _ (eq-eqb f 0 none)
-            ∙ quotient g a b x low e
+        ∙ quotient g a b x low e
 
     at_left : (f g a b n x : ℕ) → g ≡ 0 → 0 < f → n ≡ a + f * x → n ≡ b + g * x
         → cond (nat_eq f 0) ((a - b) / g) ((b - a) / f) ≡ x
@@ -193,7 +193,7 @@ solved_is_proposed left right env v x one s = cases (is_empty (unknowns left)) r
         let z : g * x ≡ 0 = ap (λ w. w * x) none ∙ zero-mul x in
         let e : b ≡ a + f * x = omega (arith, l, r, z) in
         let p : nat_eq f 0 ≡ false = ne_eqb f 0 (λ h. omega (arith, h, low)) in cond-false (nat_eq f 0) _ _ p
-            ∙ quotient f b a x low e
+        ∙ quotient f b a x low e
 
     cases : (z : Bool) → is_empty (unknowns left) ≡ z → proposed left right env ≡ x
     cases true is =

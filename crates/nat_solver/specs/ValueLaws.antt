@@ -56,7 +56,7 @@ number_from_value (sought x) env n v = cc
 number_from_value (plus a b) env n v =
     let p = sum_parts (value a env) (value b env) n v in
     (λ i. exact_sum (number_from_value a env p.left p.left_is i) (number_from_value b env p.right p.right_is i))
-        ∙ ap Some (sym p.is)
+    ∙ ap Some (sym p.is)
 number_from_value (times k a) env n v =
     let p = times_parts k (value a env) n v in
     ap (exact_times k) (number_from_value a env p.factor p.factor_is) ∙ ap Some (sym p.is)

@@ -137,7 +137,7 @@ number_within n names (named x (an_expr e es)) p = inr refl
 number_within n names (plus a b) p = (number_within n names a p, number_within n names b p)
 number_within n names (star a b) p =
     product_within n (closed a) (closed b) (number_of names a) (number_of names b) (number_within n names a p)
-        (number_within n names b p)
+    (number_within n names b p)
 number_within n names (out e) p = inr refl
 number_within n names nat32 p = inr refl
 number_within n names (bits es) p = inr refl
@@ -153,7 +153,7 @@ side_within n names (named x (an_expr e es)) p = inr refl
 side_within n names (plus a b) p = (side_within n names a p, side_within n names b p)
 side_within n names (star a b) p =
     product_within n (closed a) (closed b) (side_of names a) (side_of names b) (side_within n names a p)
-        (side_within n names b p)
+    (side_within n names b p)
 side_within n names (out e) p = sought_within n (named_number names (bare_name e))
     (named_within n names (bare_name e) p)
 side_within n names nat32 p = inr refl
@@ -229,7 +229,7 @@ mutual
       (applied_within n (type_called types x) x no_number no_meaning core.no_args (inr refl) (inr refl) tt)
   type_within n types names (named x (an_expr e es)) p =
       applied_within n (type_called types x) x (number_of names e)
-          (first_type types names es) _ (number_within n names e p)
+      (first_type types names es) _ (number_within n names e p)
       (first_type_within n types names es p)
       (args_within n types names (declared_kinds (type_called types x)) (an_expr e es) p)
   type_within n types names (lit m) p = inr refl
@@ -253,7 +253,7 @@ mutual
       (type_within n types names e p, args_within n types names ks es p)
   args_within n types names (NumberOut ∷ ks) (an_expr e es) p =
       onto_out_within n (named_number names (out_name e)) _ (named_within n names (out_name e) p)
-          (args_within n types names ks es p)
+      (args_within n types names ks es p)
   args_within n types names (NoKind ∷ ks) (an_expr e es) p = args_within n types names ks es p
 
 -- ---- items
@@ -277,7 +277,7 @@ mutual
   items_within n types names next place unnamed no_items h p = tt
   items_within n types names next place unnamed (an_item (implicit x k) is) h p =
       items_within n types (names ++ declares (implicit x k) next)
-          (next_slot next (implicit x k)) _ _ is (omega (arith, h))
+      (next_slot next (implicit x k)) _ _ is (omega (arith, h))
       (names_append n names _ p (declares_within n next (implicit x k) (omega (arith, h))))
   items_within n types names next place unnamed (an_item (check a op b) is) h p = (
     constraint_within n names a op b place p,
@@ -360,7 +360,7 @@ outputs_within : (n : ℕ) (names : Names) (es : ExprList) → AreNamesWithin n 
 outputs_within n names no_exprs p = All-nil (IsNumberWithin n)
 outputs_within n names (an_expr e es) p =
     All-append (IsNumberWithin n) (output_of names e) (outputs_of names es) (output_within n names e p)
-        (outputs_within n names es p)
+    (outputs_within n names es p)
 
 variable_input_within : (n : ℕ) (v : Option Variable) → IsMeaningWithin n v → All (IsInputWithin n) (variable_input v)
 variable_input_within n None p = All-nil (IsInputWithin n)
@@ -393,7 +393,7 @@ inputs_within : (n : ℕ) (names : Names) (es : ExprList) → AreNamesWithin n n
 inputs_within n names no_exprs p = All-nil (IsInputWithin n)
 inputs_within n names (an_expr e es) p =
     All-append (IsInputWithin n) (input_of names e) (inputs_of names es) (input_within n names e p)
-        (inputs_within n names es p)
+    (inputs_within n names es p)
 
 pub core_is_within : CoreIsWithin
 core_is_within types tag c =

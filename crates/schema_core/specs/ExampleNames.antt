@@ -105,7 +105,7 @@ pub inner_name_ends : core_of
       outputs = [];
       items = (core.an_item (core.field (codes "a") None no_condition (core.group (core.an_item (core.field (codes
           "n") (Some 0) no_condition core.nat32) core.no_items)))
-              (core.an_item (core.field (codes "x") None no_condition
+          (core.an_item (core.field (codes "x") None no_condition
           (core.named (codes "n") core.no_args)) core.no_items));
       slots = 1;
     }
@@ -228,7 +228,7 @@ pub unnamed_fields : core_of
           None no_condition (core.bits (num.lit 3))) (core.an_item (core.field (unnamed_name 3) None no_condition
           (core.group (core.an_item (core.field (codes "_") None no_condition core.nat32) (core.an_item (core.field
           (unnamed_name 2) None no_condition core.nat32) core.no_items))))
-              (core.an_item (core.field (unnamed_name 4) None
+          (core.an_item (core.field (unnamed_name 4) None
           no_condition core.nat32) core.no_items)))));
       slots = 0;
     }

@@ -33,9 +33,9 @@ pub basic_types : core_of
       outputs = [];
       items = (core.an_item (core.field (codes "n") (Some 0) no_condition core.nat32) (core.an_item (core.field (codes
           "a") (Some 1) no_condition (core.bits (num.lit 4)))
-              (core.an_item (core.field (codes "b") (Some 2) no_condition
+          (core.an_item (core.field (codes "b") (Some 2) no_condition
           (core.below (num.var 0))) (core.an_item (core.field (codes "c")
-              (Some 3) no_condition (core.up_to (num.lit 7)))
+          (Some 3) no_condition (core.up_to (num.lit 7)))
           (core.an_item (core.field (codes "d") None no_condition (core.uint (num.var 0))) (core.an_item (core.field
           (codes "e") None no_condition (core.int (num.lit 9))) (core.an_item (core.field (codes "f") None no_condition
           (core.bit_str (num.var 0))) core.no_items)))))));
@@ -87,7 +87,7 @@ pub any_and_cell : core_of
       outputs = [];
       items = (core.an_item (core.field (codes "a") None no_condition core.whole) (core.an_item (core.field (codes
           "b") None no_condition (core.ref core.whole))
-              (core.an_item (core.field (codes "c") None no_condition (core.ref
+          (core.an_item (core.field (codes "c") None no_condition (core.ref
           core.whole)) core.no_items)));
       slots = 0;
     }
@@ -117,7 +117,7 @@ pub dictionaries : core_of
       items = (core.an_item (core.field (codes "n") (Some 1) no_condition core.nat32) (core.an_item (core.field (codes
           "a") None no_condition (core.dict (num.var 1) (core.variable 0))) (core.an_item (core.field (codes "b") None
           no_condition (core.dict_e (num.lit 32) (core.named (codes "U") core.no_args)))
-              (core.an_item (core.field (codes
+          (core.an_item (core.field (codes
           "c") None no_condition (core.dict_e (num.plus (num.var 1) (num.lit 1)) (core.ref (core.named (codes "U")
           core.no_args)))) core.no_items))));
       slots = 2;
@@ -166,9 +166,9 @@ pub repetitions : core_of
       outputs = [];
       items = (core.an_item (core.field (codes "n") (Some 0) no_condition core.nat32) (core.an_item (core.field (codes
           "a") None no_condition (core.repeat (num.var 0) (core.uint (num.lit 8))))
-              (core.an_item (core.field (codes "b")
+          (core.an_item (core.field (codes "b")
           None no_condition (core.repeat (num.var 0) (core.ref (core.uint (num.lit 8)))))
-              (core.an_item (core.field (codes
+          (core.an_item (core.field (codes
           "c") None no_condition (core.ref (core.repeat (num.lit 3) (core.uint (num.lit 8))))) core.no_items))));
       slots = 1;
     }
@@ -228,7 +228,7 @@ pub records : core_of
           no_condition core.nat32) core.no_items))) (core.an_item (core.field (codes "b") None no_condition (core.ref
           (core.group (core.an_item (core.field (codes "y") (Some 2) no_condition core.nat32) (core.an_item (core.field
           (codes "z") None no_condition (core.uint (num.var 2))) core.no_items)))))
-              (core.an_item (core.field (codes "c")
+          (core.an_item (core.field (codes "c")
           None (not_0 (num.var 0)) (core.group (core.an_item (core.field (codes "u") (Some 3) no_condition core.nat32)
           core.no_items))) (core.an_item (core.field (codes "d") None (has_bit (num.var 0) 1) (core.ref (core.group
           (core.an_item (core.field (codes "v") (Some 4) no_condition core.nat32) core.no_items)))) (core.an_item
@@ -284,7 +284,7 @@ pub conditions : core_of
       outputs = [];
       items = (core.an_item (core.field (codes "f") (Some 0) no_condition (core.bits (num.lit 2))) (core.an_item
           (core.field (codes "v") None (not_0 (num.var 0)) (core.uint (num.lit 8)))
-              (core.an_item (core.field (codes "w")
+          (core.an_item (core.field (codes "w")
           None (has_bit (num.var 0) 1) (core.uint (num.lit 8))) (core.an_item (core.field (codes "u") None (not_0
           (num.plus (num.var 0) (num.lit 1))) (core.uint (num.lit 8))) core.no_items))));
       slots = 1;

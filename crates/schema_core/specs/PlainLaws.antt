@@ -53,7 +53,7 @@ plain_number names (named x (an_expr e es)) = refl
 plain_number names (plus a b) = λ i. plain_number names a i ++ plain_number names b i
 plain_number names (star a b) =
     plain_product (closed a) (closed b) (number_of names a) (number_of names b) (plain_number names a)
-        (plain_number names b)
+    (plain_number names b)
 plain_number names (out e) = refl
 plain_number names nat32 = refl
 plain_number names (bits es) = refl
@@ -104,7 +104,7 @@ mutual
   plain_type types names (ref e) = plain_type types names e
   plain_type types names (named x no_exprs) =
       plain_alone (meaning names x) _ (plain_applied
-          (type_called types x) x no_number no_meaning core.no_args refl tt tt)
+      (type_called types x) x no_number no_meaning core.no_args refl tt tt)
   plain_type types names (named x (an_expr e es)) =
       plain_applied (type_called types x) x (number_of names e) (first_type types names es) _ (plain_number names e)
       (plain_first_type types names es)

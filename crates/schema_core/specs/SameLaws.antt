@@ -29,7 +29,7 @@ meanings_agree [] (e ∷ es) x p = absurd p
 meanings_agree (b ∷ bs) [] x p = absurd p
 meanings_agree (b ∷ bs) (e ∷ es) x p =
     let P : Word → Type 0 = λ w. IsSameMeaning (cond (bytes_eq w x) (Some b.meaning) (meaning_in bs x))
-        (meaning (e ∷ es) x) in
+    (meaning (e ∷ es) x) in
     subst P (sym p.0) (cases (bytes_eq e.0 x) (meanings_agree bs es x p.2))
   where
     cases : (t : Bool) → IsSameMeaning (meaning_in bs x) (meaning es x)

@@ -2,9 +2,15 @@
 #![tactic(auto)]
 
 #[cfg(test)]
+mod dictionary_lines;
+#[cfg(test)]
 mod judgements;
 #[cfg(test)]
+mod lead_rows;
+#[cfg(test)]
 mod records;
+#[cfg(test)]
+mod separations;
 #[cfg(test)]
 mod terms;
 #[cfg(test)]

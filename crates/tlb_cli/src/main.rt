@@ -1,25 +1,8 @@
 //! Gishqoret: reads the value of a TL-B type that a cell spells.
 #![tactic(auto)]
 
-mod answer;
-mod bag;
-mod cell;
-mod flat_form;
-mod form;
-mod hash;
-mod kind_lines;
-mod kinds;
-mod laws;
-mod lines;
-mod read;
-mod refusal;
-mod run;
-mod schema_text;
-mod status;
-mod type_word;
-
-use run::run;
-use status::Status;
+use cli_refusals::Status;
+use cli_run::run::run;
 use std::alloc::AllocError;
 use std::env;
 use std::io::ErrorKind;
@@ -62,6 +45,3 @@ fn main(rt: HostRuntime) -> ExitCode {
     };
     ExitCode::from(status.code())
 }
-
-#[cfg(test)]
-mod tests;

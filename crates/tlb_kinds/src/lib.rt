@@ -12,4 +12,5 @@ mod spot;
 pub use check::{Kinded, kind_check};
 pub use error::KindError;
 pub use field_path::{FieldPath, Part};
+pub use places::spot as spot_of;
 pub use spot::Spot;

@@ -1,0 +1,43 @@
+-- What the laws say, for every accepted schema: facts about the definitions alone. The schema stands in them by the
+-- core forms of its declarations without those that are passed over.
+use Rattle.std.specs.Prelude.{filter}
+use Rattle.std.specs.Prelude.{◌≡◌, ◌⊎◌, List}
+use Rattle.tlb_syntax.specs.Tree.{SchemaView}
+use Rattle.cell_nodes.specs.Constructed.{stub}
+use Rattle.cell_nodes.specs.Good.{IsGood}
+use Rattle.cell_nodes.specs.Prunes.{Prunes}
+use Rattle.cell_nodes.specs.Tree.{mask}
+use Rattle.cell_nodes.specs.declared.tree.Mode.TheVariants.{Whole}
+use Rattle.cell_nodes.specs.declared.tree.Tree.{Tree}
+use Rattle.core_form.specs.Closed.{Closed}
+use Rattle.spelling.specs.Spells.{Reading}
+use Rattle.typed_value.specs.Paths.{Stride}
+use Rattle.typed_value.specs.Values.{Plain}
+use Rattle.accepted_schema.specs.Accepted.{IsAccepted, kept_cores}
+use Rattle.pruning.specs.Blanked.{Blanked}
+use Rattle.pruning.specs.Cut.{cut_root}
+use Rattle.pruning.specs.SpellsLaid.{LaidRoot, plain_root, IsLaidRoot}
+use Rattle.pruning.specs.Names.{NamesFieldsApart}
+use Rattle.pruning.specs.Spots.{unless_kept, unkept, spots_of}
+use Rattle.pruning.specs.Thinned.{pruned_in, ReadsThinned}
+use Rattle.pruning_laws.specs.Laws.{Commutes}
+
+-- no two fields of a record are shown by one name
+abbrev pub AcceptedNamesApart : Type 0
+AcceptedNamesApart = (s : SchemaView) → IsAccepted s → NamesFieldsApart (kept_cores s)
+
+-- pruning commutes with reading
+abbrev pub PruningCommutes : Type 0
+PruningCommutes =
+    (s : SchemaView) → IsAccepted s → (t : Closed) (c : Tree) (v : Plain) → IsGood c → mask c ≡ 0
+    → Reading Whole (kept_cores s) t c v → (r : LaidRoot) → plain_root r ≡ v → IsLaidRoot (kept_cores s) t c r
+    → (paths : List (List Stride))
+    → Commutes (kept_cores s) t c (cut_root (unless_kept paths) r c) v (Blanked v (unkept paths (spots_of r))) paths
+
+-- any pruned tree is the pruned branch that stands for the whole, or reads as the value blanked where it is pruned
+abbrev pub PrunedTreeReads : Type 0
+PrunedTreeReads =
+    (s : SchemaView) → IsAccepted s → (t : Closed) (c : Tree) (v : Plain) → IsGood c → mask c ≡ 0
+    → Reading Whole (kept_cores s) t c v → (r : LaidRoot) → plain_root r ≡ v → IsLaidRoot (kept_cores s) t c r
+    → (p : Tree) → Prunes c p 0
+    → (p ≡ stub c 0) ⊎ ReadsThinned (kept_cores s) t p (Blanked v (filter (pruned_in p) (spots_of r)))

@@ -1,0 +1,27 @@
+//! What follows from the definitions alone, for every accepted schema. Each function states one law.
+ghost use Rattle.accepted_pruning.specs.Laws.{AcceptedNamesApart, PrunedTreeReads, PruningCommutes};
+
+use tlb_kinds::laws::kept_stays_within;
+
+/// In an accepted schema no two fields of a record are shown by one name.
+pub fn accepted_names_apart()
+    ensures { AcceptedNamesApart }
+{
+    kept_stays_within();
+}
+
+/// Pruning commutes with reading.
+pub fn pruning_commutes()
+    ensures { PruningCommutes }
+{
+    accepted_names_apart();
+    pruning_laws::laws::pruning_commutes();
+}
+
+/// Any pruned tree is the pruned branch that stands for the whole, or reads as the value blanked where it is pruned.
+pub fn pruned_tree_reads()
+    ensures { PrunedTreeReads }
+{
+    accepted_names_apart();
+    pruning_laws::laws::pruned_tree_reads();
+}

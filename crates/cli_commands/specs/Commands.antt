@@ -1,0 +1,33 @@
+-- The table of commands. This project's own.
+use Rattle.std.specs.Prelude.{ℕ, List, [], ◌∷◌, Option, None, Some, if◌then◌else◌}
+use Rattle.std.specs.Str.{bytes_eq}
+use Rattle.tlb_edge.specs.Files.{Name}
+use Rattle.cli_refusals.specs.Refusal.{Answer}
+use Rattle.cli_commands.specs.Check.{check}
+use Rattle.cli_commands.specs.Command.{Command}
+use Rattle.cli_commands.specs.Hash.{hash}
+use Rattle.cli_commands.specs.Read.{read}
+use Rattle.cli_commands.specs.declared.commands.Verb.{Verb}
+use Rattle.cli_commands.specs.declared.commands.Verb.TheVariants.{Read, Hash, Check}
+
+abbrev pub command_of : Verb → Command
+command_of Read = read
+command_of Hash = hash
+command_of Check = check
+
+abbrev pub verbs : List Verb
+verbs = Read ∷ Hash ∷ Check ∷ []
+
+-- ---- what holds of the whole table
+
+-- the first of these verbs whose word it is
+abbrev pub verb_among : List Verb → Name → Option Verb
+verb_among [] word = None
+verb_among (verb ∷ verbs) word = if bytes_eq word (command_of verb).word then Some verb else verb_among verbs word
+
+abbrev pub verb_of : Name → Option Verb
+verb_of word = verb_among verbs word
+
+-- what a command answers for the words in its slots and the bytes of its files
+abbrev pub CommandAnswers : Verb → List Name → List (List ℕ) → Answer → Type 0
+CommandAnswers verb words contents = (command_of verb).Answers words contents

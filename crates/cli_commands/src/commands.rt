@@ -1,0 +1,90 @@
+//! The table of commands.
+ghost use Rattle.std.specs.Prelude.{◌≡◌, map, string_bytes};
+ghost use Rattle.tlb_files.specs.Contents.{AreShort};
+ghost use Rattle.tlb_files.specs.View.{contents_of};
+ghost use Rattle.cli_stages.specs.Stage.{Answers};
+ghost use Rattle.cli_commands.specs.Command.{at};
+ghost use Rattle.cli_commands.specs.Commands.{CommandAnswers, command_of, verb_of};
+ghost use Rattle.cli_commands.specs.Forms.{files_in};
+ghost use Rattle.cli_commands.specs.View.{text_by};
+
+use crate::check::check;
+use crate::hash::hash;
+use crate::read::read;
+use crate::slot::Slot;
+use cli_stages::Stop;
+use std::alloc::Global;
+
+/// What stands first in the words of a command.
+#[derive(Clone, Copy, Debug, PartialEq, Eq)]
+pub enum Verb {
+    Read,
+    Hash,
+    Check,
+}
+
+impl Verb {
+    /// The command of a first word.
+    pub fn of(word: &str) -> Option<Verb>
+        ensures { result ≡ verb_of word.now }
+    {
+        match word {
+            "read" => Some(Verb::Read),
+            "hash" => Some(Verb::Hash),
+            "check" => Some(Verb::Check),
+            _ => None,
+        }
+    }
+
+    /// What the words after its own are.
+    pub fn slots(self) -> &'static [Slot]
+        ensures { result.now ≡ (command_of self).slots }
+    {
+        match self {
+            Verb::Read => &[Slot::Schema, Slot::TypeWord, Slot::Bag],
+            Verb::Hash => &[Slot::Bag],
+            Verb::Check => &[Slot::Schema],
+        }
+    }
+
+    /// What the command answers for the words in its slots and the bytes of the files that they name, in their order.
+    pub fn answer(
+        self,
+        alloc: Global,
+        words: &[String],
+        contents: &[Vec<u8>],
+    ) -> Result<Vec<u8>, Stop>
+        requires { AreShort (files_in (command_of self).slots (map string_bytes words.now)) (contents_of contents.now) }
+        ensures { Answers (CommandAnswers self (map string_bytes words.now) (contents_of contents.now))
+            text_by result }
+    {
+        match self {
+            Verb::Read => read(
+                alloc,
+                bytes_at(contents, 0),
+                word_at(words, 1),
+                bytes_at(contents, 1),
+            ),
+            Verb::Hash => hash(alloc, bytes_at(contents, 0)),
+            Verb::Check => check(alloc, bytes_at(contents, 0)),
+        }
+    }
+}
+
+fn word_at(words: &[String], number: usize) -> &str
+    ensures { result.now ≡ at (map string_bytes words.now) number }
+{
+    match words.get(number) {
+        Some(word) => word.as_str(),
+        None => "",
+    }
+}
+
+fn bytes_at(contents: &[Vec<u8>], number: usize) -> &[u8]
+    ensures { result.now ≡ at (contents_of contents.now) number }
+{
+    match contents.get(number) {
+        Some(bytes) => bytes.as_slice(),
+        None => b"",
+    }
+}

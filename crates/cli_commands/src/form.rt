@@ -1,0 +1,69 @@
+//! The command forms.
+ghost use Rattle.std.specs.Prelude.{◌≡◌, IfOk, Some, map, string_bytes};
+ghost use Rattle.std.specs.Option.{option_map};
+ghost use Rattle.tlb_files.specs.View.{files_by};
+ghost use Rattle.cli_commands.specs.Forms.{are_taken as taken, files_of, form_of};
+ghost use Rattle.cli_commands.specs.View.{form_by};
+
+use crate::commands::Verb;
+use crate::slot::Slot;
+use std::alloc::{AllocError, Global};
+use tlb_files::File;
+use tlb_memory::NoMemory;
+
+// Whether there are as many words as slots, and each slot takes its own.
+fn are_taken(slots: &[Slot], words: &[String]) -> bool
+    ensures { result ≡ taken slots.now (map string_bytes words.now) }
+{
+    if slots.len() != words.len() {
+        return false;
+    }
+    'slots: for (place, slot) in slots.iter().enumerate() {
+        if !slot.takes(words[place].as_str()) {
+            return false;
+        }
+    }
+    true
+}
+
+/// A command, and the words in its slots.
+#[derive(Clone, Copy)]
+pub struct Form<'a> {
+    pub verb: Verb,
+    pub words: &'a [String],
+}
+
+impl<'a> Form<'a> {
+    /// The command form that the words are, without the program's name.
+    pub fn of(words: &'a [String]) -> Option<Form<'a>>
+        ensures { option_map form_by result ≡ form_of (map string_bytes words.now) }
+    {
+        let [first, words @ ..] = words else {
+            return None;
+        };
+        let verb = Verb::of(first.as_str())?;
+        if are_taken(verb.slots(), words) {
+            Some(Form { verb, words })
+        } else {
+            None
+        }
+    }
+
+    /// The files that its words name, in their order.
+    pub fn files(&self, alloc: Global) -> Result<Vec<File<'a>>, NoMemory>
+        ensures { IfOk result (λ files. files_by files.items ≡ files_of (Some (form_by self.now))) }
+    {
+        let mut files = Vec::new(alloc);
+        'slots: for (place, slot) in self.verb.slots().iter().enumerate() {
+            if let (Some(limit), Some(word)) = (slot.limit(), self.words.get(place)) {
+                files
+                    .push(File {
+                        name: word.as_str(),
+                        limit,
+                    })
+                    .map_err(AllocError::from)?;
+            }
+        }
+        Ok(files)
+    }
+}

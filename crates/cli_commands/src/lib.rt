@@ -1,0 +1,14 @@
+//! The commands: a table of verbs with their slots, and what each answers for words and the bytes of its files.
+#![tactic(auto)]
+
+mod check;
+mod commands;
+mod form;
+mod hash;
+pub mod laws;
+mod read;
+mod slot;
+
+pub use commands::Verb;
+pub use form::Form;
+pub use slot::Slot;

@@ -1,0 +1,46 @@
+//! `read SCHEMA TYPE BAG`
+ghost use Rattle.std.specs.Prelude.{◌≡◌, ◌≤◌, length, IfOk};
+ghost use Rattle.typed_value.specs.View.{value};
+ghost use Rattle.value_text.specs.Text.{text_of};
+ghost use Rattle.cli_refusals.specs.Lines.{line_of};
+ghost use Rattle.cli_stages.specs.Stage.{Answers};
+ghost use Rattle.cli_commands.specs.Read.{Reads};
+ghost use Rattle.cli_commands.specs.View.{text_by};
+
+use cli_stages::Stop;
+use cli_stages::bag::bag;
+use cli_stages::cell::cell_value;
+use cli_stages::flat_form::flat_form;
+use cli_stages::kinds::kinds;
+use cli_stages::schema_text::schema_text;
+use cli_stages::tags::tags;
+use cli_stages::type_word::type_word;
+use flat_records::print;
+use std::alloc::Global;
+use tlb_memory::NoMemory;
+use typed_value::Value;
+
+// The value's text and a line feed.
+fn value_line(alloc: Global, shown: &Value) -> Result<Vec<u8>, NoMemory>
+    ensures { IfOk result (λ text. text.items ≡ line_of (text_of (value shown.now))) }
+{
+    let mut text = print(alloc, shown)?;
+    text.extend_from_slice(b"\n")?;
+    Ok(text)
+}
+
+/// The value that the bag's cell spells at the type, on a line.
+pub fn read(alloc: Global, schema: &[u8], word: &str, file: &[u8]) -> Result<Vec<u8>, Stop>
+    requires { length schema.now ≤ 1048576 }
+    ensures { Answers (Reads word.now schema.now file.now) text_by result }
+{
+    let tree = schema_text(alloc, schema)?;
+    let kinded = kinds(alloc, tree)?;
+    tags(alloc, kinded)?;
+    let declarations = flat_form(alloc, schema)?;
+    let declaration = type_word(&declarations, word)?;
+    let root = bag(alloc, file)?;
+    let shown = cell_value(alloc, declaration, &root)?;
+    let text = value_line(alloc, &shown)?;
+    Ok(text)
+}

@@ -1,0 +1,131 @@
+//! Why a command is refused, as data.
+ghost use Rattle.std.specs.Prelude.{◌≡◌, IfOk};
+ghost use Rattle.cli_refusals.specs.Lines.{cell_cause, schema_cause, type_cause};
+ghost use Rattle.cli_refusals.specs.Refusal.{refusal_line, status_of, words_of};
+ghost use Rattle.cli_refusals.specs.View.{refusal_by};
+
+use crate::kind_lines::kind_words;
+use crate::lines::{bag_words, cause_words, grammar_words, spaced};
+use crate::status::Status;
+use crate::tag_lines::tag_words;
+use bag_cells::BagError;
+use flat_records::Cause;
+use std::alloc::Global;
+use tag_ambiguity::TagError;
+use tlb_grammar::GrammarError;
+use tlb_kinds::KindError;
+use tlb_memory::NoMemory;
+
+/// Why a schema is refused.
+#[derive(Drop)]
+pub enum SchemaCause {
+    Text(GrammarError),
+    Kinds(KindError),
+    Tags(TagError),
+    /// It is of no form that is read yet.
+    Unsupported,
+}
+
+/// Why a type word is refused.
+#[derive(Clone, Copy)]
+pub enum TypeCause {
+    /// It is of no form that is read yet.
+    Unsupported,
+}
+
+/// Why a cell is refused.
+#[derive(Clone, Copy)]
+pub enum CellCause {
+    Exotic,
+    Reading(Cause),
+}
+
+/// A refusal: its status by its variant, with its cause. A file is named, and a place is as it is shown.
+#[derive(Drop)]
+pub enum Refusal {
+    Usage,
+    ReadFault(Vec<u8>),
+    TooLong(Vec<u8>),
+    Schema(SchemaCause),
+    TypeWord(TypeCause),
+    Bag(BagError),
+    Cell(Vec<u8>, CellCause),
+}
+
+fn schema_words(alloc: Global, cause: &SchemaCause) -> Result<Vec<u8>, NoMemory>
+    ensures { IfOk result (λ text. text.items ≡ schema_cause cause.now) }
+{
+    match cause {
+        SchemaCause::Text(error) => grammar_words(alloc, *error),
+        SchemaCause::Kinds(error) => kind_words(alloc, error),
+        SchemaCause::Tags(error) => tag_words(alloc, error),
+        SchemaCause::Unsupported => {
+            let text = Vec::from_slice(alloc, b"Unsupported")?;
+            Ok(text)
+        }
+    }
+}
+
+fn type_words(cause: TypeCause) -> &'static [u8]
+    ensures { result.now ≡ type_cause cause }
+{
+    match cause {
+        TypeCause::Unsupported => b"Unsupported",
+    }
+}
+
+fn cell_words(cause: CellCause) -> &'static [u8]
+    ensures { result.now ≡ cell_cause cause }
+{
+    match cause {
+        CellCause::Exotic => b"Exotic",
+        CellCause::Reading(cause) => cause_words(cause),
+    }
+}
+
+impl Refusal {
+    pub fn status(&self) -> Status
+        ensures { result ≡ status_of (refusal_by self.now) }
+    {
+        match self {
+            Refusal::Usage => Status::Usage,
+            Refusal::ReadFault(_) => Status::ReadFault,
+            Refusal::TooLong(_) => Status::TooLong,
+            Refusal::Schema(_) => Status::SchemaRefused,
+            Refusal::TypeWord(_) => Status::TypeRefused,
+            Refusal::Bag(_) => Status::BagRefused,
+            Refusal::Cell(_, _) => Status::CellRefused,
+        }
+    }
+
+    fn words(&self, alloc: Global) -> Result<Vec<u8>, NoMemory>
+        ensures { IfOk result (λ text. text.items ≡ words_of (refusal_by self.now)) }
+    {
+        match self {
+            Refusal::Usage => {
+                let text = Vec::from_slice(alloc, b"usage")?;
+                Ok(text)
+            }
+            Refusal::ReadFault(name) => spaced(alloc, b"read", name),
+            Refusal::TooLong(name) => spaced(alloc, b"long", name),
+            Refusal::Schema(cause) => spaced(alloc, b"schema", &schema_words(alloc, cause)?),
+            Refusal::TypeWord(cause) => spaced(alloc, b"type", type_words(*cause)),
+            Refusal::Bag(error) => spaced(alloc, b"bag", &bag_words(alloc, *error)?),
+            Refusal::Cell(place, cause) => spaced(
+                alloc,
+                b"cell",
+                &spaced(alloc, place, cell_words(*cause))?,
+            ),
+        }
+    }
+
+    /// The one line that is put.
+    pub fn line(&self, alloc: Global) -> Result<Vec<u8>, NoMemory>
+        ensures { IfOk result (λ text. text.items ≡ refusal_line (refusal_by self.now)) }
+    {
+        let mut text = Vec::from_slice(alloc, b"refused: ")?;
+        text.extend_from_slice(&self.words(alloc)?)?;
+        text.extend_from_slice(b"\n")?;
+        Ok(text)
+    }
+}

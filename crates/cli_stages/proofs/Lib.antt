@@ -1,0 +1,3 @@
+mod Layers
+mod StageFacts
+mod Stopped

@@ -1,0 +1,10 @@
+pub mod Bag
+pub mod Cell
+pub mod FlatForm
+pub mod Kinds
+pub mod SchemaText
+pub mod Stage
+pub mod StageLaws
+pub mod Stages
+pub mod Tags
+pub mod TypeWord

@@ -1,0 +1,14 @@
+//! The stages of a command: each refuses or gives something.
+#![tactic(auto)]
+
+pub mod bag;
+pub mod cell;
+pub mod flat_form;
+pub mod kinds;
+pub mod laws;
+pub mod schema_text;
+mod stop;
+pub mod tags;
+pub mod type_word;
+
+pub use stop::Stop;

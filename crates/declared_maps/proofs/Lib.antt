@@ -1,0 +1,12 @@
+mod Limits
+mod Found
+mod There
+mod Opened
+mod Numbers
+mod LabelsBack
+mod Holding
+mod EdgesBack
+mod Keys
+mod Values
+mod EdgesUp
+mod Declared

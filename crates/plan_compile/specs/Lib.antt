@@ -1,0 +1,5 @@
+pub mod Views
+pub mod Terms
+pub mod Applied
+pub mod Results
+pub mod Compiled

@@ -1,0 +1,4 @@
+pub mod Binding
+pub mod Checking
+pub mod Outputs
+pub mod Rows

@@ -1,0 +1,9 @@
+pub mod Blanked
+pub mod Cut
+pub mod Examples
+pub mod Knowing
+pub mod Laid
+pub mod Names
+pub mod Spots
+pub mod SpellsLaid
+pub mod Thinned

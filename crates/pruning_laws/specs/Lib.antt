@@ -1,0 +1,16 @@
+pub mod BlankedLaws
+pub mod ChoiceLaws
+pub mod CleanLaws
+pub mod CommutesLaws
+pub mod FilledLaws
+pub mod KeyLaws
+pub mod KnownLaws
+pub mod LaidLaws
+pub mod Laws
+pub mod NamesLaws
+pub mod PlaceLaws
+pub mod ReadsLaws
+pub mod RootLaws
+pub mod SizeLaws
+pub mod ThinLaws
+pub mod TrieLaws

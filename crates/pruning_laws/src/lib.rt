@@ -1,0 +1,4 @@
+//! What holds of pruning.
+#![tactic(auto)]
+
+pub mod laws;

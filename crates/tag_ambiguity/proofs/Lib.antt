@@ -1,0 +1,12 @@
+mod Names
+mod Patterns
+mod Params
+mod Firsts
+mod Places
+mod Listing
+mod Pairs
+mod Tags
+mod Marks
+mod Table
+mod Counting
+mod Keeping

@@ -1,0 +1,4 @@
+pub mod Inputs
+pub mod Pairs
+pub mod Judged
+pub mod Separated

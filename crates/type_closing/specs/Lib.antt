@@ -1,0 +1,5 @@
+pub mod Closing
+pub mod Faults
+pub mod Views
+pub mod Laws
+pub mod ClosingLaws

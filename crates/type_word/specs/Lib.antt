@@ -1,0 +1,4 @@
+pub mod Signs
+pub mod Scanning
+pub mod Views
+pub mod Resolving
