@@ -1,27 +1,27 @@
 -- Each step adds its lexeme to what has been written.
-use Rattle.std.proofs.Common.{◌≡◌, ℕ, zero, suc, ◌+◌, ◌<◌, ◌≤◌, ◌==◌, Bool, true, false, ◌&&◌, not, nat_lt, if◌then◌else◌, List, [], ◌∷◌, ◌++◌, map, length, Option, Some, None, Result, Ok, Err, refl, sym, ap, ◌∙◌, subst, arith, append_assoc, append-nil, IsTrue, bytes_eq, codes}
+use Rattle.std.proofs.Common.{◌≡◌, ℕ, Bool, true, false, nat_lt, if◌then◌else◌, List, [], ◌∷◌, ◌++◌, length, Option, Some, None, Result, Ok, Err, refl, sym, ap, ◌∙◌, subst, append_assoc, append-nil, bytes_eq, codes}
 use Rattle.cell_nodes.specs.declared.tree.Hidden.{Hidden}
 use Rattle.cell_nodes.specs.declared.tree.Kind.{Kind}
 use Rattle.cell_nodes.specs.declared.tree.Kind.TheVariants.{Ordinary, Pruned, Library, Proof, Update}
 use Rattle.cell_nodes.specs.declared.tree.Tree.{Tree}
 use Rattle.cell_nodes.specs.Layout.{exotic_kind, has_layout}
 use Rattle.cell_nodes.specs.Tree.{deepest, is_exotic, tree_of}
-use Rattle.typed_value.specs.Values.{Plain, Slice, absent, bit_string, list_of, map_of, number as a_number, raw, record_of, ref_to, rest, unknown}
-use Rattle.typed_value.specs.View.{names_in, pairs_of, vals_in, vals_of}
+use Rattle.typed_value.specs.Values.{Plain, Slice, absent, bit_string, list_of, number as a_number, raw, rest, unknown}
+use Rattle.typed_value.specs.View.{vals_of}
 use Rattle.value_text.specs.declared.lexeme.Sign.{Sign}
 use Rattle.value_text.specs.declared.lexeme.Sign.TheVariants.{OpenBrace, CloseBrace, OpenBracket, CloseBracket, OpenParen, CloseParen, Less, Greater, Comma, Colon, Tilde, Caret, Bang, Percent}
 use Rattle.value_text.specs.declared.lexeme.Lexeme.{Lexeme}
 use Rattle.value_text.specs.declared.lexeme.Lexeme.TheVariants.{Sign as ASign, Number, Bits, Name, Hidden as AHidden, Beyond}
-use Rattle.value_text.specs.Text.{cell, name_of, separated, tokens}
+use Rattle.value_text.specs.Text.{cell, name_of, separated}
 use Rattle.value_text.specs.Tokens.{Token, mark, number, bits, name, hidden}
 use Rattle.value_text.specs.Lexemes.{sign_byte}
 use Rattle.value_text.specs.Division.{lexeme_of}
-use Rattle.value_grammar.specs.Open.{CellSpot, Frame, Open, Part, Spot, after_entry, after_field, after_item, after_part, after_rest, at, bang, base_text, bits_due, body_text, cell_spot_text, child_due, done, due, entry_due, entry_or_end, entry_tokens, field, field_due, field_or_end, field_tokens, frame_text, frames_text, in_cell, item, item_or_end, item_tokens, keyed, labelled, named, pair, paren_due, part_text, parts_text, past, reference, rest_bits, rest_child, rest_paren, so_far, spot_text}
+use Rattle.value_grammar.specs.Open.{CellSpot, Frame, Open, Part, Spot, after_entry, after_field, after_item, after_part, after_rest, at, bang, base_text, bits_due, body_text, cell_spot_text, child_due, done, due, entry_due, entry_or_end, entry_tokens, field, field_due, field_or_end, field_tokens, frame_text, frames_text, in_cell, item, item_or_end, item_tokens, keyed, labelled, named, pair, paren_due, part_text, parts_text, past, rest_bits, rest_child, rest_paren, so_far}
 use Rattle.value_grammar.specs.declared.cause.Cause.{Cause}
 use Rattle.value_grammar.specs.declared.cause.Cause.TheVariants.{DeepText, Range}
 use Rattle.value_grammar.specs.Within.{IsSome, closed, closed_exotic, closed_ordinary, is_beyond}
-use Rattle.value_grammar.specs.Steps.{Outcome, begin, begin_cell, begin_part, begin_rest, begin_sign, colon, entry, give, give_cell, give_closed, in_list, in_map, in_part, in_record, in_rest, key, key_or_end, label, label_or_end, list_or_end, move, move_cell, no_go, open_exotic, open_record, open_rest, part_of, rest_of, the_map, the_record}
-use Rattle.value_grammar.proofs.Texts.{AllBefore, HasSome, MapOrder, NoneAfter, body_text-push, cell_text, give_text, hidden-push, past-separated, separated-push}
+use Rattle.value_grammar.specs.Steps.{Outcome, begin, begin_cell, begin_part, begin_rest, begin_sign, colon, entry, give_cell, give_closed, in_list, in_map, in_part, in_record, in_rest, key, key_or_end, label, label_or_end, list_or_end, move, move_cell, no_go, open_exotic, open_record, open_rest, the_map, the_record}
+use Rattle.value_grammar.proofs.Texts.{HasSome, MapOrder, NoneAfter, body_text-push, cell_text, give_text, hidden-push, past-separated, separated-push}
 
 abbrev pub token_of : Lexeme → Token
 token_of (ASign s) = mark (sign_byte s)
@@ -286,7 +286,7 @@ part_closed_text false bs refs = ordinary_text bs refs
 pub closed_text : (p : Part) → IfMade (closed p) (λ t. cell t ≡ (bang p.exotic ++ body_text p.bits p.refs) ++ mark 41 ∷ [])
 closed_text p = part_closed_text p.exotic p.bits p.refs
 
--- a reference more, behind a comma
+-- one more reference, after a comma
 push_text : (f b p g m c : List Token) → f ++ (b ++ p ++ (g ++ (m ++ mark 44 ∷ c))) ≡ (f ++ (b ++ (p ++ (g ++ m ++ mark 44 ∷ [])))) ++ c
 push_text f b p g m c = simp append_assoc refl
 

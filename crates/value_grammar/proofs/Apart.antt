@@ -1,21 +1,21 @@
 -- The tokens of a value that can be written are within their limits, and can stand one after another.
-use Rattle.std.proofs.Common.{◌≡◌, ◌≢◌, ℕ, zero, suc, ◌+◌, ◌<◌, ◌≤◌, ◌^◌, Bool, true, false, not, IsTrue, bytes_eq, codes, List, [], ◌∷◌, ◌++◌, map, take, drop, length, Option, Some, None, refl, sym, ap, ◌∙◌, subst, arith, append_assoc, append-nil}
+use Rattle.std.proofs.Common.{◌≡◌, ◌≢◌, ℕ, zero, suc, ◌<◌, ◌^◌, Bool, true, false, not, IsTrue, bytes_eq, codes, List, [], ◌∷◌, ◌++◌, map, take, drop, Some, None, refl, sym, ap, subst, arith, append_assoc, append-nil}
 use Rattle.bit_slice.specs.Names.{IsName}
 use Rattle.cell_nodes.specs.Equations.{tree_of-out}
 use Rattle.cell_nodes.specs.Good.{AllGood, IsGood, good, more, none}
 use Rattle.cell_nodes.specs.Tree.{is_exotic, tree_of}
 use Rattle.cell_nodes.specs.declared.tree.Hidden.{Hidden}
 use Rattle.cell_nodes.specs.declared.tree.Tree.{Tree, out-Tree}
-use Rattle.typed_value.specs.Values.{Plain, Plains, PlainPairs, Slice, a_pair, a_val, absent, bit_string, list_of, map_of, no_pairs, no_vals, number, raw, record_of, ref_to, rest, unknown}
+use Rattle.typed_value.specs.Values.{Plain, Plains, PlainPairs, a_pair, a_val, absent, bit_string, list_of, map_of, no_pairs, no_vals, number, raw, record_of, ref_to, rest, unknown}
 use Rattle.value_text.specs.declared.lexeme.Sign.{Sign}
 use Rattle.value_text.specs.declared.lexeme.Sign.TheVariants.{OpenBrace, CloseBrace, OpenBracket, CloseBracket, OpenParen, CloseParen, Less, Greater, Comma, Colon, Tilde, Caret, Bang, Percent}
-use Rattle.value_text.specs.DivisionLaws.{AreApart, AreTokens, Follows, IsMark, IsToken}
+use Rattle.value_text.specs.DivisionLaws.{AreApart, AreTokens}
 use Rattle.value_text.specs.Lexemes.{sign_byte}
 use Rattle.value_text.specs.Text.{cell, count_before, entries, fields, hidden_entry, items, name_of, separated, tokens}
 use Rattle.value_text.specs.Text as text
 use Rattle.value_text.specs.Tokens.{Token, mark, bits, name, hidden}
 use Rattle.value_text.specs.Tokens as token
-use Rattle.value_text.specs.Writes.{AreEntries, AreFew, AreFields, AreFormed, AreHidden, IsFormed, IsHidden, IsRecordName}
+use Rattle.value_text.specs.Writes.{AreEntries, AreFew, AreFields, AreFormed, AreHidden, IsFormed, IsHidden}
 use Rattle.value_grammar.specs.Open.{bang, body_text}
 use Rattle.value_grammar.proofs.Texts.{cell_text}
 

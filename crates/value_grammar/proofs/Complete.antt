@@ -1,16 +1,15 @@
 -- A text that writes a value is gone through to that value.
-use Rattle.std.proofs.Common.{◌≡◌, ℕ, zero, suc, ◌+◌, ◌≤◌, Bool, true, false, ◌&&◌, List, [], ◌∷◌, ◌++◌, map, take, drop, length, Result, Ok, Err, refl, sym, ap, ◌∙◌, subst, arith, append-nil, cond}
+use Rattle.std.proofs.Common.{◌≡◌, ℕ, zero, suc, ◌+◌, true, false, ◌&&◌, List, [], ◌∷◌, drop, refl, sym, ap, ◌∙◌, arith, append-nil, cond}
 use Rattle.std.proofs.Math.Seq.{drop-nil}
 use Rattle.std.specs.List.{list_all, prefix_len}
 use Rattle.typed_value.specs.Values.{Plain, parts}
-use Rattle.value_text.specs.declared.lexeme.Lexeme.{Lexeme}
-use Rattle.value_text.specs.Division.{Divides, Placed, lexeme_of, lexemes, none, one, space_before, without_space}
-use Rattle.value_text.specs.DivisionLaws.{DividedInto, spaced_divides}
+use Rattle.value_text.specs.Division.{Divides, Placed, none, one, space_before, without_space}
+use Rattle.value_text.specs.DivisionLaws.{spaced_divides}
 use Rattle.value_text.specs.Text.{tokens}
 use Rattle.value_text.specs.Writes.{TextWrites, cells_in, is_space}
-use Rattle.value_grammar.specs.Open.{at, done, due}
+use Rattle.value_grammar.specs.Open.{at, done}
 use Rattle.value_grammar.specs.Steps.{Held, held_of, run, start}
-use Rattle.value_grammar.specs.Reading.{Finishes, Reaches}
+use Rattle.value_grammar.specs.Reading.{Finishes}
 use Rattle.value_grammar.proofs.Apart.{whole_stands}
 use Rattle.value_grammar.proofs.Maps.{value_goes}
 

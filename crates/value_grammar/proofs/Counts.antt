@@ -1,5 +1,5 @@
 -- Each step counts the values and the cells that begin.
-use Rattle.std.proofs.Common.{◌≡◌, ℕ, zero, suc, ◌+◌, Bool, true, false, ◌&&◌, not, nat_lt, if◌then◌else◌, bytes_eq, codes, List, [], ◌∷◌, ◌++◌, map, length, Option, Some, None, Result, Ok, Err, refl, sym, ap, ◌∙◌, arith}
+use Rattle.std.proofs.Common.{◌≡◌, ℕ, ◌+◌, Bool, true, false, ◌&&◌, not, nat_lt, if◌then◌else◌, bytes_eq, codes, List, [], ◌∷◌, ◌++◌, length, Option, Some, None, Result, Ok, Err, refl, ap, ◌∙◌, arith}
 use Rattle.cell_nodes.specs.Equations.{unfolded-tree_of}
 use Rattle.cell_nodes.specs.Layout.{exotic_kind}
 use Rattle.cell_nodes.specs.Tree.{deepest, tree_of, unfolded}
@@ -7,8 +7,8 @@ use Rattle.cell_nodes.specs.declared.tree.Hidden.{Hidden}
 use Rattle.cell_nodes.specs.declared.tree.Kind.{Kind}
 use Rattle.cell_nodes.specs.declared.tree.Kind.TheVariants.{Ordinary}
 use Rattle.cell_nodes.specs.declared.tree.Tree.{Tree}
-use Rattle.typed_value.specs.Values.{Plain, Slice, absent, bit_string, list_of, map_of, number, parts, parts_by, parts_in, raw, record_of, ref_to, rest, unknown}
-use Rattle.typed_value.specs.View.{names_in, pairs_of, vals_in, vals_of}
+use Rattle.typed_value.specs.Values.{Plain, Slice, absent, bit_string, list_of, number, parts, parts_by, parts_in, raw, ref_to, rest, unknown}
+use Rattle.typed_value.specs.View.{pairs_of, vals_in, vals_of}
 use Rattle.value_text.specs.declared.lexeme.Sign.{Sign}
 use Rattle.value_text.specs.declared.lexeme.Sign.TheVariants.{OpenBrace, CloseBrace, OpenBracket, CloseBracket, OpenParen, CloseParen, Less, Greater, Comma, Colon, Tilde, Caret, Bang, Percent}
 use Rattle.value_text.specs.declared.lexeme.Lexeme.{Lexeme}
@@ -16,9 +16,9 @@ use Rattle.value_text.specs.declared.lexeme.Lexeme.TheVariants.{Sign as ASign, N
 use Rattle.value_text.specs.Writes.{cells_by, cells_in, cells_of}
 use Rattle.value_grammar.specs.declared.cause.Cause.{Cause}
 use Rattle.value_grammar.specs.declared.cause.Cause.TheVariants.{DeepText, Range}
-use Rattle.value_grammar.specs.Open.{CellSpot, Frame, Open, Part, Spot, after_entry, after_field, after_item, after_part, after_rest, at, base_cells, bits_due, cell_spot_cells, cells_begun, child_due, done, due, entry_due, entry_or_end, field, field_due, field_or_end, frames_cells, frames_parts, in_cell, item, item_or_end, keyed, labelled, named, pair, paren_due, parts_begun, parts_cells, reference, refs_cells, rest_bits, rest_child, rest_paren, spot_cells, spot_parts}
+use Rattle.value_grammar.specs.Open.{CellSpot, Frame, Open, Part, Spot, after_entry, after_field, after_item, after_part, after_rest, at, base_cells, bits_due, cells_begun, child_due, done, due, entry_due, entry_or_end, field, field_due, field_or_end, frames_cells, frames_parts, in_cell, item, item_or_end, keyed, labelled, named, pair, paren_due, parts_begun, parts_cells, reference, refs_cells, rest_bits, rest_child, rest_paren}
 use Rattle.value_grammar.specs.Within.{begins_value, closed, closed_exotic, closed_ordinary, is_cell_due, is_paren, is_value_due}
-use Rattle.value_grammar.specs.Steps.{Outcome, begin, begin_cell, begin_part, begin_rest, begin_sign, colon, entry, give, give_cell, give_closed, in_list, in_map, in_part, in_record, in_rest, key, key_or_end, label, label_or_end, list_or_end, move, move_cell, no_go, one_more, open_exotic, open_record, open_rest, part_of, rest_of, the_map, the_record, with_child}
+use Rattle.value_grammar.specs.Steps.{Outcome, begin, begin_cell, begin_part, begin_rest, begin_sign, colon, entry, give, give_cell, give_closed, in_list, in_map, in_part, in_record, in_rest, key, key_or_end, label, label_or_end, list_or_end, move, move_cell, no_go, one_more, open_exotic, open_record, open_rest, the_map, the_record}
 use Rattle.value_grammar.proofs.Adds.{OkThen}
 
 -- so many values and cells have begun

@@ -1,13 +1,13 @@
 -- The steps lead through a text in one way: to one value, or to a refusal, and not to both.
-use Rattle.std.proofs.Common.{◌≡◌, ◌≢◌, ◌⊎◌, inl, inr, ⊎_elim, ℕ, zero, suc, ◌+◌, ◌≤◌, List, [], ◌∷◌, ◌++◌, take, drop, length, Result, Ok, Err, refl, sym, ap, ◌∙◌, subst, arith, append-nil}
+use Rattle.std.proofs.Common.{◌≡◌, ◌⊎◌, inl, inr, ⊎_elim, ℕ, zero, suc, ◌+◌, List, [], ◌∷◌, ◌++◌, take, drop, Ok, Err, refl, sym, ap, ◌∙◌, subst, append-nil}
 use Rattle.typed_value.specs.Values.{Plain}
 use Rattle.value_text.specs.declared.lexeme.Lexeme.{Lexeme}
 use Rattle.value_text.specs.Division.{Divides, Placed, none, one, space_before, without_space}
-use Rattle.value_text.specs.Lexemes.{NothingStands, Spells, Stands}
+use Rattle.value_text.specs.Lexemes.{Stands}
 use Rattle.value_text.specs.OneLexemeLaws.{one_stands}
 use Rattle.value_text.specs.SeparateLaws.{first_byte}
 use Rattle.value_grammar.specs.declared.cause.Cause.{Cause}
-use Rattle.value_grammar.specs.Open.{Frame, Open, Spot, at, done}
+use Rattle.value_grammar.specs.Open.{Frame, Spot, at, done}
 use Rattle.value_grammar.specs.Steps.{Held, Refusal, Stepped, and_then, run, start, step}
 use Rattle.value_grammar.specs.Reading.{Finishes, IsUnfinished, Reaches, Stops, at_end, at_lexeme, at_nothing}
 

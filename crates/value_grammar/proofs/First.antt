@@ -1,7 +1,6 @@
 -- A refusal by the steps is the first refusal of the text.
-use Rattle.std.proofs.Common.{◌≡◌, ◌≢◌, ℕ, zero, suc, ◌+◌, ◌≤◌, Bool, true, false, ◌&&◌, List, [], ◌∷◌, ◌++◌, map, drop, length, Option, Some, None, Result, Ok, Err, refl, sym, ap, ◌∙◌, subst, arith, append_assoc, append-nil}
+use Rattle.std.proofs.Common.{◌≡◌, ◌≢◌, ℕ, ◌+◌, false, ◌&&◌, List, [], ◌∷◌, ◌++◌, map, drop, length, Option, Some, None, Ok, Err, refl, sym, ap, ◌∙◌, subst, arith, append_assoc, append-nil}
 use Rattle.std.proofs.lemmas.List.{length-map, map-append}
-use Rattle.typed_value.specs.Values.{most_parts}
 use Rattle.value_text.specs.declared.lexeme.Sign.TheVariants.{CloseParen}
 use Rattle.value_text.specs.declared.lexeme.Lexeme.{Lexeme}
 use Rattle.value_text.specs.declared.lexeme.Lexeme.TheVariants.{Sign as ASign}
@@ -9,12 +8,11 @@ use Rattle.value_text.specs.Division.{Divides, Placed, lexeme_of, lexemes, space
 use Rattle.value_text.specs.Lexemes.{NothingStands, Stands}
 use Rattle.value_text.specs.Text.{cell, more}
 use Rattle.value_text.specs.Tokens.{bits}
-use Rattle.value_text.specs.Writes.{most_cells}
 use Rattle.value_grammar.specs.declared.cause.Cause.{Cause}
 use Rattle.value_grammar.specs.declared.cause.Cause.TheVariants.{Syntax}
 use Rattle.value_grammar.specs.Grammar.{CanGoOn}
 use Rattle.value_grammar.specs.Shapes.{Shape, shape, shapes}
-use Rattle.value_grammar.specs.Open.{CellSpot, Frame, Open, Part, Spot, after_entry, after_field, after_item, after_part, after_rest, at, bits_due, cells_begun, child_due, done, due, entry_due, entry_or_end, field, field_due, field_or_end, in_cell, item, item_or_end, keyed, labelled, named, pair, paren_due, parts_begun, so_far, reference, rest_bits, rest_child, rest_paren}
+use Rattle.value_grammar.specs.Open.{Frame, Open, Part, Spot, after_entry, after_field, after_item, after_part, after_rest, at, bits_due, child_due, done, due, entry_due, entry_or_end, field_due, field_or_end, in_cell, item_or_end, keyed, labelled, named, paren_due, so_far, rest_bits, rest_child, rest_paren}
 use Rattle.value_grammar.specs.Within.{IsWithin, begins_value, closed, is_beyond, is_cell_due, is_paren, is_value_due, limit, limit_of}
 use Rattle.value_grammar.specs.Steps.{Held, Outcome, Refusal, counted, held_of, move, one_more, run, start, step, step_at, unless_limit}
 use Rattle.value_grammar.specs.Reading.{IsUnfinished, Reaches, Stops, at_end, at_lexeme, at_nothing}

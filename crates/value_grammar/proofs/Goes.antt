@@ -1,5 +1,5 @@
 -- The steps go through tokens, from one state to another.
-use Rattle.std.proofs.Common.{◌≡◌, ℕ, zero, suc, ◌+◌, ◌<◌, ◌≤◌, Bool, true, false, ◌&&◌, ◌||◌, nat_le, if◌then◌else◌, List, [], ◌∷◌, ◌++◌, map, length, Option, Some, None, Result, Ok, Err, refl, sym, ap, ◌∙◌, subst, arith, append_assoc, append-nil}
+use Rattle.std.proofs.Common.{◌≡◌, ℕ, ◌+◌, ◌≤◌, Bool, true, false, ◌&&◌, ◌||◌, nat_le, if◌then◌else◌, List, [], ◌∷◌, ◌++◌, map, length, Option, Some, None, Ok, refl, sym, ap, ◌∙◌, subst, arith, append_assoc}
 use Rattle.std.proofs.lemmas.Bool.Decides.{nat_tests}
 use Rattle.typed_value.specs.Values.{most_levels, most_parts}
 use Rattle.value_text.specs.declared.lexeme.Lexeme.{Lexeme}
@@ -8,9 +8,9 @@ use Rattle.value_text.specs.Tokens.{Token}
 use Rattle.value_text.specs.Writes.{most_cells}
 use Rattle.value_grammar.specs.declared.cause.Cause.{Cause}
 use Rattle.value_grammar.specs.declared.cause.Cause.TheVariants.{BulkText, DeepText, KeyOrder, Range}
-use Rattle.value_grammar.specs.Open.{Frame, Open, Spot, at, due}
+use Rattle.value_grammar.specs.Open.{Frame, Open, Spot, due}
 use Rattle.value_grammar.specs.Within.{begins_value, is_beyond, is_bulk, is_deep, is_out_of_order, is_paren, limit_of}
-use Rattle.value_grammar.specs.Steps.{Held, Stepped, and_then, begin, counted, held_of, one_more, run, step, step_at, unless_limit}
+use Rattle.value_grammar.specs.Steps.{Stepped, and_then, begin, counted, held_of, one_more, run, step, step_at, unless_limit}
 
 -- from what is open, with so many values and cells, through the tokens to what is open then
 abbrev pub G : Open → ℕ → ℕ → List Token → Open → ℕ → ℕ → Type 0

@@ -1,9 +1,8 @@
 -- The steps go through the tokens of a cell.
-use Rattle.std.proofs.Common.{◌≡◌, ℕ, zero, suc, ◌+◌, ◌*◌, ◌<◌, ◌≤◌, ◌==◌, Bool, true, false, ◌&&◌, ◌||◌, nat_le, nat_lt, if◌then◌else◌, IsTrue, List, [], ◌∷◌, ◌++◌, map, length, Option, Some, None, Result, Ok, Err, refl, sym, ap, ◌∙◌, subst, arith, append_assoc, append-nil}
+use Rattle.std.proofs.Common.{◌≡◌, ℕ, suc, ◌+◌, ◌*◌, ◌≤◌, ◌==◌, Bool, true, false, ◌&&◌, nat_le, nat_lt, if◌then◌else◌, List, [], ◌∷◌, ◌++◌, map, length, Option, Some, None, Result, Ok, Err, refl, sym, ap, ◌∙◌, subst, arith, append_assoc, append-nil}
 use Rattle.std.proofs.lemmas.Bool.Decides.{nat_tests}
-use Rattle.cell_nodes.specs.Equations.{out-tree_of, one_le-unfolded, tree_of-out, unfolded-tree_of}
-use Rattle.cell_nodes.specs.Good.{AllGood, IsGood, IsSound, good, more, none}
-use Rattle.cell_nodes.specs.GoodParts.{good-depth}
+use Rattle.cell_nodes.specs.Equations.{one_le-unfolded, tree_of-out, unfolded-tree_of}
+use Rattle.cell_nodes.specs.Good.{AllGood, IsGood, good, more, none}
 use Rattle.cell_nodes.specs.Layout.{byte_of, exotic_kind, has_layout, pair_count, stored_mask}
 use Rattle.cell_nodes.specs.Tree.{deepest, depth, is_exotic, total, tree_of, unfolded}
 use Rattle.cell_nodes.specs.declared.tree.Kind.{Kind}
@@ -11,17 +10,16 @@ use Rattle.cell_nodes.specs.declared.tree.Kind.TheVariants.{Ordinary, Pruned, Li
 use Rattle.cell_nodes.specs.declared.tree.Tree.{Tree, out-Tree}
 use Rattle.typed_value.specs.Values.{Slice}
 use Rattle.value_text.specs.declared.lexeme.Sign.TheVariants.{OpenParen, Bang}
-use Rattle.value_text.specs.declared.lexeme.Lexeme.{Lexeme}
 use Rattle.value_text.specs.declared.lexeme.Lexeme.TheVariants.{Sign as ASign}
 use Rattle.value_text.specs.Text.{cell}
 use Rattle.value_text.specs.Text as text
-use Rattle.value_text.specs.Tokens.{Token, mark, bits}
+use Rattle.value_text.specs.Tokens.{mark, bits}
 use Rattle.value_text.specs.Writes.{most_cells}
 use Rattle.value_grammar.specs.declared.cause.Cause.{Cause}
 use Rattle.value_grammar.specs.declared.cause.Cause.TheVariants.{DeepText, Range}
-use Rattle.value_grammar.specs.Open.{CellSpot, Frame, Open, Part, after_part, at, bang, bits_due, body_text, child_due, in_cell, paren_due, after_rest, rest_child}
-use Rattle.value_grammar.specs.Within.{closed, closed_exotic, closed_ordinary, is_bulk, is_deep, limit_of, most_cell_levels}
-use Rattle.value_grammar.specs.Steps.{Outcome, begin_cell, counted, give_cell, give_closed, held_of, one_more, part_of, rest_of, step, unless_limit, with_child}
+use Rattle.value_grammar.specs.Open.{Frame, Open, Part, after_part, at, bang, bits_due, body_text, child_due, in_cell, paren_due, rest_child}
+use Rattle.value_grammar.specs.Within.{closed, closed_exotic, closed_ordinary, limit_of, most_cell_levels}
+use Rattle.value_grammar.specs.Steps.{begin_cell, counted, give_cell, give_closed, held_of, part_of, step, unless_limit, with_child}
 use Rattle.value_grammar.proofs.Texts.{cell_text}
 use Rattle.value_grammar.proofs.Heights.{Below, children_below}
 use Rattle.value_grammar.proofs.Goes.{G, along, cons, cons_at, free, join, nothing, one, to, within}

@@ -1,10 +1,10 @@
 -- Cells of a good tree stand in one another at most as deep as their depth says.
-use Rattle.std.proofs.Common.{◌≡◌, ◌⊎◌, ℕ, zero, suc, ◌+◌, ◌/◌, ◌<◌, ◌≤◌, ◌==◌, Bool, true, false, ◌&&◌, max, IsTrue, List, [], ◌∷◌, length, map, refl, sym, ap, ◌∙◌, subst, arith, ⊎_elim}
+use Rattle.std.proofs.Common.{◌≡◌, ℕ, zero, suc, ◌+◌, ◌/◌, ◌≤◌, ◌==◌, Bool, true, false, ◌&&◌, IsTrue, List, [], ◌∷◌, length, map, refl, sym, ap, ◌∙◌, subst, arith, ⊎_elim}
 use Rattle.std.proofs.lemmas.Bool.Decides.{nat_tests}
 use Rattle.std.proofs.lemmas.Nat.Bits.{bit_at_or, bit_at-suc}
 use Rattle.std.specs.Int.{bit_at}
 use Rattle.cell_nodes.specs.Equations.{depth-tree_of, mask-tree_of}
-use Rattle.cell_nodes.specs.Layout.{byte_of, has_layout, pair_count, stored_mask}
+use Rattle.cell_nodes.specs.Layout.{byte_of, has_layout}
 use Rattle.cell_nodes.specs.LevelsLaws.{bit_cases}
 use Rattle.cell_nodes.specs.MarksLaws.{depth-lowest, depth-set, depth-unset}
 use Rattle.cell_nodes.specs.PrunesGoodLaws.{depth-ordinary, depth-proof}

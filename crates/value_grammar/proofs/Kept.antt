@@ -1,30 +1,22 @@
 -- Each step keeps what is open within the limits.
-use Rattle.std.proofs.Common.{◌≡◌, ℕ, zero, suc, ◌+◌, ◌<◌, ◌≤◌, ◌==◌, ◌^◌, Bool, true, false, ◌&&◌, ◌||◌, not, nat_le, nat_lt, if◌then◌else◌, IsTrue, bytes_eq, codes, max, List, [], ◌∷◌, ◌++◌, length, Option, Some, None, Result, Ok, Err, refl, sym, ap, ◌∙◌, subst, arith}
+use Rattle.std.proofs.Common.{◌≡◌, ℕ, suc, ◌+◌, ◌<◌, ◌≤◌, ◌^◌, Bool, true, false, ◌&&◌, not, nat_le, if◌then◌else◌, IsTrue, bytes_eq, codes, max, List, [], ◌∷◌, ◌++◌, length, Option, Ok, refl, sym, subst, arith}
 use Rattle.std.proofs.lemmas.Bool.Decides.{nat_tests}
 use Rattle.bit_slice.specs.Names.{IsName}
 use Rattle.cell_nodes.specs.Good.{AllGood, IsGood, more, none}
-use Rattle.cell_nodes.specs.GoodParts.{good-tree_of}
-use Rattle.cell_nodes.specs.Layout.{exotic_kind, has_layout}
-use Rattle.cell_nodes.specs.Tree.{deepest, tree_of}
 use Rattle.cell_nodes.specs.declared.tree.Hidden.{Hidden}
-use Rattle.cell_nodes.specs.declared.tree.Kind.{Kind}
-use Rattle.cell_nodes.specs.declared.tree.Kind.TheVariants.{Ordinary, Pruned, Library, Proof, Update}
 use Rattle.cell_nodes.specs.declared.tree.Tree.{Tree}
-use Rattle.typed_value.specs.Values.{Plain, Slice, absent, bit_string, levels, levels_by, levels_in, list_of, map_of, most_levels, number, raw, record_of, ref_to, rest, unknown}
+use Rattle.typed_value.specs.Values.{Plain, absent, bit_string, levels, levels_by, levels_in, list_of, most_levels, number, ref_to, unknown}
 use Rattle.typed_value.specs.View.{names_in, pairs_of, vals_in, vals_of}
 use Rattle.value_text.specs.declared.lexeme.Sign.{Sign}
-use Rattle.value_text.specs.declared.lexeme.Sign.TheVariants.{OpenBrace, CloseBrace, OpenBracket, CloseBracket, OpenParen, CloseParen, Less, Greater, Comma, Colon, Tilde, Caret, Bang, Percent}
+use Rattle.value_text.specs.declared.lexeme.Sign.TheVariants.{OpenBrace, CloseBrace, OpenBracket, CloseBracket, OpenParen, Less, Greater, Comma, Colon, Tilde, Caret, Bang, Percent}
 use Rattle.value_text.specs.declared.lexeme.Lexeme.{Lexeme}
 use Rattle.value_text.specs.declared.lexeme.Lexeme.TheVariants.{Sign as ASign, Number, Bits, Name, Hidden as AHidden, Beyond}
 use Rattle.value_text.specs.Lexemes.{Spells}
-use Rattle.value_text.specs.Writes.{AreEntries, AreFew, AreFields, AreFormed, AreHidden, IsFormed, IsHidden, IsRecordName, comes_after, in_order, keys_of}
-use Rattle.value_grammar.specs.declared.cause.Cause.{Cause}
-use Rattle.value_grammar.specs.declared.cause.Cause.TheVariants.{DeepText, Range}
-use Rattle.value_grammar.specs.Open.{CellSpot, Frame, Open, Part, Spot, after_entry, after_field, after_item, after_part, after_rest, at, bits_due, child_due, done, due, entry_due, entry_or_end, field, field_due, field_or_end, in_cell, item, item_or_end, keyed, labelled, named, pair, paren_due, reference, rest_bits, rest_child, rest_paren}
-use Rattle.value_grammar.specs.Within.{Ascends, BaseWithin, CellSpotWithin, FitsIn, FrameWithin, FramesWithin, IsSome, MapWithin, NotFirst, PartWithin, PartsWithin, RecordWithin, SpotWithin, closed, closed_exotic, closed_ordinary, is_deep, is_deep_value, is_deep_child, is_out_of_order, most_cell_levels}
-use Rattle.value_grammar.specs.Steps.{Outcome, begin, begin_cell, begin_part, begin_rest, begin_sign, colon, entry, give, give_cell, give_closed, in_list, in_map, in_part, in_record, in_rest, key, key_or_end, label, label_or_end, list_or_end, move, move_cell, no_go, open_exotic, open_record, open_rest, part_of, rest_of, the_map, the_record, with_child}
+use Rattle.value_text.specs.Writes.{AreEntries, AreFew, AreFields, AreFormed, AreHidden, IsFormed, IsHidden, comes_after, in_order, keys_of}
+use Rattle.value_grammar.specs.Open.{Frame, Open, after_field, after_item, at, due, entry_due, field, field_or_end, item, labelled, named, pair, reference}
+use Rattle.value_grammar.specs.Within.{Ascends, FitsIn, FrameWithin, FramesWithin, IsSome, MapWithin, NotFirst, RecordWithin, SpotWithin, is_deep_value, is_out_of_order}
+use Rattle.value_grammar.specs.Steps.{Outcome, begin, begin_sign, colon, entry, give, in_list, in_map, in_record, key, key_or_end, label, label_or_end, list_or_end, no_go, open_record, the_map, the_record}
 use Rattle.value_grammar.proofs.Adds.{OkThen}
-use Rattle.value_grammar.proofs.Texts.{AllBefore, NoneAfter}
 use Rattle.value_grammar.proofs.Orders.{hidden_before, keys_before, order_push, pairs_before}
 use Rattle.value_grammar.proofs.Keys.{keys-hidden, keys-pair}
 

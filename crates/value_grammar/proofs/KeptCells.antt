@@ -1,29 +1,24 @@
 -- Each step keeps what is open within the limits: cells, and every step.
-use Rattle.std.proofs.Common.{◌≡◌, ℕ, zero, suc, ◌+◌, ◌*◌, ◌<◌, ◌≤◌, ◌==◌, ◌^◌, Bool, true, false, ◌&&◌, ◌||◌, not, nat_le, nat_lt, if◌then◌else◌, IsTrue, bytes_eq, codes, max, List, [], ◌∷◌, ◌++◌, length, Option, Some, None, Result, Ok, Err, refl, sym, ap, ◌∙◌, subst, arith}
+use Rattle.std.proofs.Common.{◌≡◌, ℕ, suc, ◌+◌, ◌*◌, ◌≤◌, ◌==◌, Bool, true, false, ◌&&◌, nat_le, nat_lt, if◌then◌else◌, List, [], ◌∷◌, length, Option, Some, None, Result, Ok, Err, refl, sym, ap, ◌∙◌, arith}
 use Rattle.std.proofs.lemmas.Bool.Decides.{nat_tests}
-use Rattle.bit_slice.specs.Names.{IsName}
-use Rattle.cell_nodes.specs.Good.{AllGood, IsGood, more, none}
+use Rattle.cell_nodes.specs.Good.{AllGood, IsGood, none}
 use Rattle.cell_nodes.specs.GoodParts.{good-tree_of}
 use Rattle.cell_nodes.specs.Layout.{byte_of, exotic_kind, has_layout, pair_count, stored_mask}
 use Rattle.cell_nodes.specs.Tree.{deepest, is_exotic, tree_of}
-use Rattle.cell_nodes.specs.declared.tree.Hidden.{Hidden}
 use Rattle.cell_nodes.specs.declared.tree.Kind.{Kind}
 use Rattle.cell_nodes.specs.declared.tree.Kind.TheVariants.{Ordinary, Pruned, Library, Proof, Update}
 use Rattle.cell_nodes.specs.declared.tree.Tree.{Tree}
-use Rattle.typed_value.specs.Values.{Plain, Slice, absent, bit_string, levels, levels_by, levels_in, list_of, map_of, most_levels, number, raw, record_of, ref_to, rest, unknown}
-use Rattle.typed_value.specs.View.{names_in, pairs_of, vals_in, vals_of}
-use Rattle.value_text.specs.declared.lexeme.Sign.{Sign}
-use Rattle.value_text.specs.declared.lexeme.Sign.TheVariants.{OpenBrace, CloseBrace, OpenBracket, CloseBracket, OpenParen, CloseParen, Less, Greater, Comma, Colon, Tilde, Caret, Bang, Percent}
+use Rattle.typed_value.specs.Values.{Slice, raw, rest}
+use Rattle.value_text.specs.declared.lexeme.Sign.TheVariants.{OpenParen, CloseParen, Comma, Bang}
 use Rattle.value_text.specs.declared.lexeme.Lexeme.{Lexeme}
-use Rattle.value_text.specs.declared.lexeme.Lexeme.TheVariants.{Sign as ASign, Number, Bits, Name, Hidden as AHidden, Beyond}
-use Rattle.value_text.specs.Lexemes.{Spells}
-use Rattle.value_text.specs.Writes.{AreEntries, AreFew, AreFields, AreFormed, AreHidden, IsFormed, IsHidden, IsRecordName, comes_after, in_order, keys_of}
+use Rattle.value_text.specs.declared.lexeme.Lexeme.TheVariants.{Sign as ASign, Bits}
+use Rattle.value_text.specs.Writes.{AreFew}
 use Rattle.value_grammar.specs.declared.cause.Cause.{Cause}
 use Rattle.value_grammar.specs.declared.cause.Cause.TheVariants.{DeepText, Range}
-use Rattle.value_grammar.specs.Open.{CellSpot, Frame, Open, Part, Spot, after_entry, after_field, after_item, after_part, after_rest, at, bits_due, child_due, done, due, entry_due, entry_or_end, field, field_due, field_or_end, in_cell, item, item_or_end, keyed, labelled, named, pair, paren_due, reference, rest_bits, rest_child, rest_paren}
-use Rattle.value_grammar.specs.Within.{Ascends, begins_cell, BaseWithin, CellSpotWithin, FitsIn, FrameWithin, FramesWithin, IsSome, MapWithin, NotFirst, PartWithin, PartsWithin, RecordWithin, SpotWithin, closed, closed_exotic, closed_ordinary, is_deep, is_deep_value, is_deep_child, is_out_of_order, most_cell_levels}
-use Rattle.value_grammar.specs.Steps.{Outcome, begin, begin_cell, begin_part, begin_rest, begin_sign, colon, entry, give, give_cell, give_closed, in_list, in_map, in_part, in_record, in_rest, key, key_or_end, label, label_or_end, list_or_end, move, move_cell, no_go, open_exotic, open_record, open_rest, part_of, rest_of, the_map, the_record, with_child}
-use Rattle.value_grammar.proofs.Adds.{OkThen, kind_exotic}
+use Rattle.value_grammar.specs.Open.{CellSpot, Frame, Part, Spot, after_entry, after_field, after_item, after_part, after_rest, at, bits_due, child_due, done, due, entry_due, entry_or_end, field_due, field_or_end, in_cell, item_or_end, keyed, labelled, named, paren_due, rest_bits, rest_child, rest_paren}
+use Rattle.value_grammar.specs.Within.{begins_cell, BaseWithin, FitsIn, FramesWithin, PartsWithin, SpotWithin, closed, closed_exotic, closed_ordinary, is_deep, is_deep_child, is_out_of_order, most_cell_levels}
+use Rattle.value_grammar.specs.Steps.{begin_cell, begin_part, begin_rest, give_cell, give_closed, in_part, in_rest, move, move_cell, open_exotic, open_rest}
+use Rattle.value_grammar.proofs.Adds.{kind_exotic}
 use Rattle.value_grammar.proofs.Kept.{IsLexeme, Keeps, Kept, begin_keeps, colon_keeps, entry_keeps, give_keeps, good_push, in_list_keeps, in_map_keeps, in_record_keeps, key_keeps, label_keeps, list_keeps, map_keeps, one_level, open_record_keeps, record_keeps}
 
 -- ---- what is left of a cell

@@ -1,5 +1,5 @@
 -- The order of bits: what comes before, and lists of keys in order.
-use Rattle.std.proofs.Common.{◌≡◌, ◌⊎◌, inl, inr, ℕ, zero, suc, ◌<◌, ◌≤◌, ◌==◌, Bool, true, false, ◌&&◌, not, nat_lt, IsTrue, bytes_eq, List, [], ◌∷◌, ◌++◌, map, take, drop, length, Option, Some, refl, sym, ap, ◌∙◌, subst, arith, ⊎_elim}
+use Rattle.std.proofs.Common.{◌≡◌, ◌⊎◌, inl, inr, ℕ, zero, suc, ◌<◌, ◌==◌, Bool, true, false, ◌&&◌, not, IsTrue, bytes_eq, List, [], ◌∷◌, ◌++◌, map, take, drop, length, refl, ◌∙◌, arith, ⊎_elim}
 use Rattle.std.proofs.lemmas.Bool.Decides.{nat_tests}
 use Rattle.cell_nodes.specs.declared.tree.Hidden.{Hidden}
 use Rattle.typed_value.specs.Values.{Plain}

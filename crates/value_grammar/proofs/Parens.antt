@@ -1,6 +1,5 @@
 -- The place that is kept of an open cell is that of its `(`.
-use Rattle.std.proofs.Common.{◌≡◌, ℕ, zero, suc, ◌+◌, Bool, true, false, if◌then◌else◌, bytes_eq, codes, List, [], ◌∷◌, ◌++◌, map, take, drop, length, Option, Some, None, Result, Ok, Err, refl, sym, ap, ◌∙◌, subst, arith, append_assoc, append-nil, length-append}
-use Rattle.std.proofs.lemmas.List.{map-append}
+use Rattle.std.proofs.Common.{◌≡◌, ℕ, zero, suc, Bool, true, false, if◌then◌else◌, bytes_eq, codes, List, [], ◌∷◌, ◌++◌, map, length, Option, Some, None, Result, Ok, Err, refl, sym, ap, ◌∙◌, arith, append_assoc, append-nil}
 use Rattle.cell_nodes.specs.declared.tree.Hidden.{Hidden}
 use Rattle.cell_nodes.specs.declared.tree.Tree.{Tree}
 use Rattle.typed_value.specs.Values.{Plain, Slice, absent, bit_string, list_of, number as a_number, raw, ref_to, rest, unknown}
@@ -13,7 +12,7 @@ use Rattle.value_text.specs.Division.{Placed, lexeme_of, lexemes}
 use Rattle.value_text.specs.Text.{cell, more}
 use Rattle.value_text.specs.Tokens.{Token, bits, mark}
 use Rattle.value_grammar.specs.declared.cause.Cause.{Cause}
-use Rattle.value_grammar.specs.Open.{CellSpot, Frame, Open, Part, Spot, after_entry, after_field, after_item, after_part, after_rest, at, bang, base_text, bits_due, body_text, child_due, done, due, entry_due, entry_or_end, field, field_due, field_or_end, frames_text, in_cell, item, item_or_end, keyed, labelled, named, pair, paren_due, parts_text, reference, rest_bits, rest_child, rest_paren, so_far}
+use Rattle.value_grammar.specs.Open.{CellSpot, Frame, Open, Part, Spot, after_entry, after_field, after_item, after_part, after_rest, at, bang, base_text, bits_due, child_due, done, due, entry_due, entry_or_end, field, field_due, field_or_end, frames_text, in_cell, item, item_or_end, keyed, labelled, named, pair, paren_due, parts_text, reference, rest_bits, rest_child, rest_paren, so_far}
 use Rattle.value_grammar.specs.Within.{closed}
 use Rattle.value_grammar.specs.Steps.{Outcome, begin, begin_cell, begin_part, begin_sign, give, give_cell, give_closed, in_part, list_or_end, move, move_cell, no_go, open_exotic, open_record, open_rest, begin_rest, in_rest, in_list, in_map, in_record, key, key_or_end, label, label_or_end, colon, entry, the_map, the_record}
 use Rattle.value_grammar.proofs.Adds.{OkThen}

@@ -1,6 +1,6 @@
 -- What may come after where the text stands: each step read backwards is a production. So every text that the machine
 -- goes through can go on.
-use Rattle.std.proofs.Common.{◌≡◌, ℕ, zero, suc, Bool, true, false, List, [], ◌∷◌, ◌++◌, Option, Some, None, refl, sym, ap, ◌∙◌, subst, append-nil}
+use Rattle.std.proofs.Common.{◌≡◌, ℕ, zero, suc, Bool, true, false, List, [], ◌∷◌, ◌++◌, Option, Some, None, refl, sym, subst, append-nil}
 use Rattle.value_text.specs.declared.lexeme.Sign.{Sign}
 use Rattle.value_text.specs.declared.lexeme.Sign.TheVariants.{OpenBrace, CloseBrace, OpenBracket, CloseBracket, OpenParen, CloseParen, Less, Greater, Comma, Colon, Tilde, Caret, Bang, Percent}
 use Rattle.value_grammar.specs.Shapes.{Shape, sign, number, bits, name, x_name, hidden}
@@ -314,15 +314,15 @@ ending done b n = ([], (refl, n refl))
 whole_of : (s : List Shape) → Left start s → IsWhole s
 whole_of s h = let P : List Shape → Type 0 = λ r. AValue s r in subst P h.2 h.1
 
-pub goes_on : (w : Where) (b : List Around) (front : List Shape) → run start front ≡ Some (at w b) → (w ≡ done → b ≡ []) → CanGoOn front
-goes_on w b front e n =
+pub goes_on : (w : Where) (b : List Around) (prefix : List Shape) → run start prefix ≡ Some (at w b) → (w ≡ done → b ≡ []) → CanGoOn prefix
+goes_on w b prefix e n =
     let f = ending w b n in
-    record { more = f.0; whole = whole_of (front ++ f.0) (back_through start (at w b) front f.0 e f.1) }
+    record { more = f.0; whole = whole_of (prefix ++ f.0) (back_through start (at w b) prefix f.0 e f.1) }
 
-pub is_whole : (front : List Shape) → run start front ≡ Some (at done []) → IsWhole front
-is_whole front e =
+pub is_whole : (prefix : List Shape) → run start prefix ≡ Some (at done []) → IsWhole prefix
+is_whole prefix e =
     let P : List Shape → Type 0 = λ s. IsWhole s in
-    whole_of front (same (back_through start (at done []) front [] e (refl, refl)))
+    whole_of prefix (same (back_through start (at done []) prefix [] e (refl, refl)))
   where
-    same : Left start (front ++ []) → Left start front
-    same h = let P : List Shape → Type 0 = λ s. Left start s in subst P (append-nil front) h
+    same : Left start (prefix ++ []) → Left start prefix
+    same h = let P : List Shape → Type 0 = λ s. Left start s in subst P (append-nil prefix) h

@@ -1,9 +1,9 @@
 -- What the productions derive, the machine goes through: one line a production.
-use Rattle.std.proofs.Common.{◌≡◌, ℕ, zero, suc, Bool, true, false, List, [], ◌∷◌, ◌++◌, Option, Some, None, refl, sym, ap, ◌∙◌}
-use Rattle.value_text.specs.declared.lexeme.Sign.TheVariants.{OpenBrace, CloseBrace, OpenBracket, CloseBracket, OpenParen, CloseParen, Less, Greater, Comma, Colon, Tilde, Caret, Bang, Percent}
-use Rattle.value_grammar.specs.Shapes.{Shape, sign, number, bits, name, x_name, hidden}
+use Rattle.std.proofs.Common.{◌≡◌, ℕ, suc, Bool, true, false, List, [], ◌∷◌, ◌++◌, Option, Some, None, refl, sym, ap, ◌∙◌}
+use Rattle.value_text.specs.declared.lexeme.Sign.TheVariants.{CloseBrace, CloseBracket, OpenParen, CloseParen, Greater, Colon, Bang}
+use Rattle.value_grammar.specs.Shapes.{Shape, sign, bits}
 use Rattle.value_grammar.specs.Grammar.{ACell, AField, AValue, AnEntry, Body, CanGoOn, Children, Entries, Fields, IsLabel, IsWhole, Items, MoreEntries, MoreFields, MoreItems, a_body, a_cell, a_child, a_field, a_hidden, a_hidden_part, a_list, a_map, a_named, a_nameless, a_number, a_pair, a_reference, a_rest, an_absent, an_exotic, an_ordinary, by_name, by_x, entries_end, fields_end, items_end, next_entry, next_field, next_item, no_child, no_entry, no_field, no_item, some_bits, some_entries, some_fields, some_items}
-use Rattle.value_grammar.proofs.ShapeSteps.{Around, State, Where, after_entry, after_field, after_item, after_part, after_rest, at, bits_due, cell_given, child_due, done, due, entry_due, entry_or_end, field_due, field_or_end, given, in_field, in_item, in_pair, in_reference, item_or_end, keyed, labelled, named, onward, paren_due, rest_bits, rest_child, rest_paren, run, step}
+use Rattle.value_grammar.proofs.ShapeSteps.{Around, State, after_entry, after_field, after_item, after_part, after_rest, at, bits_due, cell_given, child_due, done, due, entry_due, entry_or_end, field_due, field_or_end, given, in_field, in_item, in_pair, in_reference, item_or_end, onward, paren_due, rest_child, rest_paren, run, step}
 
 -- both go on alike
 abbrev Same : State → List Shape → State → List Shape → Type 0
@@ -124,7 +124,7 @@ start = at due []
 pub whole_runs : (s : List Shape) → IsWhole s → run start s ≡ Some (at done [])
 whole_runs s h = value_run h []
 
--- ---- fronts
+-- ---- prefixes
 
 pub run-append : (p : State) (xs ys : List Shape) → run p (xs ++ ys) ≡ onward (run p xs) (λ q. run q ys)
 run-append p [] ys = refl
@@ -134,19 +134,19 @@ run-append p (x ∷ xs) ys =
       | None ↦ refl
     ]
 
--- a front that goes on leads somewhere
-pub front_runs : (front : List Shape) → CanGoOn front → run start front ≡ None → ⊥
-front_runs front g e =
-    let there : run start (front ++ g.more) ≡ None = run-append start front g.more ∙ ap (λ (o : Option State). onward o (λ q. run q g.more)) e in
-    let no : Some (at done []) ≡ None = sym (whole_runs (front ++ g.more) g.whole) ∙ there in
+-- a prefix that goes on leads somewhere
+pub prefix_runs : (prefix : List Shape) → CanGoOn prefix → run start prefix ≡ None → ⊥
+prefix_runs prefix g e =
+    let there : run start (prefix ++ g.more) ≡ None = run-append start prefix g.more ∙ ap (λ (o : Option State). onward o (λ q. run q g.more)) e in
+    let no : Some (at done []) ≡ None = sym (whole_runs (prefix ++ g.more) g.whole) ∙ there in
     absurd (cc)
 
-pub stuck : (front : List Shape) (p : State) (c : Shape) → run start front ≡ Some p → step p c ≡ None → CanGoOn (front ++ c ∷ []) → ⊥
-stuck front p c e n g =
-    front_runs (front ++ c ∷ []) g
-    (run-append start front (c ∷ []) ∙ ap (λ (o : Option State). onward o (λ q. run q (c ∷ []))) e ∙ ap (λ (o : Option State). onward o (λ q. run q [])) n)
+pub stuck : (prefix : List Shape) (p : State) (c : Shape) → run start prefix ≡ Some p → step p c ≡ None → CanGoOn (prefix ++ c ∷ []) → ⊥
+stuck prefix p c e n g =
+    prefix_runs (prefix ++ c ∷ []) g
+    (run-append start prefix (c ∷ []) ∙ ap (λ (o : Option State). onward o (λ q. run q (c ∷ []))) e ∙ ap (λ (o : Option State). onward o (λ q. run q [])) n)
 
-pub not_whole : (front : List Shape) (p : State) → run start front ≡ Some p → (p ≡ at done [] → ⊥) → IsWhole front → ⊥
-not_whole front p e n h =
-    let same : Some p ≡ Some (at done []) = sym e ∙ whole_runs front h in
+pub not_whole : (prefix : List Shape) (p : State) → run start prefix ≡ Some p → (p ≡ at done [] → ⊥) → IsWhole prefix → ⊥
+not_whole prefix p e n h =
+    let same : Some p ≡ Some (at done []) = sym e ∙ whole_runs prefix h in
     n (let f : p ≡ at done [] = cc in f)

@@ -1,5 +1,5 @@
 -- What the steps go through is what has been written: a whole value at the end of a text is one that the text writes.
-use Rattle.std.proofs.Common.{◌≡◌, ℕ, zero, suc, ◌+◌, ◌<◌, ◌≤◌, Bool, true, false, ◌&&◌, ◌||◌, nat_le, if◌then◌else◌, IsTrue, List, [], ◌∷◌, ◌++◌, map, take, drop, length, Option, Some, None, Result, Ok, Err, refl, sym, ap, ◌∙◌, subst, arith, append_assoc, append-nil, cond}
+use Rattle.std.proofs.Common.{◌≡◌, ℕ, suc, ◌+◌, ◌≤◌, Bool, true, false, ◌&&◌, ◌||◌, nat_le, if◌then◌else◌, List, [], ◌∷◌, ◌++◌, map, take, drop, length, Option, Some, None, Ok, Err, refl, sym, ap, ◌∙◌, subst, arith, append_assoc, append-nil, cond}
 use Rattle.std.proofs.lemmas.Bool.Decides.{nat_tests}
 use Rattle.std.proofs.lemmas.List.{map-append}
 use Rattle.std.specs.List.{list_all, prefix_len}
@@ -8,24 +8,23 @@ use Rattle.typed_value.specs.Values.{Plain, most_parts}
 use Rattle.typed_value.specs.View.{pairs_of}
 use Rattle.value_text.specs.declared.lexeme.Lexeme.{Lexeme}
 use Rattle.value_text.specs.declared.lexeme.Lexeme.TheVariants.{Sign as ASign, Number, Bits, Name, Hidden as AHidden, Beyond}
-use Rattle.value_text.specs.Division.{Divides, Placed, lexeme_of, lexemes, none, one, space_before, without_space}
+use Rattle.value_text.specs.Division.{Divides, Placed, lexeme_of, lexemes, one, space_before, without_space}
 use Rattle.value_text.specs.DivisionLaws.{AreTokens, IsToken, divided_spaced}
-use Rattle.value_text.specs.Lexemes.{Spells, Stands}
 use Rattle.value_text.specs.Text.{count_before, hidden_entry, tokens}
 use Rattle.value_text.specs.Tokens.{Token, bits, mark}
-use Rattle.value_text.specs.Writes.{AreSpaces, TextWrites, in_order, is_space, keys_of, most_cells}
+use Rattle.value_text.specs.Writes.{AreSpaces, TextWrites, is_space, keys_of, most_cells}
 use Rattle.value_grammar.specs.declared.cause.Cause.{Cause}
 use Rattle.value_grammar.specs.declared.cause.Cause.TheVariants.{BulkText, DeepText, KeyOrder, Range}
-use Rattle.value_grammar.specs.Open.{CellSpot, Frame, Open, Part, Spot, after_entry, after_field, after_item, after_part, after_rest, at, bits_due, cells_begun, child_due, done, due, entry_due, entry_or_end, entry_tokens, field, field_due, field_or_end, in_cell, item, item_or_end, keyed, labelled, named, pair, paren_due, parts_begun, reference, rest_bits, rest_child, rest_paren, so_far}
-use Rattle.value_grammar.specs.Within.{Ascends, FrameWithin, FramesWithin, SpotWithin, begins_value, is_beyond, is_bulk, is_cell_due, is_deep, is_out_of_order, is_paren, is_value_due, limit_of}
+use Rattle.value_grammar.specs.Open.{Frame, Open, Spot, after_entry, after_field, after_item, at, cells_begun, done, entry_tokens, field, item, keyed, pair, parts_begun, reference, so_far}
+use Rattle.value_grammar.specs.Within.{Ascends, FramesWithin, SpotWithin, begins_value, is_beyond, is_bulk, is_cell_due, is_deep, is_out_of_order, is_paren, is_value_due, limit_of}
 use Rattle.value_grammar.specs.Steps.{Held, Outcome, Stepped, and_then, counted, held_of, move, one_more, run, start, step, step_at, unless_limit}
 use Rattle.value_grammar.specs.Reading.{Finishes, Reaches}
-use Rattle.value_grammar.proofs.Texts.{AllBefore, HasSome, MapOrder, NoneAfter}
+use Rattle.value_grammar.proofs.Texts.{HasSome, MapOrder}
 use Rattle.value_grammar.proofs.Adds.{OkThen, Ready, Written, adds, lexeme_of-token, token_of}
 use Rattle.value_grammar.proofs.Orders.{hidden_before, keys_before, pairs_before}
 use Rattle.value_grammar.proofs.Kept.{IsLexeme, Keeps, spelled_lexeme}
 use Rattle.value_grammar.proofs.KeptCells.{keeps}
-use Rattle.value_grammar.proofs.Counts.{Counts, HasBegun, counts}
+use Rattle.value_grammar.proofs.Counts.{HasBegun, counts}
 
 -- ---- what the order of keys gives
 

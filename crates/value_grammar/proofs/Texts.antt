@@ -1,18 +1,16 @@
 -- Each step adds its lexeme to what has been written.
-use Rattle.std.proofs.Common.{◌≡◌, ℕ, zero, suc, ◌+◌, ◌<◌, ◌≤◌, ◌==◌, Bool, true, false, ◌&&◌, not, if◌then◌else◌, List, [], ◌∷◌, ◌++◌, map, take, drop, length, Option, Some, None, Result, Ok, Err, refl, sym, ap, ◌∙◌, subst, arith, append_assoc, append-nil, IsTrue, bytes_eq, codes}
+use Rattle.std.proofs.Common.{◌≡◌, ℕ, zero, suc, ◌≤◌, Bool, true, false, if◌then◌else◌, List, [], ◌∷◌, ◌++◌, map, take, drop, length, Option, refl, sym, ap, ◌∙◌, arith, append_assoc, append-nil}
 use Rattle.std.proofs.lemmas.List.{map-append, take-append-le, drop-append-le, take_all, drop_all}
 use Rattle.cell_nodes.specs.declared.tree.Hidden.{Hidden}
 use Rattle.cell_nodes.specs.declared.tree.Kind.{Kind}
-use Rattle.cell_nodes.specs.declared.tree.Kind.TheVariants.{Ordinary}
-use Rattle.cell_nodes.specs.declared.tree.Tree.{Tree, out-Tree}
+use Rattle.cell_nodes.specs.declared.tree.Tree.{Tree}
 use Rattle.cell_nodes.specs.Equations.{out-tree_of}
 use Rattle.cell_nodes.specs.Tree.{is_exotic, tree_of}
-use Rattle.typed_value.specs.Values.{Plain, Slice, absent, bit_string, list_of, map_of, number as a_number, raw, record_of, ref_to, rest, unknown}
-use Rattle.typed_value.specs.View.{names_in, pairs_of, vals_in, vals_of}
-use Rattle.value_text.specs.Text.{body, cell, cell_step, comes_before, count_before, entries, hidden_entry, items, kind_mark, more, name_of, separated, tokens}
+use Rattle.typed_value.specs.Values.{Plain, ref_to}
+use Rattle.value_text.specs.Text.{body, cell, cell_step, comes_before, count_before, hidden_entry, more, name_of, separated, tokens}
 use Rattle.value_text.specs.TextLaws.{cell-out}
-use Rattle.value_text.specs.Tokens.{Token, mark, number, bits, name, hidden}
-use Rattle.value_grammar.specs.Open.{CellSpot, Frame, Open, Part, Spot, after_entry, after_field, after_item, after_part, after_rest, at, bang, base_text, bits_due, body_text, cell_spot_text, child_due, done, due, entry_due, entry_or_end, entry_tokens, field, field_due, field_or_end, field_tokens, frame_text, frames_text, in_cell, item, item_or_end, item_tokens, keyed, labelled, named, pair, paren_due, part_text, parts_text, past, reference, rest_bits, rest_child, rest_paren, so_far, spot_text}
+use Rattle.value_text.specs.Tokens.{Token, mark, bits, name, hidden}
+use Rattle.value_grammar.specs.Open.{Frame, bang, body_text, entry_tokens, field, field_tokens, frames_text, item, item_tokens, pair, past, reference, so_far}
 use Rattle.value_grammar.specs.Steps.{give}
 
 -- ---- lists with commas

@@ -1,10 +1,10 @@
 -- A step of a value's text is a step of the grammar's machine by the lexeme's shape; where there is no step, either the
 -- machine has none, or a cell is closed that there is none of.
-use Rattle.std.proofs.Common.{◌≡◌, ℕ, suc, Bool, true, false, if◌then◌else◌, bytes_eq, codes, List, [], ◌∷◌, ◌++◌, map, length, Option, Some, None, Result, Ok, Err, refl, sym, ap, ◌∙◌, subst}
+use Rattle.std.proofs.Common.{◌≡◌, ℕ, Bool, true, false, if◌then◌else◌, bytes_eq, codes, List, [], ◌∷◌, length, Option, Some, None, Result, Ok, Err, refl, ap}
 use Rattle.cell_nodes.specs.declared.tree.Hidden.{Hidden}
 use Rattle.cell_nodes.specs.declared.tree.Tree.{Tree}
-use Rattle.typed_value.specs.Values.{Plain, Slice, absent, bit_string, list_of, map_of, number as a_number, raw, record_of, ref_to, rest, unknown}
-use Rattle.typed_value.specs.View.{pairs_of, vals_of}
+use Rattle.typed_value.specs.Values.{Plain, Slice, absent, bit_string, list_of, number as a_number, raw, ref_to, rest, unknown}
+use Rattle.typed_value.specs.View.{vals_of}
 use Rattle.value_text.specs.declared.lexeme.Sign.{Sign}
 use Rattle.value_text.specs.declared.lexeme.Sign.TheVariants.{OpenBrace, CloseBrace, OpenBracket, CloseBracket, OpenParen, CloseParen, Less, Greater, Comma, Colon, Tilde, Caret, Bang, Percent}
 use Rattle.value_text.specs.declared.lexeme.Lexeme.{Lexeme}
@@ -14,7 +14,7 @@ use Rattle.value_grammar.specs.declared.cause.Cause.TheVariants.{Syntax}
 use Rattle.value_grammar.specs.Shapes.{Shape, name, shape, sign, x_name}
 use Rattle.value_grammar.specs.Open.{CellSpot, Frame, Open, Part, Spot, after_entry, after_field, after_item, after_part, after_rest, at, bits_due, child_due, done, due, entry_due, entry_or_end, field, field_due, field_or_end, in_cell, item, item_or_end, keyed, labelled, named, pair, paren_due, reference, rest_bits, rest_child, rest_paren}
 use Rattle.value_grammar.specs.Within.{closed, is_beyond}
-use Rattle.value_grammar.specs.Steps.{Outcome, begin, begin_cell, begin_part, begin_rest, begin_sign, colon, entry, give, give_cell, give_closed, in_list, in_map, in_part, in_record, in_rest, key, key_or_end, label, label_or_end, list_or_end, move, move_cell, no_go, open_exotic, open_record, open_rest, part_of, rest_of, the_map, the_record}
+use Rattle.value_grammar.specs.Steps.{Outcome, begin, begin_cell, begin_part, begin_rest, begin_sign, colon, entry, give, give_cell, give_closed, in_list, in_map, in_part, in_record, in_rest, key, key_or_end, label, label_or_end, list_or_end, move, move_cell, no_go, open_exotic, open_record, open_rest, the_map, the_record}
 use Rattle.value_grammar.specs.Refused.{Closes}
 use Rattle.value_grammar.proofs.ShapeSteps as shapes
 

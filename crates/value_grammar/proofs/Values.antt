@@ -1,30 +1,25 @@
 -- The steps go through the tokens of a value that can be written.
-use Rattle.std.proofs.Common.{◌≡◌, ℕ, zero, suc, ◌+◌, ◌<◌, ◌≤◌, Bool, true, false, ◌&&◌, ◌||◌, not, nat_le, if◌then◌else◌, IsTrue, bytes_eq, codes, max, List, [], ◌∷◌, ◌++◌, map, take, drop, length, Option, Some, None, Result, Ok, Err, refl, sym, ap, ◌∙◌, subst, arith, append_assoc, append-nil}
-use Rattle.cell_nodes.specs.Equations.{one_le-unfolded}
-use Rattle.cell_nodes.specs.Good.{AllGood, IsGood, good, more, none}
-use Rattle.cell_nodes.specs.GoodParts.{good-depth}
-use Rattle.cell_nodes.specs.Tree.{is_exotic, total, tree_of, unfolded}
+use Rattle.std.proofs.Common.{◌≡◌, ℕ, suc, ◌+◌, ◌≤◌, Bool, true, false, ◌&&◌, not, nat_le, if◌then◌else◌, IsTrue, bytes_eq, codes, List, [], ◌∷◌, ◌++◌, map, length, Option, Some, None, Ok, refl, sym, ap, ◌∙◌, subst, arith, append_assoc, append-nil}
+use Rattle.cell_nodes.specs.Tree.{is_exotic, tree_of}
 use Rattle.cell_nodes.specs.Equations.{tree_of-out}
-use Rattle.cell_nodes.specs.declared.tree.Hidden.{Hidden}
 use Rattle.cell_nodes.specs.declared.tree.Kind.{Kind}
 use Rattle.cell_nodes.specs.declared.tree.Tree.{Tree, out-Tree}
-use Rattle.typed_value.specs.Values.{Plain, Plains, PlainPairs, Slice, a_pair, a_val, absent, bit_string, levels, levels_by, levels_in, list_of, map_of, most_levels, most_parts, no_pairs, no_vals, number, parts, parts_by, parts_in, raw, record_of, ref_to, rest, unknown}
-use Rattle.typed_value.specs.View.{names_in, pairs_of, vals_in, vals_of}
-use Rattle.value_text.specs.declared.lexeme.Sign.TheVariants.{CloseBracket, OpenBrace, OpenBracket, OpenParen, Less, Tilde, Caret, Bang, Percent}
+use Rattle.typed_value.specs.Values.{Plain, Plains, PlainPairs, a_pair, a_val, absent, bit_string, levels, levels_in, list_of, map_of, most_levels, most_parts, no_pairs, no_vals, number, parts, parts_in, raw, record_of, ref_to, rest, unknown}
+use Rattle.typed_value.specs.View.{names_in, vals_in, vals_of}
+use Rattle.value_text.specs.declared.lexeme.Sign.TheVariants.{CloseBracket, OpenBrace, OpenBracket}
 use Rattle.value_text.specs.declared.lexeme.Lexeme.{Lexeme}
-use Rattle.value_text.specs.declared.lexeme.Lexeme.TheVariants.{Sign as ASign, Number, Bits, Name, Hidden as AHidden}
-use Rattle.value_text.specs.Division.{Placed, lexeme_of, lexemes}
+use Rattle.value_text.specs.declared.lexeme.Lexeme.TheVariants.{Sign as ASign, Name}
+use Rattle.value_text.specs.Division.{lexeme_of, lexemes}
 use Rattle.value_text.specs.Text.{cell, count_before, entries, fields, hidden_entry, items, name_of, separated, tokens}
 use Rattle.value_text.specs.Text as text
 use Rattle.value_text.specs.Tokens.{Token, mark, bits, name, hidden}
 use Rattle.value_text.specs.Tokens as token
-use Rattle.value_text.specs.Writes.{AreEntries, AreFew, AreFields, AreFormed, AreHidden, IsFormed, IsRecordName, cells_by, cells_in, cells_of, comes_after, in_order, keys_of, most_cells}
-use Rattle.value_grammar.specs.Open.{Frame, Open, Part, Spot, after_entry, after_field, after_item, after_rest, at, bang, bits_due, body_text, done, due, entry_due, entry_or_end, field, field_due, field_or_end, in_cell, item, item_or_end, keyed, labelled, named, pair, paren_due, reference, rest_bits, rest_child, rest_paren}
-use Rattle.value_grammar.specs.Within.{begins_value, is_beyond, is_paren, limit_of, most_cell_levels}
-use Rattle.value_grammar.specs.Steps.{Held, Outcome, Stepped, and_then, begin, counted, give, give_cell, held_of, no_go, one_more, rest_of, run, step, step_at, the_map, the_record, unless_limit}
+use Rattle.value_text.specs.Writes.{AreFields, IsRecordName, cells_in, cells_of, most_cells}
+use Rattle.value_grammar.specs.Open.{Frame, Open, after_field, after_item, at, bang, body_text, due, field, field_due, field_or_end, item, item_or_end, labelled, named}
+use Rattle.value_grammar.specs.Within.{begins_value, is_beyond, is_paren, limit_of}
+use Rattle.value_grammar.specs.Steps.{Outcome, Stepped, and_then, begin, counted, give, held_of, no_go, run, step, the_record, unless_limit}
 use Rattle.value_grammar.proofs.Texts.{cell_text}
-use Rattle.value_grammar.proofs.Goes.{G, free, along, cons, cons_at, due_step, join, nothing, one, to}
-use Rattle.value_grammar.proofs.GoesCells.{Begins, cell_goes, one_cell, rest_begins}
+use Rattle.value_grammar.proofs.Goes.{G, free, along, cons, due_step, join, one, to}
 
 -- inside any values, where there is room
 abbrev pub AnyValue : Plain → Type 0

@@ -77,6 +77,6 @@ abbrev pub IsWhole : List Shape → Type 0
 IsWhole s = AValue s []
 
 -- a value can go on after these shapes, or ends with them
-pub record CanGoOn (front : List Shape) : Type 0 where
+pub record CanGoOn (prefix : List Shape) : Type 0 where
   pub more : List Shape
-  pub whole : IsWhole (front ++ more)
+  pub whole : IsWhole (prefix ++ more)

@@ -1,5 +1,5 @@
 -- Where the steps lead in a text: to a place, to a whole value at its end, or to a refusal.
-use Rattle.std.specs.Prelude.{◌≡◌, ◌≢◌, ℕ, ◌+◌, List, [], drop, Result, Ok, Err}
+use Rattle.std.specs.Prelude.{◌≡◌, ◌≢◌, ℕ, ◌+◌, List, [], drop, Ok, Err}
 use Rattle.typed_value.specs.Values.{Plain}
 use Rattle.value_text.specs.declared.lexeme.Lexeme.{Lexeme}
 use Rattle.value_text.specs.Division.{Divides, Placed, space_before, without_space}
@@ -35,7 +35,8 @@ IsUnfinished spot = Unit {0}
 -- the text is refused
 pub data Stops (file : List ℕ) : Cause → ℕ → Type 0 where
   -- a lexeme has no step
-  at_lexeme : {place n byte : ℕ} {h : Held} {l : Lexeme} {cause : Cause} → Reaches file place h → Stands l n (drop place file)
+  at_lexeme : {place n byte : ℕ} {h : Held} {l : Lexeme} {cause : Cause}
+      → Reaches file place h → Stands l n (drop place file)
       → step h (place, l) ≡ Err (cause, byte) → Stops file cause byte
   -- no lexeme stands there
   at_nothing : {place : ℕ} {h : Held} → Reaches file place h → drop place file ≢ [] → NothingStands (drop place file)

@@ -1,5 +1,5 @@
--- The steps by which a value is read, one for each lexeme. The contract of the public call speaks of texts and of what is
--- open in them; proofs/ ties the steps to these.
+-- The steps by which a value is read, one for each lexeme. The contract of the public call speaks of texts and of
+-- what is open in them; proofs/ ties the steps to these.
 use Rattle.std.specs.Prelude.{ℕ, Bool, true, false, bytes_eq, codes, if◌then◌else◌, List, [], ◌∷◌, ◌++◌, ◌+◌, ◌&&◌, Option, Some, None, Result, Ok, Err}
 use Rattle.cell_nodes.specs.declared.tree.Hidden.{Hidden as AHidden}
 use Rattle.cell_nodes.specs.declared.tree.Tree.{Tree}
@@ -139,7 +139,8 @@ abbrev pub part_of : Bool → ℕ → List ℕ → List Tree → Part
 part_of exotic place bs refs = record { exotic = exotic; place = place; bits = bs; refs = refs }
 
 abbrev pub begin_part : Option Slice → List Part → Bool → ℕ → Lexeme → ℕ → List Frame → Outcome
-begin_part base ps exotic paren (Bits bs) place below = Ok (at (in_cell base ps (after_part (part_of exotic paren bs []))) below)
+begin_part base ps exotic paren (Bits bs) place below =
+    Ok (at (in_cell base ps (after_part (part_of exotic paren bs []))) below)
 begin_part base ps exotic paren l place below = no_go place
 
 abbrev pub with_child : Part → Tree → Part

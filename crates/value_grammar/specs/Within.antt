@@ -1,6 +1,6 @@
--- What is open is within the limits, and its maps are in order. This project's own; the bounds of cells are those of the
--- TON documentation, "Cells as data storage".
-use Rattle.std.specs.Prelude.{◌≡◌, ◌⊎◌, ℕ, suc, ◌+◌, ◌≤◌, Bool, true, false, ◌&&◌, ◌||◌, not, nat_le, nat_lt, bytes_eq, codes, if◌then◌else◌, IsTrue, List, [], ◌∷◌, ◌++◌, length, Option, Some, None, Result, Ok, Err}
+-- What is open is within the limits, and its maps are in order. This project's own; the bounds of cells are those of
+-- the TON documentation, "Cells as data storage".
+use Rattle.std.specs.Prelude.{◌≡◌, ℕ, suc, ◌+◌, ◌≤◌, Bool, true, false, ◌&&◌, ◌||◌, not, nat_le, nat_lt, bytes_eq, codes, if◌then◌else◌, IsTrue, List, [], ◌∷◌, ◌++◌, length, Option, Some, None, Result, Ok, Err}
 use Rattle.cell_nodes.specs.Good.{AllGood}
 use Rattle.cell_nodes.specs.Layout.{exotic_kind}
 use Rattle.cell_nodes.specs.Tree.{deepest, tree_of}
@@ -12,10 +12,9 @@ use Rattle.bit_slice.specs.Names.{IsName}
 use Rattle.typed_value.specs.Values.{Plain, Slice, levels, levels_by, levels_in, most_levels, most_parts}
 use Rattle.typed_value.specs.View.{names_in, pairs_of, vals_in, vals_of}
 use Rattle.value_text.specs.declared.lexeme.Sign.{Sign}
-use Rattle.value_text.specs.declared.lexeme.Sign.TheVariants.{OpenBrace, CloseBrace, OpenBracket, CloseBracket, OpenParen, CloseParen, Less, Greater, Comma, Colon, Tilde, Caret, Bang, Percent}
+use Rattle.value_text.specs.declared.lexeme.Sign.TheVariants.{OpenBrace, OpenBracket, OpenParen, Less, Tilde, Caret, Bang, Percent}
 use Rattle.value_text.specs.declared.lexeme.Lexeme.{Lexeme}
 use Rattle.value_text.specs.declared.lexeme.Lexeme.TheVariants.{Sign as ASign, Number, Bits, Name, Hidden as AHidden, Beyond}
-use Rattle.value_text.specs.Text.{comes_before}
 use Rattle.value_text.specs.Writes.{AreEntries, AreFew, AreFields, AreFormed, AreHidden, IsFormed, IsRecordName, comes_after, in_order, keys_of, most_cells}
 use Rattle.value_grammar.specs.declared.cause.Cause.{Cause}
 use Rattle.value_grammar.specs.declared.cause.Cause.TheVariants.{BulkText, DeepText, KeyOrder, Range}
@@ -96,7 +95,8 @@ is_cell_due spot = false
 -- the 1,048,577th value begins, or the 262,145th cell, where so many have begun
 abbrev pub is_bulk : ℕ → ℕ → Spot → Lexeme → Bool
 is_bulk values cells spot l =
-    (is_value_due spot && begins_value l && nat_le most_parts values) || (is_cell_due spot && is_paren l && nat_le most_cells cells)
+    (is_value_due spot && begins_value l && nat_le most_parts values)
+    || (is_cell_due spot && is_paren l && nat_le most_cells cells)
 
 abbrev pub is_beyond : Lexeme → Bool
 is_beyond (Beyond form) = true
@@ -125,12 +125,14 @@ closed_ordinary bs refs =
 
 abbrev pub closed_exotic : Option Kind → List ℕ → List Tree → Result Tree Cause
 closed_exotic None bs refs = Err Range
-closed_exotic (Some kind) bs refs = if nat_lt 1024 (deepest (tree_of kind bs refs)) then Err DeepText else Ok (tree_of kind bs refs)
+closed_exotic (Some kind) bs refs =
+    if nat_lt 1024 (deepest (tree_of kind bs refs)) then Err DeepText else Ok (tree_of kind bs refs)
 
 -- the cell, or why there is none: an exotic one has no layout; it is deeper than 1024 at some level; it has more than 4
 -- references
 abbrev pub closed : Part → Result Tree Cause
-closed p = if p.exotic then closed_exotic (exotic_kind p.bits (length p.refs)) p.bits p.refs else closed_ordinary p.bits p.refs
+closed p =
+    if p.exotic then closed_exotic (exotic_kind p.bits (length p.refs)) p.bits p.refs else closed_ordinary p.bits p.refs
 
 -- ---- what is open is within the limits
 
@@ -145,7 +147,8 @@ pub record Ascends (ps : List (List ℕ × Plain)) (us : List (List ℕ × Hidde
   pub ends : keys_of (pairs_of ps) us ≡ earlier ++ last ∷ []
 
 abbrev pub FrameWithin : ℕ → Frame → Type 0
-FrameWithin d (field n fs x) = IsRecordName n × AreFields (names_in fs) (vals_in fs) × IsName x × FitsIn d (levels_in (vals_in fs))
+FrameWithin d (field n fs x) =
+    IsRecordName n × AreFields (names_in fs) (vals_in fs) × IsName x × FitsIn d (levels_in (vals_in fs))
 FrameWithin d (item vs) = AreFormed (vals_of vs) × FitsIn d (levels_in (vals_of vs))
 FrameWithin d reference = FitsIn d 0
 FrameWithin d (pair ps us k) =
@@ -178,7 +181,8 @@ IsSome [] = ⊥
 IsSome (x ∷ xs) = Unit {0}
 
 abbrev pub MapWithin : ℕ → List (List ℕ × Plain) → List (List ℕ × Hidden) → List ℕ → Type 0
-MapWithin d ps us last = AreEntries (pairs_of ps) × AreHidden us × Ascends ps us last × FitsIn d (levels_by (pairs_of ps))
+MapWithin d ps us last =
+    AreEntries (pairs_of ps) × AreHidden us × Ascends ps us last × FitsIn d (levels_by (pairs_of ps))
 
 abbrev pub RecordWithin : ℕ → Option (List ℕ) → List (List ℕ × Plain) → Type 0
 RecordWithin d n fs = IsRecordName n × AreFields (names_in fs) (vals_in fs) × FitsIn d (levels_in (vals_in fs))

@@ -1,10 +1,9 @@
 -- The order of keys, by places.
-use Rattle.std.proofs.Common.{◌≡◌, ◌≢◌, ◌<◌, ◌≤◌, ◌+◌, ◌==◌, ℕ, suc, Bool, true, false, ◌&&◌, not, bytes_eq, List, [], ◌∷◌, length, take, drop, refl, sym, ap, ◌∙◌, arith, nat_lt, slice_index, min, ⊎_elim}
+use Rattle.std.proofs.Common.{◌≡◌, ◌<◌, ◌≤◌, ◌+◌, ◌==◌, ℕ, suc, true, false, List, [], ◌∷◌, length, drop, refl, sym, ap, ◌∙◌, arith, nat_lt, slice_index, min, ⊎_elim}
 use Rattle.std.proofs.Math.Seq.{drop-cons}
 use Rattle.std.proofs.lemmas.List.{length-drop}
 use Rattle.std.proofs.lemmas.Bool.{cases_lt}
 use Rattle.std.proofs.lemmas.Bool.Decides.{nat_tests}
-use Rattle.value_text.specs.Text.{comes_before}
 use Rattle.value_text.specs.Writes.{comes_after}
 
 first-same : (a b : ℕ) (xs ys : List ℕ) → a ≡ b → comes_after (a ∷ xs) (b ∷ ys) ≡ comes_after xs ys

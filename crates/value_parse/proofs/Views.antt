@@ -1,5 +1,5 @@
 -- The states of the program grow at the end, and those of the definitions at the beginning.
-use Rattle.std.proofs.Common.{◌≡◌, List, [], ◌∷◌, ◌++◌, map, length, reverse, refl, sym, ap, ◌∙◌}
+use Rattle.std.proofs.Common.{◌≡◌, List, [], ◌∷◌, ◌++◌, map, length, reverse, ap, ◌∙◌}
 use Rattle.std.proofs.lemmas.List.{length-map, length-reverse, map-append, reverse-append}
 use Rattle.value_grammar.specs.Open as opened
 use Rattle.value_parse.specs.declared.state.Frame.{Frame}

@@ -6,7 +6,7 @@ use Rattle.value_text.specs.Writes.{most_cells}
 use Rattle.value_text.specs.declared.lexeme.Lexeme.{Lexeme}
 use Rattle.value_grammar.specs.declared.cause.Cause.{Cause}
 use Rattle.value_grammar.specs.declared.cause.Cause.TheVariants as causes
-use Rattle.value_grammar.specs.Steps.{Outcome, Refusal, Stepped}
+use Rattle.value_grammar.specs.Steps.{Outcome, Stepped}
 use Rattle.value_grammar.specs.Reading.{Reaches}
 use Rattle.value_grammar.specs.Within.{limit_of}
 use Rattle.value_parse.specs.declared.error.TextError.{TextError}

@@ -1,5 +1,5 @@
 -- What the program's states stand for.
-use Rattle.std.specs.Prelude.{ℕ, Bool, List, [], ◌∷◌, ◌++◌, map, reverse, Option, Some, None}
+use Rattle.std.specs.Prelude.{List, map, reverse, Option, Some, None}
 use Rattle.typed_value.specs.Values.{Slice}
 use Rattle.typed_value.specs.View.{dict_parts, record_parts, slice_of, value}
 use Rattle.typed_value.specs.declared.value.RestPart.{RestPart}

@@ -78,7 +78,8 @@ fn closed_ordinary(alloc: Global, part: Part) -> Result<Cell, TextError>
 }
 
 fn closed_exotic(alloc: Global, part: Part) -> Result<Cell, TextError>
-    ensures { Closes result (within.closed_exotic (exotic_kind part.bits (length part.refs)) part.bits part.refs) part.place }
+    ensures { Closes result
+        (within.closed_exotic (exotic_kind part.bits (length part.refs)) part.bits part.refs) part.place }
 {
     let place = part.place;
     match Cell::exotic(alloc, part.bits, part.refs.as_slice()) {
@@ -121,7 +122,8 @@ fn give_cell(
     mut around: Vec<Part>,
     below: Vec<Frame>,
 ) -> Result<Open, TextError>
-    ensures { Moves result (Ok (steps.give_cell cell (view.base base) (view.parts around.items) (view.frames below.items))) }
+    ensures { Moves result
+        (Ok (steps.give_cell cell (view.base base) (view.parts around.items) (view.frames below.items))) }
 {
     match around.pop() {
         Some(part) => {
@@ -147,7 +149,8 @@ pub(crate) fn begin_cell(
     place: u64,
     below: Vec<Frame>,
 ) -> Result<Open, TextError>
-    ensures { Moves result (steps.begin_cell (view.base base) (view.parts around.items) lexeme place (view.frames below.items)) }
+    ensures { Moves result
+        (steps.begin_cell (view.base base) (view.parts around.items) lexeme place (view.frames below.items)) }
 {
     let cell = match lexeme {
         Lexeme::Sign(Sign::OpenParen) => CellSpot::BitsDue(false, place),
@@ -166,7 +169,8 @@ fn open_exotic(
     place: u64,
     below: Vec<Frame>,
 ) -> Result<Open, TextError>
-    ensures { Moves result (steps.open_exotic (view.base base) (view.parts around.items) lexeme place (view.frames below.items)) }
+    ensures { Moves result
+        (steps.open_exotic (view.base base) (view.parts around.items) lexeme place (view.frames below.items)) }
 {
     match lexeme {
         Lexeme::Sign(Sign::OpenParen) => {
@@ -187,7 +191,9 @@ fn begin_part(
     place: u64,
     below: Vec<Frame>,
 ) -> Result<Open, TextError>
-    ensures { Moves result (steps.begin_part (view.base base) (view.parts around.items) head.0 head.1 lexeme place (view.frames below.items)) }
+    ensures { Moves result
+        (steps.begin_part (view.base base) (view.parts around.items) head.0 head.1 lexeme place
+        (view.frames below.items)) }
 {
     match lexeme {
         Lexeme::Bits(bits) => {
@@ -214,7 +220,9 @@ fn in_part(
     place: u64,
     below: Vec<Frame>,
 ) -> Result<Open, TextError>
-    ensures { Moves result (steps.in_part (view.base base) (view.parts around.items) (view.part part) lexeme place (view.frames below.items)) }
+    ensures { Moves result
+        (steps.in_part (view.base base) (view.parts around.items) (view.part part) lexeme place
+        (view.frames below.items)) }
 {
     match lexeme {
         Lexeme::Sign(Sign::Comma) => {
@@ -249,7 +257,8 @@ fn begin_child(
     below: Vec<Frame>,
 ) -> Result<Open, TextError>
     ensures { Moves result
-        (steps.begin_cell (view.base base) (view.part part ∷ view.parts around.items) lexeme place (view.frames below.items)) }
+        (steps.begin_cell (view.base base) (view.part part ∷ view.parts around.items)
+        lexeme place (view.frames below.items)) }
 {
     let around = inside(around, part)?;
     begin_cell(base, around, lexeme, place, below)
@@ -265,7 +274,9 @@ pub(crate) fn move_cell(
     place: u64,
     below: Vec<Frame>,
 ) -> Result<Open, TextError>
-    ensures { Moves result (steps.move_cell (view.base base) (view.parts around.items) (view.cell_spot cell) lexeme place (view.frames below.items)) }
+    ensures { Moves result
+        (steps.move_cell (view.base base) (view.parts around.items) (view.cell_spot cell) lexeme place
+        (view.frames below.items)) }
 {
     match cell {
         CellSpot::ParenDue => open_exotic(base, around, lexeme, place, below),

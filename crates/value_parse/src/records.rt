@@ -88,7 +88,8 @@ pub(crate) fn label(
     place: u64,
     below: Vec<Frame>,
 ) -> Result<Open, TextError>
-    ensures { Moves result (steps.label (record_parts of).0 (record_parts of).1 lexeme place (view.frames below.items)) }
+    ensures { Moves result
+        (steps.label (record_parts of).0 (record_parts of).1 lexeme place (view.frames below.items)) }
 {
     match lexeme {
         Lexeme::Name(label) => {
@@ -124,7 +125,8 @@ pub(crate) fn colon(
     place: u64,
     below: Vec<Frame>,
 ) -> Result<Open, TextError>
-    ensures { Moves result (steps.colon (record_parts of).0 (record_parts of).1 label lexeme place (view.frames below.items)) }
+    ensures { Moves result
+        (steps.colon (record_parts of).0 (record_parts of).1 label lexeme place (view.frames below.items)) }
 {
     match lexeme {
         Lexeme::Sign(Sign::Colon) => enter(below, Frame::Field(of, label)),
@@ -140,7 +142,8 @@ pub(crate) fn in_record(
     place: u64,
     below: Vec<Frame>,
 ) -> Result<Open, TextError>
-    ensures { Moves result (steps.in_record (record_parts of).0 (record_parts of).1 lexeme place (view.frames below.items)) }
+    ensures { Moves result
+        (steps.in_record (record_parts of).0 (record_parts of).1 lexeme place (view.frames below.items)) }
 {
     match lexeme {
         Lexeme::Sign(Sign::Comma) => Ok(Open {
@@ -203,7 +206,8 @@ pub(crate) fn entry(
     place: u64,
     below: Vec<Frame>,
 ) -> Result<Open, TextError>
-    ensures { Moves result (steps.entry (dict_parts of).0 (dict_parts of).1 key lexeme place (view.frames below.items)) }
+    ensures { Moves result
+        (steps.entry (dict_parts of).0 (dict_parts of).1 key lexeme place (view.frames below.items)) }
 {
     match lexeme {
         Lexeme::Sign(Sign::Colon) => enter(below, Frame::Pair(of, key)),
@@ -225,7 +229,8 @@ pub(crate) fn in_map(
     place: u64,
     below: Vec<Frame>,
 ) -> Result<Open, TextError>
-    ensures { Moves result (steps.in_map (dict_parts of).0 (dict_parts of).1 last lexeme place (view.frames below.items)) }
+    ensures { Moves result
+        (steps.in_map (dict_parts of).0 (dict_parts of).1 last lexeme place (view.frames below.items)) }
 {
     match lexeme {
         Lexeme::Sign(Sign::Comma) => {

@@ -133,7 +133,8 @@ fn read(alloc: Global, text: &[u8]) -> Result<Value, TextError>
 /// The value that a text writes, or the text's first refusal from the left.
 pub fn parse(alloc: Global, text: &[u8]) -> Result<Value, TextError>
     // What is answered holds of the text.
-    ensures holds { IfParsed result (λ v. TextWrites text.now (value v)) (λ cause byte. TextRefused text.now cause byte) }
+    ensures holds { IfParsed result (λ v. TextWrites text.now (value v))
+        (λ cause byte. TextRefused text.now cause byte) }
     // The value that the text writes is answered, unless memory runs out.
     ensures written { (v : Plain) → TextWrites text.now v → IfParsed result (λ found. value found ≡ v) (λ _ _. ⊥) }
 {

@@ -1,4 +1,4 @@
-use Rattle.std.proofs.Common.{arith, refl}
+use Rattle.std.proofs.Common.{arith}
 use Rattle.value_parse.proofs.Depths.{deepest_is}
 use Rattle.value_parse.proofs.cells.deepest.Goals as goal
 

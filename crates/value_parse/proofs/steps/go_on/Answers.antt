@@ -1,4 +1,3 @@
-use Rattle.std.proofs.Common.{arith}
 use Rattle.value_parse.specs.View.{frames, spot}
 use Rattle.value_parse.proofs.Reach.{stays_counted}
 use Rattle.value_parse.proofs.steps.go_on.Goals as goal

@@ -1,4 +1,4 @@
-use Rattle.std.proofs.Common.{◌≡◌, ◌+◌, ◌≤◌, ◌∙◌, ℕ, List, ap, arith, drop, length, refl, subst}
+use Rattle.std.proofs.Common.{◌+◌, ◌≤◌, ◌∙◌, ℕ, List, ap, arith, drop, length, refl, subst}
 use Rattle.value_text.specs.Division.{space_before}
 use Rattle.value_text.specs.Lexemes.{NothingStands, Stands}
 use Rattle.value_grammar.specs.Reading.{at_nothing}
