@@ -146,8 +146,7 @@ abbrev AllGoing : (Plains → Slice → Slice → Type 0) → List Tree → Plai
 AllGoing M ps ws s after = Goes (λ rs. M ws (with_refs s (ps ++ rs)) (with_refs after rs)) ps s after
 
 no_more_go : (M : Plains → Slice → Slice → Type 0) (ps : List Tree) (ws : Plains) (s after : Slice) → ps ≡ [] → ws ≡
-    no_vals
-    → after ≡ s → ((s after : Slice) → after ≡ s → M no_vals s after) → AllGoing M ps ws s after
+    no_vals → after ≡ s → ((s after : Slice) → after ≡ s → M no_vals s after) → AllGoing M ps ws s after
 no_more_go M ps ws s after e f same holds =
     let P : List Tree → Type 0 = λ ps. AllGoing M ps ws s after in
     let Q : Plains → Type 0 = λ ws. AllGoing M [] ws s after in
@@ -211,8 +210,7 @@ fields_read schema K R (an_item (check a op b i) is) ds reads scope s end after 
       front = r.front;
       parts = r.parts;
       prune = r.prune;
-      spells = λ rs l.
-          (f.0, f.1, f.2, f.3, f.4, r.spells rs l);
+      spells = λ rs l. (f.0, f.1, f.2, f.3, f.4, r.spells rs l);
     }
 fields_read schema K R (an_item (solve v a b i) is) ds reads scope s end after ps ws clean f c =
     let r = fields_read schema K R is ds reads (with_number v f.0 scope) s end after ps ws clean f.2 c in
@@ -647,8 +645,7 @@ rest_reads schema K R trust r s outs after ps clean o same end k =
             o,
             (λ i. record {
               bits = (same i).bits;
-              refs = (sym (append-nil ps) ∙ ap (λ (x : List Tree). ps ++ x)
-                  (sym z)) i;
+              refs = (sym (append-nil ps) ∙ ap (λ (x : List Tree). ps ++ x) (sym z)) i;
             }),
             (λ i. record { bits = (end i).bits; refs = z i }),
           );
@@ -709,8 +706,7 @@ small_reads schema v c s outs after ps w e f x =
     subst P (sym e) (subst Q (sym f) x)
 
 number_reads : (schema : CoreSchema) (negative : Bool) (size : ℕ) (c : Shape) (s : Slice) (outs : List ℕ)
-    (after : Slice)
-    → SpellsLaidShape schema (number negative size) c s outs after
+    (after : Slice) → SpellsLaidShape schema (number negative size) c s outs after
     → GoingShape schema c [] (values.number negative size) s outs after
 number_reads schema negative size (typed t) s outs after e = number_goes negative size (row t) s outs after e
 number_reads schema negative size _ s outs after e = absurd e
