@@ -453,8 +453,8 @@ pub begin_on : (n most : ℕ) (mode : Mode) (schema : CoreSchema) (h : Spot) (g 
     → Reaches w r e b (λ x. Ok (made outs x)) (making (suc n) most mode schema h g q v b)
 unfolding making
 begin_on n most mode schema h g q v b w r e outs c lt same p = (
-  p.0,
-  when_true (nat_lt q most) _ _ (lt-ltb q most lt) ∙ bind_on (reported h (shape_of g)) _ c (Ok (made outs p.0)) (reported_on h (shape_of g) c same) p.1,
-  p.2,
-  p.3,
-)
+    p.0,
+    when_true (nat_lt q most) _ _ (lt-ltb q most lt) ∙ bind_on (reported h (shape_of g)) _ c (Ok (made outs p.0)) (reported_on h (shape_of g) c same) p.1,
+    p.2,
+    p.3,
+  )

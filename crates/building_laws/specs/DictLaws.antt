@@ -263,8 +263,8 @@ in_place_complete most mode req schema R k v done h n t q b w s middle outs r le
     ap (λ m. tops m [] ((k, leaf x.held) ∷ [])) (sym d.long) ∙ leaf_along k [] x.held bits in (
       a.0,
       when_true (fits_edge mode n ((k, leaf nothing) ∷ [])) _ _ (fits_leaf mode n k d.long bits)
-          ∙ bind_on (make_leaves R h t q (a_pair k v no_pairs)) _ ((k, x) ∷ []) (Ok (made [] a.0)) (bind_on (R h (at_type t) q v empty) _ (made outs x) (Ok ((k, x) ∷ [])) p.1 refl)
-          (bind_on (planted h (tops n [] ((k, leaf x.held) ∷ []))) _ top (Ok (made [] a.0)) (ap (planted h) tops_are) a.1),
+      ∙ bind_on (make_leaves R h t q (a_pair k v no_pairs)) _ ((k, x) ∷ []) (Ok (made [] a.0)) (bind_on (R h (at_type t) q v empty) _ (made outs x) (Ok ((k, x) ∷ [])) p.1 refl)
+      (bind_on (planted h (tops n [] ((k, leaf x.held) ∷ []))) _ top (Ok (made [] a.0)) (ap (planted h) tops_are) a.1),
       a.2,
       a.3 ∙ ap (λ z. b.shut || z) p.3,
     )
@@ -307,8 +307,8 @@ fork_complete most mode req schema R ps us hashes done h n t q b w s r le held s
     let some : Some_entry es = some_of_fork p zs os es same some_z in (
       a.0,
       when_true (fits_edge mode n (outline ps us)) _ _ (ap (fits_edge mode n) (outline_is mode schema n ps us t es sound.order e) ∙ fits_edge_on mode n es some sound.order placed plain)
-          ∙ bind_on (make_leaves R h t q ps) _ xs.0 (Ok (made [] a.0)) xs.1
-          ((λ i. plant_here h n (are i) (last i) b) ∙ bind_on (planted h (tops n [] es)) _ top (Ok (made [] a.0)) (ap (planted h) tops_are) a.1),
+      ∙ bind_on (make_leaves R h t q ps) _ xs.0 (Ok (made [] a.0)) xs.1
+      ((λ i. plant_here h n (are i) (last i) b) ∙ bind_on (planted h (tops n [] es)) _ top (Ok (made [] a.0)) (ap (planted h) tops_are) a.1),
       a.2,
       a.3,
     )
@@ -363,9 +363,9 @@ open_root_complete most mode req schema R ps us hashes done h n t q b w s r le h
     let a = alone_on h (one_ref (cell_of u)) (is_deep (cell_of u)) false b w s r [] held st refl (subst T same there) (not_deep (cell_of u) (subst D same below.1)) (no_end r) in (
       a.0,
       when_true (fits_root mode n (outline ps us)) _ _ (ap (fits_root mode n) (outline_is mode schema n ps us t es sound.order e) ∙ fits_root_on mode n es sound.order (tree-placed mode n es u d) (λ ne. plain_tree mode ne n es u d))
-          ∙ bind_on (make_leaves R h t q ps) _ xs.0 (Ok (made [] a.0)) xs.1
-          (ap (λ l. plant_root h n l b) are ∙ plant_root_open h n es b (some_entry mode n es u d) (not_hidden mode n es u d)
-          ∙ bind_on (planted h (planting n es)) _ u (Ok (made [] a.0)) (ap (planted h) plant_is) a.1),
+      ∙ bind_on (make_leaves R h t q ps) _ xs.0 (Ok (made [] a.0)) xs.1
+      (ap (λ l. plant_root h n l b) are ∙ plant_root_open h n es b (some_entry mode n es u d) (not_hidden mode n es u d)
+      ∙ bind_on (planted h (planting n es)) _ u (Ok (made [] a.0)) (ap (planted h) plant_is) a.1),
       a.2,
       a.3,
     )

@@ -253,7 +253,7 @@ holds_of mode schema n ps t xs us l s =
 
 -- ---- the first edge in place
 
-planted_ok : {A : Type 0} (h : Spot) (r : Result A Excess) (x : A) → planted h r ≡ Ok x → r ≡ Ok x
+pub planted_ok : {A : Type 0} (h : Spot) (r : Result A Excess) (x : A) → planted h r ≡ Ok x → r ≡ Ok x
 planted_ok h (Ok y) x e = ap Ok (one y x e)
   where
     one : {A : Type 0} (a b : A) → (◌≡◌ {A = Result A Place} (Ok a) (Ok b)) → a ≡ b

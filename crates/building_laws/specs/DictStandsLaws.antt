@@ -48,7 +48,7 @@ keys_blank : (ps : PlainPairs) → blank_pairs (keys_of ps) ≡ keys_of ps
 keys_blank no_pairs = refl
 keys_blank (a_pair k v ps) = ap (λ (l : List (List ℕ × Slice)). (k, nothing) ∷ l) (keys_blank ps)
 
-outline_blank : (ps : PlainPairs) (us : Unknowns) → blank (outline ps us) ≡ outline ps us
+pub outline_blank : (ps : PlainPairs) (us : Unknowns) → blank (outline ps us) ≡ outline ps us
 outline_blank ps us = blank_merged (keys_of ps) us ∙ ap (λ z. merged z us) (keys_blank ps)
 
 admits_on : (mode : Mode) (es : Entries) → Admits mode es → admits mode (blank es) ≡ true
@@ -71,7 +71,7 @@ edge_on mode n es f =
     (both_on (in_order n (blank es)) _ (in_order_on n es f.order)
     (both_on (are_placed (blank es) (blank es)) (admits mode (blank es)) (placed_on es es f.placed) (admits_on mode es f.admitted)))
 
-edge_is : (mode : Mode) (n : ℕ) (es : Entries) → fits_edge mode n (blank es) ≡ true → FitEdge mode n es
+pub edge_is : (mode : Mode) (n : ℕ) (es : Entries) → fits_edge mode n (blank es) ≡ true → FitEdge mode n es
 edge_is mode n es e =
     let a = both (has_some (blank es)) _ e in
     let c = both (in_order n (blank es)) _ a.1 in
@@ -106,7 +106,7 @@ root_on mode n es f =
     go (inl h) = inl (alone_on es h)
     go (inr h) = inr (placed_on es es h)
 
-root_is : (mode : Mode) (n : ℕ) (es : Entries) → fits_root mode n (blank es) ≡ true → FitRoot mode n es
+pub root_is : (mode : Mode) (n : ℕ) (es : Entries) → fits_root mode n (blank es) ≡ true → FitRoot mode n es
 root_is mode n es e =
     let c = both (in_order n (blank es)) _ e in
     let d = both (is_hidden_alone (blank es) || are_placed (blank es) (blank es)) (admits mode (blank es)) c.1 in
@@ -120,7 +120,7 @@ fit_not : {A : Type 0} (t : Bool) → (t ≡ true → A) → (A → ⊥) → t �
 fit_not true f ne = absurd (ne (f refl))
 fit_not false f ne = refl
 
-outline_edge : (mode : Mode) (n : ℕ) (ps : PlainPairs) (us : Unknowns)
+pub outline_edge : (mode : Mode) (n : ℕ) (ps : PlainPairs) (us : Unknowns)
     → (FitEdge mode n (outline ps us) → fits_edge mode n (outline ps us) ≡ true) × ((FitEdge mode n (outline ps us) → ⊥) → fits_edge mode n (outline ps us) ≡ false)
 outline_edge mode n ps us =
     let es = outline ps us in
@@ -129,7 +129,7 @@ outline_edge mode n ps us =
       (λ ne. fit_not (fits_edge mode n es) (λ e. edge_is mode n es (ap (fits_edge mode n) same ∙ e)) ne),
     )
 
-outline_root : (mode : Mode) (n : ℕ) (ps : PlainPairs) (us : Unknowns)
+pub outline_root : (mode : Mode) (n : ℕ) (ps : PlainPairs) (us : Unknowns)
     → (FitRoot mode n (outline ps us) → fits_root mode n (outline ps us) ≡ true) × ((FitRoot mode n (outline ps us) → ⊥) → fits_root mode n (outline ps us) ≡ false)
 outline_root mode n ps us =
     let es = outline ps us in
@@ -169,7 +169,7 @@ laid_keys P (a_pair k v ps) t q [] l = absurd l
 laid_keys P (a_pair k v ps) t q (x ∷ xs) (outs, e, l, more) =
     λ i. (e i, nothing) ∷ laid_keys P ps t (q + parts v) xs more i
 
-laid_outline : (P : Lays) (ps : PlainPairs) (us : Unknowns) (t : Closed) (q : ℕ) (xs : Leaves) → LaidLeaves P t q ps xs
+pub laid_outline : (P : Lays) (ps : PlainPairs) (us : Unknowns) (t : Closed) (q : ℕ) (xs : Leaves) → LaidLeaves P t q ps xs
     → outline ps us ≡ blank (entries_of xs us)
 laid_outline P ps us t q xs l = ap (λ z. merged z us) (sym (laid_keys P ps t q xs l)) ∙ sym (blank_merged (contents_of xs) us)
 

@@ -1,5 +1,5 @@
 -- What the laws say: facts about the definitions alone.
-use Rattle.std.specs.Prelude.{◌≡◌, ◌≤◌, ◌↔◌, Ok, Err}
+use Rattle.std.specs.Prelude.{◌⊎◌, ◌≡◌, ◌≤◌, ◌↔◌, Ok, Err}
 use Rattle.cell_nodes.specs.Good.{IsGood}
 use Rattle.cell_nodes.specs.Tree.{unfolded}
 use Rattle.cell_nodes.specs.declared.tree.Mode.{Mode}
@@ -78,3 +78,15 @@ abbrev pub NoTreeWhereUnfit : Type 0
 NoTreeWhereUnfit =
     (mode : Mode) → forms_of mode ≡ Required → (schema : CoreSchema) → IsBuildable schema → (t : Closed) (v : Plain)
     → InRange v → (c : Tree) (p : Place) → IsTreeOf mode schema t v c → Unfit mode schema t v p → ⊥
+
+-- where the plain builder stops, the value is unfit at that place
+abbrev pub StopsWhereUnfit : Type 0
+StopsWhereUnfit =
+    (mode : Mode) → forms_of mode ≡ Required → (schema : CoreSchema) → IsBuildable schema → (t : Closed) (v : Plain)
+    → InRange v → (p : Place) → build mode schema t v ≡ Err p → Unfit mode schema t v p
+
+-- so each value has a tree or is unfit at some place
+abbrev pub TreeOrPlace : Type 0
+TreeOrPlace =
+    (mode : Mode) → forms_of mode ≡ Required → (schema : CoreSchema) → IsBuildable schema → (t : Closed) (v : Plain)
+    → InRange v → ((c : Tree) × IsTreeOf mode schema t v c) ⊎ ((p : Place) × Unfit mode schema t v p)

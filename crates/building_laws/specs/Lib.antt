@@ -2,11 +2,13 @@ pub mod BuiltLaws
 pub mod BuiltRootLaws
 pub mod CompleteLaws
 pub mod DictLaws
+pub mod DictRefusedLaws
 pub mod DictSoundLaws
 pub mod DictStandsLaws
 pub mod GoesLaws
 pub mod Laws
 pub mod MapLaws
+pub mod MapRefusedLaws
 pub mod MapStandsLaws
 pub mod MoveLaws
 pub mod OneTreeLaws
@@ -15,6 +17,7 @@ pub mod PlantLaws
 pub mod PlantSoundLaws
 pub mod RangeLaws
 pub mod RecordSoundLaws
+pub mod RefusedLaws
 pub mod RootLaws
 pub mod RoundLaws
 pub mod ShapeLaws
@@ -22,4 +25,6 @@ pub mod SizeLaws
 pub mod SoundLaws
 pub mod SpelledLaws
 pub mod StandsLaws
+pub mod StoppedLaws
+pub mod TreeOrPlaceLaws
 pub mod UnfitLaws

@@ -92,7 +92,7 @@ or_right false b e = e
 deep_is : (c : Tree) → deepest c ≡ 1024 → is_deep c ≡ true
 deep_is c d = lt-ltb 1023 (deepest c) (omega (arith, d))
 
-label_length : (n : ℕ) (k rest : List ℕ) → AreBits k → length k ≤ n
+pub label_length : (n : ℕ) (k rest : List ℕ) → AreBits k → length k ≤ n
     → length (labeled n k rest) ≡ label_size n k + length rest
 label_length n k rest a l = label-long n k (labeled n k rest) rest (label_made Partial refl n k rest a l)
 

@@ -36,17 +36,17 @@ AllStand mode [] = Unit {0}
 AllStand mode ((k, leaf c) ∷ es) = IsHeld c × AllStand mode es
 AllStand mode ((k, hidden h) ∷ es) = ((mode ≡ Partial) × IsHash h) × AllStand mode es
 
-stand_before : (mode : Mode) (ds fs : Entries) → AllStand mode (ds ++ fs) → AllStand mode ds
+pub stand_before : (mode : Mode) (ds fs : Entries) → AllStand mode (ds ++ fs) → AllStand mode ds
 stand_before mode [] fs h = tt
 stand_before mode ((k, leaf c) ∷ ds) fs h = (h.0, stand_before mode ds fs h.1)
 stand_before mode ((k, hidden x) ∷ ds) fs h = (h.0, stand_before mode ds fs h.1)
 
-stand_after : (mode : Mode) (ds fs : Entries) → AllStand mode (ds ++ fs) → AllStand mode fs
+pub stand_after : (mode : Mode) (ds fs : Entries) → AllStand mode (ds ++ fs) → AllStand mode fs
 stand_after mode [] fs h = h
 stand_after mode ((k, leaf c) ∷ ds) fs h = stand_after mode ds fs h.1
 stand_after mode ((k, hidden x) ∷ ds) fs h = stand_after mode ds fs h.1
 
-stand_under : (mode : Mode) (p : List ℕ) (es : Entries) → AllStand mode (under p es) → AllStand mode es
+pub stand_under : (mode : Mode) (p : List ℕ) (es : Entries) → AllStand mode (under p es) → AllStand mode es
 stand_under mode p [] h = tt
 stand_under mode p ((k, leaf c) ∷ es) h = (h.0, stand_under mode p es h.1)
 stand_under mode p ((k, hidden x) ∷ es) h = (h.0, stand_under mode p es h.1)
@@ -150,7 +150,7 @@ top_tree mode req n key es top s stand (of_fork p m zs os z o same long bits bz 
 tree_one : (a b : Tree) → (◌≡◌ {A = Result Tree Excess} (Ok a) (Ok b)) → a ≡ b
 tree_one a b e = cc
 
-first_alone : (m : ℕ) (es : Entries) → AreInOrder m es → AllPlaced es → (h : Hidden) (fs : Entries)
+pub first_alone : (m : ℕ) (es : Entries) → AreInOrder m es → AllPlaced es → (h : Hidden) (fs : Entries)
     → es ≡ ([], hidden h) ∷ fs → ⊥
 first_alone m es o a h fs e =
     let O : Entries → Type 0 = AreInOrder m in
@@ -173,7 +173,7 @@ unseen_in mode h e hash low =
     let P : Mode → Type 0 = λ m. unseen m (pruned_of h.hash h.depth) ≡ Some h in
     subst P (sym e) (hides-stored h (can_hide h hash low))
 
-part_sound : (mode : Mode) → forms_of mode ≡ Required → (m : ℕ) → TopsSound mode m → (es : Entries) (c : Tree)
+pub part_sound : (mode : Mode) → forms_of mode ≡ Required → (m : ℕ) → TopsSound mode m → (es : Entries) (c : Tree)
     → AreInOrder m es → 0 < length es → HasPlaces es → AllStand mode es → part_of (tops m) m es ≡ Ok c
     → Branch mode m es c × IsGood c
 part_sound mode req m ih es c o l (inl h) stand e =
@@ -193,7 +193,7 @@ part_sound mode req m ih es c o l (inr a) stand e =
     let B : Tree → Type 0 = λ t. Branch mode m es t × IsGood t in
     subst B same (open_edge mode m es (cell_of s.0) s.0 refl k.0, held_good s.0 k.1)
 
-below_ok : {A : Type 0} (p : List ℕ) (r : Result A Excess) (x : A) → reported_below p r ≡ Ok x → r ≡ Ok x
+pub below_ok : {A : Type 0} (p : List ℕ) (r : Result A Excess) (x : A) → reported_below p r ≡ Ok x → r ≡ Ok x
 below_ok p (Ok y) x e = ap Ok (one y x e)
   where
     one : {A : Type 0} (a b : A) → (◌≡◌ {A = Result A Excess} (Ok a) (Ok b)) → a ≡ b
@@ -246,7 +246,7 @@ last_sound mode q ((k, x) ∷ g ∷ es) top o l a stand e = absurd (go k x o.0 o
     go (c ∷ k) (leaf d) s b = omega (arith, s)
     go (c ∷ k) (hidden h) s b = omega (arith, s)
 
-not_end : (es : Entries) → AllPlaced es → IsEnd es → ⊥
+pub not_end : (es : Entries) → AllPlaced es → IsEnd es → ⊥
 not_end es a h = let P : Entries → Type 0 = AllPlaced in alone-misplaced [] h.0 (subst P h.1 a)
 
 pub tops_sound : (mode : Mode) → forms_of mode ≡ Required → (n : ℕ) → TopsSound mode n

@@ -42,6 +42,7 @@ use Rattle.building_laws.specs.CompleteLaws.{check_ends, solve_ends, ended, cand
 use Rattle.building_laws.specs.GoesLaws.{Goes, goes_as, goes_then, goes_none, then_join, WasPut, was_put, goes_put, put_held, empty_held, held_good, below_of, made_same, alone_put, bits_put, bits_held}
 use Rattle.building_laws.specs.MoveLaws.{slice_eta, then_whole, IsHeld, made, or_assoc, or_false, took_same}
 use Rattle.building_laws.specs.RangeLaws.{in_range_is, pruned_good, can_hide, hidden-below}
+
 use Rattle.building_laws.specs.SoundLaws.{Keeps, AllSound, ShapeSound, IsSpelled, IsSpelledAt}
 
 -- ---- lists

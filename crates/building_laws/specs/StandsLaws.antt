@@ -349,7 +349,7 @@ fields_stand S P R End k p end h (an_item (solve v a c i) is) seeks vs d scope q
     (λ x w. fields_stand S P R End k p end h is seeks.1 vs d (with_number v x scope) q b w) u
 
 -- the fields of a record
-has_on : (names : List Word) (vs : Plains) (is : Items) → HasFields names vs is → has_fields names vs is ≡ true
+pub has_on : (names : List Word) (vs : Plains) (is : Items) → HasFields names vs is → has_fields names vs is ≡ true
 has_on names vs is f =
     both_on (same_words names (field_names is)) _ (ap (same_words names) (sym f.0) ∙ same_on names) (eq-eqb (count vs) (length names) f.1)
 

@@ -1,5 +1,5 @@
 //! What follows from the definitions alone. Each function states one law; its body is empty.
-ghost use Rattle.building_laws.specs.Laws.{BuildIsExact, BuildThenRead, BuiltIsTree, NoTreeWhereUnfit, OnePlace, OneTree, ReadThenBuild, TreeIsBuilt, UnfitStops};
+ghost use Rattle.building_laws.specs.Laws.{BuildIsExact, BuildThenRead, BuiltIsTree, NoTreeWhereUnfit, OnePlace, OneTree, ReadThenBuild, StopsWhereUnfit, TreeIsBuilt, TreeOrPlace, UnfitStops};
 
 /// In modes Whole and Partial two good trees with one reading are equal.
 pub fn one_tree()
@@ -44,4 +44,14 @@ pub fn one_place()
 /// And has no tree then.
 pub fn no_tree_where_unfit()
     ensures { NoTreeWhereUnfit }
+{}
+
+/// Where the plain builder stops, the value is unfit at that place.
+pub fn stops_where_unfit()
+    ensures { StopsWhereUnfit }
+{}
+
+/// So each value has a tree or is unfit at some place.
+pub fn tree_or_place()
+    ensures { TreeOrPlace }
 {}
