@@ -4,7 +4,7 @@ use Rattle.std.proofs.Math.Nat.{le-max_left, le-max_right}
 use Rattle.cell_nodes.specs.declared.tree.Mode.{Mode}
 use Rattle.hashmap_labels.specs.declared.forms.Forms.TheVariants.{Required}
 use Rattle.hashmap_tree.specs.Dict.{forms_of}
-use Rattle.typed_value.specs.Values.{Plain, Plains, PlainPairs, number, bit_string, record_of, absent, list_of, ref_to, unknown, map_of, raw, rest, no_vals, a_val, no_pairs, a_pair, levels, levels_in, levels_by, parts, parts_in, parts_by}
+use Rattle.typed_value.specs.Values.{Plain, Plains, PlainPairs, number, bit_string, record_of, absent, list_of, ref_to, unknown, map_of, raw, rest, no_vals, a_val, no_pairs, a_pair, levels, levels_in, levels_by}
 use Rattle.core_form.specs.Core.{CoreSchema}
 use Rattle.spelling_laws.specs.ProperLaws.{proper_shape}
 use Rattle.building.specs.Buildable.{IsBuildable, InRange, AllInRange, PairsInRange}

@@ -1,5 +1,5 @@
 -- The root that is built is a good tree with the reading.
-use Rattle.std.proofs.Common.{◌≡◌, ◌<◌, ◌≤◌, ℕ, zero, suc, ◌+◌, Bool, true, false, cond, nat_lt, Option, Some, None, Result, Ok, Err, refl, sym, subst, arith, inl, inr}
+use Rattle.std.proofs.Common.{◌≡◌, ◌≤◌, ℕ, zero, suc, Bool, true, false, cond, nat_lt, Option, Some, None, Result, Ok, refl, sym, subst, arith, inl, inr}
 use Rattle.std.proofs.lemmas.Bool.{ltb-false}
 use Rattle.cell_nodes.specs.Constructed.{pruned_of}
 use Rattle.cell_nodes.specs.Good.{IsGood}
@@ -19,7 +19,7 @@ use Rattle.spelling.specs.Places.{Place, at_root}
 use Rattle.spelling_laws.specs.StepLaws.{bind_ok, guard_ok}
 use Rattle.building.specs.Buildable.{IsBuildable, IsHash, InRange}
 use Rattle.building.specs.Growing.{empty}
-use Rattle.building.specs.PlainBuilder.{finished, making, sized, open_root, hidden_root, hides_root, root_by, built_root, build_within}
+use Rattle.building.specs.PlainBuilder.{finished, making, hidden_root, hides_root, root_by, built_root, build_within}
 use Rattle.building.specs.Unfit.{ReadsWithin}
 use Rattle.building_laws.specs.RangeLaws.{pruned_good, can_hide}
 use Rattle.building_laws.specs.SizeLaws.{counted}

@@ -1,10 +1,9 @@
 -- What is spelled so within the limits of cells is built, to the same content.
-use Rattle.std.proofs.Common.{◌≡◌, ◌<◌, ◌≤◌, ℕ, zero, suc, ◌+◌, Bool, true, false, ◌&&◌, ◌||◌, cond, List, [], ◌∷◌, ◌++◌, length, Option, Some, None, Ok, slice_get, refl, sym, ap, ◌∙◌, subst, arith, nat_lt, nat_eq, inl, inr}
-use Rattle.std.specs.Prelude.{ℤ, pos, negsuc, bytes_eq}
-use Rattle.std.proofs.Math.Nat.{le-max_left, le-max_right}
+use Rattle.std.proofs.Common.{◌≡◌, ◌<◌, ◌≤◌, ℕ, zero, suc, ◌+◌, Bool, true, false, ◌&&◌, ◌||◌, cond, List, [], ◌∷◌, ◌++◌, length, Option, Some, None, Ok, slice_get, refl, sym, ap, ◌∙◌, subst, arith, nat_lt, nat_eq}
+use Rattle.std.specs.Prelude.{bytes_eq}
 use Rattle.std.proofs.lemmas.Bool.{lt-ltb, le-ltb, eq-eqb}
 use Rattle.std.proofs.lemmas.Slice.Eq.{bytes_eq-Decides}
-use Rattle.bit_slice.specs.Bits.{spelled, signed_spelled, InSignedRange}
+use Rattle.bit_slice.specs.Bits.{spelled, signed_spelled}
 use Rattle.cell_nodes.specs.Constructed.{pruned_of}
 use Rattle.cell_nodes.specs.Good.{IsGood}
 use Rattle.cell_nodes.specs.HeldLaws.{AreBelow}
@@ -23,24 +22,24 @@ use Rattle.core_form.specs.Closed as closed
 use Rattle.core_form.specs.Fit.{fit}
 use Rattle.core_form.specs.Scope.{Scope, value_in, values_in, with_number, bind}
 use Rattle.nat_solver.specs.Number.{comparison}
-use Rattle.spelling.specs.Acceptable.{IsAcceptable, Seeks}
-use Rattle.spelling.specs.Slices.{nothing, only_bits, only_ref, took}
+use Rattle.spelling.specs.Acceptable.{Seeks}
+use Rattle.spelling.specs.Slices.{nothing, only_bits, only_ref}
 use Rattle.spelling.specs.Goals.{Row, natural, integer, string, no_row, row, Goal, at_type, at_field, at_cell, Shape, typed, fields_here, fields_under, left_out, as_cell, at_fields, under_ref, shape_of}
 use Rattle.spelling.specs.Places.{Spot, start, item_of, field_of, result_of, tag_of}
 use Rattle.spelling.specs.PlainReader.{known, reported, sought_number, Choice, first}
-use Rattle.spelling.specs.Spells.{own, integer_of, Spells, SpellsShape, Each, EachPair, Meanings, a_meaning, Repeats, Fields, SpellsNumber, SpellsString, AtRow, Meets, SpellsDeclared, SpellsInner, SpellsAbsent, SpellsList, Holds, SpellsChild, SpellsRef, SpellsPruned, SpellsUnknown, SpellsRaw, SpellsRest, SpellsMap, free}
+use Rattle.spelling.specs.Spells.{own, Spells, SpellsShape, Each, Repeats, Fields, SpellsNumber, SpellsString, AtRow, Meets, SpellsDeclared, SpellsInner, SpellsAbsent, Holds, SpellsChild, SpellsRef, SpellsPruned, SpellsUnknown, SpellsRaw, SpellsRest, free}
 use Rattle.spelling_laws.specs.CompleteLaws.{compares_on}
 use Rattle.spelling_laws.specs.FitLaws.{fit_complete}
-use Rattle.spelling_laws.specs.ProperLaws.{Proper, ProperShape, proper_under, proper_shape}
+use Rattle.spelling_laws.specs.ProperLaws.{Proper, ProperShape, proper_under}
 use Rattle.spelling_laws.specs.SolvingLaws.{sought_complete}
-use Rattle.spelling_laws.specs.StepLaws.{bind_on, known_on, reported_on, when_true, when_false, both_on}
-use Rattle.building.specs.Buildable.{IsBuildable, IsHash, AreHashes, InRange, AllInRange, PairsInRange}
+use Rattle.spelling_laws.specs.StepLaws.{bind_on, known_on, reported_on, when_true, both_on}
+use Rattle.building.specs.Buildable.{IsBuildable, IsHash, AreHashes}
 use Rattle.building.specs.Growing.{Grown, empty, join, is_deep, some_deep}
-use Rattle.building.specs.Laid.{AreSeen, ends, ends_shape, ends_fields, ends_items, next_field}
-use Rattle.building.specs.PlainBuilder.{Made, Maker, put, put_alone, put_bits, make_natural, is_in_range, make_integer, make_number, make_string, first_of, finished, put_ref, make_child, make_hidden, make_cell, number_at, string_at, record_at, absent_at, list_at, ref_at, unknown_at, map_at, raw_at, rest_at, turn, make_items, count, Step, step, make_fields, same_words, has_fields, candidate, choose, make_inside, make_declared, make_inner, make_shape, make_goal, making, grew}
+use Rattle.building.specs.Laid.{AreSeen, ends, ends_shape, ends_fields, ends_items}
+use Rattle.building.specs.PlainBuilder.{Made, Maker, put, make_natural, is_in_range, make_integer, make_number, make_string, first_of, finished, put_ref, make_child, make_hidden, make_cell, number_at, string_at, record_at, absent_at, list_at, ref_at, unknown_at, map_at, raw_at, rest_at, turn, make_items, count, Step, step, make_fields, same_words, has_fields, candidate, choose, make_inside, make_declared, make_inner, make_shape, making, grew}
 use Rattle.building_laws.specs.MoveLaws.{then_all, then_whole, join_then, IsHeld, good_held, Stands, Reaches, made, or_assoc, or_false, not_deep, none_deep, put_on, alone_on, no_end, bits_on, ref_below, took_same}
 use Rattle.building_laws.specs.RangeLaws.{in_range_on, hidden_is}
-use Rattle.building_laws.specs.DictLaws.{HeldAt, Done, AllDone, ByDone, dict_complete, dict_e_complete}
+use Rattle.building_laws.specs.DictLaws.{Done, AllDone, ByDone, dict_complete, dict_e_complete}
 use Rattle.building_laws.specs.ShapeLaws.{Holding}
 
 -- ---- numbers and bit strings
@@ -453,8 +452,8 @@ pub begin_on : (n most : ℕ) (mode : Mode) (schema : CoreSchema) (h : Spot) (g 
     → Reaches w r e b (λ x. Ok (made outs x)) (making (suc n) most mode schema h g q v b)
 unfolding making
 begin_on n most mode schema h g q v b w r e outs c lt same p = (
-    p.0,
-    when_true (nat_lt q most) _ _ (lt-ltb q most lt) ∙ bind_on (reported h (shape_of g)) _ c (Ok (made outs p.0)) (reported_on h (shape_of g) c same) p.1,
-    p.2,
-    p.3,
-  )
+  p.0,
+  when_true (nat_lt q most) _ _ (lt-ltb q most lt) ∙ bind_on (reported h (shape_of g)) _ c (Ok (made outs p.0)) (reported_on h (shape_of g) c same) p.1,
+  p.2,
+  p.3,
+)

@@ -1,5 +1,5 @@
 -- A dictionary that is spelled so within the limits of cells is built, to the same content.
-use Rattle.std.proofs.Common.{◌≡◌, ◌<◌, ◌≤◌, ◌⊎◌, inl, inr, ℕ, zero, suc, ◌+◌, Bool, true, false, ◌&&◌, ◌||◌, nat_eq, nat_le, nat_lt, List, [], ◌∷◌, ◌++◌, length, Option, Some, None, Ok, refl, sym, ap, ◌∙◌, subst, arith, append_assoc, length-append}
+use Rattle.std.proofs.Common.{◌≡◌, ◌<◌, ◌≤◌, inl, inr, ℕ, suc, ◌+◌, Bool, true, false, ◌&&◌, ◌||◌, nat_eq, nat_le, nat_lt, List, [], ◌∷◌, ◌++◌, length, Some, Ok, refl, sym, ap, ◌∙◌, subst, arith, append_assoc, length-append}
 use Rattle.std.proofs.lemmas.Bool.{le-ltb, le-leb, eq-eqb}
 use Rattle.bit_slice.specs.Bits.{AreBits}
 use Rattle.cell_nodes.specs.Constructed.{pruned_of}
@@ -14,7 +14,7 @@ use Rattle.hashmap_labels.specs.Reading.{are_bits}
 use Rattle.hashmap_labels.specs.declared.forms.Forms.TheVariants.{Required}
 use Rattle.hashmap_tree.specs.Dict.{forms_of, unseen, DictTree, one, two, Branch, open_edge, hidden_edge}
 use Rattle.hashmap_tree.specs.Entries.{Slice, cell_of, Then, Part, leaf, hidden, Entries, under, fork, pairs_in, hidden_in}
-use Rattle.hashmap_tree.specs.Exceeds.{Excess, first_key}
+use Rattle.hashmap_tree.specs.Exceeds.{first_key}
 use Rattle.hashmap_tree.specs.First.{LeafEdge, Fork, forked}
 use Rattle.hashmap_tree.specs.Merged.{merged}
 use Rattle.hashmap_tree.specs.MergedLaws.{order-merged}
@@ -27,7 +27,7 @@ use Rattle.core_form.specs.Core.{CoreSchema}
 use Rattle.core_form.specs.Closed.{Closed}
 use Rattle.core_form.specs.Closed as closed
 use Rattle.spelling.specs.Goals.{Goal, at_type, at_field, at_cell, typed}
-use Rattle.spelling.specs.Places.{Spot, Place}
+use Rattle.spelling.specs.Places.{Spot}
 use Rattle.spelling.specs.PlainReader.{◌>>=◌}
 use Rattle.spelling.specs.Slices.{nothing, only_bits}
 use Rattle.spelling.specs.Spells.{Spells, EachPair, Contents, EntriesHold, IsEmpty, SpellsDict, SpellsDictE, no_entries, some_entries}
@@ -38,9 +38,9 @@ use Rattle.building.specs.Growing.{Grown, empty, is_deep}
 use Rattle.building.specs.Laid.{AreSeen, ends, ends_shape}
 use Rattle.building.specs.MapTests.{keys_of, outline, in_order, are_placed, is_hidden_alone, is_none, admits, has_some, fits_edge, fits_root}
 use Rattle.building.specs.Planting.{Top, leaf_top, fork_top, content_of, has_deep, edge_of, labeled, tops, planting}
-use Rattle.building.specs.PlainBuilder.{Made, Maker, put_alone, put_bits, Leaves, make_leaves, contents_of, entries_of, is_last, planted, put_edge, plant_here, make_dict, put_root, plant_root, make_dict_e}
-use Rattle.building_laws.specs.MapLaws.{blank, blank_pairs, blank_merged, in_order_on, placed_on, AllHeld, label_then, key_bits, AreSound, tree_sound, branch_sound, fork_sound, sound_as}
-use Rattle.building_laws.specs.MoveLaws.{slice_eta, then_all, join_then, IsHeld, held_after, good_held, Stands, Reaches, made, or_false, alone_on, bits_on, no_end, not_deep, ref_below}
+use Rattle.building.specs.PlainBuilder.{Maker, Leaves, make_leaves, contents_of, entries_of, is_last, planted, put_edge, plant_here, make_dict, put_root, plant_root, make_dict_e}
+use Rattle.building_laws.specs.MapLaws.{blank, blank_pairs, blank_merged, in_order_on, placed_on, AllHeld, label_then, key_bits, tree_sound, branch_sound, fork_sound, sound_as}
+use Rattle.building_laws.specs.MoveLaws.{then_all, IsHeld, held_after, good_held, Stands, Reaches, made, alone_on, bits_on, no_end, not_deep, ref_below}
 use Rattle.building_laws.specs.PlantLaws.{bind_to, label_is, label_more, label_some, AreHashed, hashed_on, hashed_zeros, hashed_ones, tree_planted, branch_planted, fork_on, leaf_along, fork_along, not_hidden, good_both, planted_edge, edge_on}
 use Rattle.building_laws.specs.RangeLaws.{hidden_is}
 
@@ -263,8 +263,8 @@ in_place_complete most mode req schema R k v done h n t q b w s middle outs r le
     ap (λ m. tops m [] ((k, leaf x.held) ∷ [])) (sym d.long) ∙ leaf_along k [] x.held bits in (
       a.0,
       when_true (fits_edge mode n ((k, leaf nothing) ∷ [])) _ _ (fits_leaf mode n k d.long bits)
-      ∙ bind_on (make_leaves R h t q (a_pair k v no_pairs)) _ ((k, x) ∷ []) (Ok (made [] a.0)) (bind_on (R h (at_type t) q v empty) _ (made outs x) (Ok ((k, x) ∷ [])) p.1 refl)
-      (bind_on (planted h (tops n [] ((k, leaf x.held) ∷ []))) _ top (Ok (made [] a.0)) (ap (planted h) tops_are) a.1),
+          ∙ bind_on (make_leaves R h t q (a_pair k v no_pairs)) _ ((k, x) ∷ []) (Ok (made [] a.0)) (bind_on (R h (at_type t) q v empty) _ (made outs x) (Ok ((k, x) ∷ [])) p.1 refl)
+          (bind_on (planted h (tops n [] ((k, leaf x.held) ∷ []))) _ top (Ok (made [] a.0)) (ap (planted h) tops_are) a.1),
       a.2,
       a.3 ∙ ap (λ z. b.shut || z) p.3,
     )
@@ -307,8 +307,8 @@ fork_complete most mode req schema R ps us hashes done h n t q b w s r le held s
     let some : Some_entry es = some_of_fork p zs os es same some_z in (
       a.0,
       when_true (fits_edge mode n (outline ps us)) _ _ (ap (fits_edge mode n) (outline_is mode schema n ps us t es sound.order e) ∙ fits_edge_on mode n es some sound.order placed plain)
-      ∙ bind_on (make_leaves R h t q ps) _ xs.0 (Ok (made [] a.0)) xs.1
-      ((λ i. plant_here h n (are i) (last i) b) ∙ bind_on (planted h (tops n [] es)) _ top (Ok (made [] a.0)) (ap (planted h) tops_are) a.1),
+          ∙ bind_on (make_leaves R h t q ps) _ xs.0 (Ok (made [] a.0)) xs.1
+          ((λ i. plant_here h n (are i) (last i) b) ∙ bind_on (planted h (tops n [] es)) _ top (Ok (made [] a.0)) (ap (planted h) tops_are) a.1),
       a.2,
       a.3,
     )
@@ -363,9 +363,9 @@ open_root_complete most mode req schema R ps us hashes done h n t q b w s r le h
     let a = alone_on h (one_ref (cell_of u)) (is_deep (cell_of u)) false b w s r [] held st refl (subst T same there) (not_deep (cell_of u) (subst D same below.1)) (no_end r) in (
       a.0,
       when_true (fits_root mode n (outline ps us)) _ _ (ap (fits_root mode n) (outline_is mode schema n ps us t es sound.order e) ∙ fits_root_on mode n es sound.order (tree-placed mode n es u d) (λ ne. plain_tree mode ne n es u d))
-      ∙ bind_on (make_leaves R h t q ps) _ xs.0 (Ok (made [] a.0)) xs.1
-      (ap (λ l. plant_root h n l b) are ∙ plant_root_open h n es b (some_entry mode n es u d) (not_hidden mode n es u d)
-      ∙ bind_on (planted h (planting n es)) _ u (Ok (made [] a.0)) (ap (planted h) plant_is) a.1),
+          ∙ bind_on (make_leaves R h t q ps) _ xs.0 (Ok (made [] a.0)) xs.1
+          (ap (λ l. plant_root h n l b) are ∙ plant_root_open h n es b (some_entry mode n es u d) (not_hidden mode n es u d)
+          ∙ bind_on (planted h (planting n es)) _ u (Ok (made [] a.0)) (ap (planted h) plant_is) a.1),
       a.2,
       a.3,
     )

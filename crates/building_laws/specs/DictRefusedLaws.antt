@@ -1,11 +1,10 @@
 -- Where building a map stops, it doesn't fit so.
-use Rattle.std.proofs.Common.{◌≡◌, ◌≢◌, ◌<◌, ◌≤◌, ◌⊎◌, inl, inr, ℕ, zero, suc, ◌+◌, Bool, true, false, ◌||◌, cond, nat_lt, List, [], ◌∷◌, length, Option, Some, None, Result, Ok, Err, refl, sym, ap, ◌∙◌, subst, arith, lit<}
+use Rattle.std.proofs.Common.{◌≡◌, ◌<◌, ◌≤◌, ◌⊎◌, inl, inr, ℕ, ◌+◌, Bool, true, false, ◌||◌, cond, nat_lt, List, [], ◌∷◌, length, Result, Ok, Err, refl, sym, ap, ◌∙◌, subst, arith}
 use Rattle.std.proofs.lemmas.Bool.{ltb-true, ltb-false}
 use Rattle.cell_nodes.specs.Constructed.{pruned_of}
 use Rattle.cell_nodes.specs.Tree.{deepest}
-use Rattle.cell_nodes.specs.declared.tree.Hidden.{Hidden}
 use Rattle.cell_nodes.specs.declared.tree.Mode.{Mode}
-use Rattle.cell_nodes.specs.declared.tree.Mode.TheVariants.{Whole, Partial, Lax}
+use Rattle.cell_nodes.specs.declared.tree.Mode.TheVariants.{Partial}
 use Rattle.hashmap_tree.specs.Entries.{Slice, cell_of, leaf, hidden, Entries, pairs_in, hidden_in}
 use Rattle.hashmap_tree.specs.Exceeds.{Excess, first_key, Exceeds}
 use Rattle.hashmap_tree.specs.Exceeds as excess
@@ -19,7 +18,6 @@ use Rattle.core_form.specs.Closed as closed
 use Rattle.spelling.specs.Goals.{at_type, Shape, typed}
 use Rattle.spelling.specs.Places.{Spot, Place, stuck}
 use Rattle.spelling.specs.PlainReader.{◌>>=◌}
-use Rattle.spelling.specs.Slices.{only_bits}
 use Rattle.spelling.specs.declared.Cause.TheVariants as why
 use Rattle.spelling_laws.specs.StepLaws.{bind_ok, bind_err, test_err, guard_err}
 use Rattle.building.specs.Buildable.{AreHashes}
@@ -37,7 +35,6 @@ use Rattle.building_laws.specs.MapRefusedLaws.{below_of, top_exceeds, edge_excee
 use Rattle.building_laws.specs.MapStandsLaws as maps
 use Rattle.building_laws.specs.PlantSoundLaws.{AllStand, TopSound, WasEdge, was_edge, bind_is, top_tree, tops_sound}
 use Rattle.building_laws.specs.PlantSoundLaws as sounds
-use Rattle.building_laws.specs.MoveLaws.{IsHeld, made}
 use Rattle.building_laws.specs.GoesLaws.{empty_held}
 use Rattle.building_laws.specs.RefusedLaws.{Settles, never_err, place_is, alone_refused, bits_refused}
 

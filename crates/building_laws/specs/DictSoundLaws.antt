@@ -1,11 +1,10 @@
 -- A dictionary that is built spells the map.
-use Rattle.std.proofs.Common.{◌≡◌, ◌<◌, ◌≤◌, ◌⊎◌, inl, inr, ℕ, zero, suc, ◌+◌, Bool, true, false, ◌&&◌, ◌||◌, nat_eq, nat_le, nat_lt, List, [], ◌∷◌, ◌++◌, length, Option, Some, None, Result, Ok, Err, refl, sym, ap, ◌∙◌, subst, arith, lit<}
-use Rattle.std.proofs.lemmas.Bool.{ltb-true, ltb-false, leb-true, eqb-true}
+use Rattle.std.proofs.Common.{◌≡◌, ◌<◌, ◌≤◌, ◌⊎◌, inl, inr, ℕ, zero, suc, ◌+◌, Bool, true, false, ◌||◌, nat_eq, nat_lt, List, [], ◌∷◌, ◌++◌, length, Option, Some, None, Result, Ok, Err, refl, sym, ap, ◌∙◌, subst, arith, lit<}
+use Rattle.std.proofs.lemmas.Bool.{ltb-false, leb-true, eqb-true}
 use Rattle.bit_slice.specs.Bits.{AreBits}
 use Rattle.cell_nodes.specs.Constructed.{pruned_of}
 use Rattle.cell_nodes.specs.Good.{IsGood, none, more}
 use Rattle.cell_nodes.specs.Tree.{deepest}
-use Rattle.cell_nodes.specs.declared.tree.Hidden.{Hidden}
 use Rattle.cell_nodes.specs.declared.tree.Mode.{Mode}
 use Rattle.cell_nodes.specs.declared.tree.Mode.TheVariants.{Whole, Partial, Lax}
 use Rattle.cell_nodes.specs.declared.tree.Tree.{Tree}
@@ -14,7 +13,7 @@ use Rattle.hashmap_labels.specs.LengthLaws.{AreBits-are_bits}
 use Rattle.hashmap_labels.specs.SpellingLaws.{label_bits}
 use Rattle.hashmap_labels.specs.Reading.{are_bits}
 use Rattle.hashmap_labels.specs.declared.forms.Forms.TheVariants.{Required}
-use Rattle.hashmap_tree.specs.Dict.{forms_of, unseen, DictTree, Branch, open_edge, hidden_edge}
+use Rattle.hashmap_tree.specs.Dict.{forms_of, unseen, Branch, open_edge, hidden_edge}
 use Rattle.hashmap_tree.specs.Entries.{Slice, cell_of, Then, Part, leaf, hidden, Entries, fork, pairs_in, hidden_in}
 use Rattle.hashmap_tree.specs.Exceeds.{Excess, first_key}
 use Rattle.hashmap_tree.specs.First.{LeafEdge, Fork, forked}
@@ -23,32 +22,32 @@ use Rattle.hashmap_tree.specs.Merged.{merged}
 use Rattle.hashmap_tree.specs.MergedLaws.{merged-parts}
 use Rattle.hashmap_tree.specs.OnceLaws.{some_below, two_entries}
 use Rattle.hashmap_tree.specs.OnceLaws as once
-use Rattle.hashmap_tree.specs.Order.{Before, MayStand, AreInOrder}
+use Rattle.hashmap_tree.specs.Order.{MayStand, AreInOrder}
 use Rattle.hashmap_tree.specs.OrderedLaws.{StartAfter, order-cons}
-use Rattle.hashmap_tree.specs.Placed.{IsAmong, HasBelow, IsForkChild, ArePlaced, AllPlaced}
+use Rattle.hashmap_tree.specs.Placed.{HasBelow, IsForkChild, ArePlaced, AllPlaced}
 use Rattle.hashmap_tree.specs.PrunedLaws.{hides-stored}
-use Rattle.typed_value.specs.Values.{Plain, Plains, PlainPairs, map_of, no_pairs, a_pair, parts}
+use Rattle.typed_value.specs.Values.{Plain, PlainPairs, map_of, no_pairs, a_pair, parts}
 use Rattle.core_form.specs.Core.{CoreSchema}
 use Rattle.core_form.specs.Closed.{Closed}
 use Rattle.core_form.specs.Closed as closed
-use Rattle.spelling.specs.Goals.{Goal, at_type, Shape, typed, fields_here, fields_under, left_out, as_cell}
-use Rattle.spelling.specs.Places.{Spot, Place, stuck}
+use Rattle.spelling.specs.Goals.{at_type, Shape, typed}
+use Rattle.spelling.specs.Places.{Spot, Place}
 use Rattle.spelling.specs.PlainReader.{◌>>=◌}
 use Rattle.spelling.specs.Slices.{nothing, only_bits}
-use Rattle.spelling.specs.Spells.{Spells, EachPair, Contents, EntriesHold, SpellsDict, SpellsDictE, no_entries, some_entries, IsEmpty}
+use Rattle.spelling.specs.Spells.{Spells, EachPair, Contents, EntriesHold, SpellsDictE, no_entries, some_entries, IsEmpty}
 use Rattle.spelling_laws.specs.StepLaws.{bind_ok, only_ok, guard_ok, both}
 use Rattle.building.specs.Buildable.{IsHash, AreHashes}
 use Rattle.building.specs.Growing.{Grown, empty, is_deep, join}
 use Rattle.building.specs.Laid.{ends_shape}
-use Rattle.building.specs.MapTests.{keys_of, outline, may_stand, goes_before, in_order, flipped, after_bit, sibling, begins, has_below, has_some_below, are_placed, is_hidden_alone, is_none, admits, has_some, fits_edge, fits_root}
+use Rattle.building.specs.MapTests.{keys_of, outline, may_stand, goes_before, in_order, after_bit, sibling, begins, has_below, has_some_below, are_placed, is_hidden_alone, is_none, admits, has_some, fits_edge, fits_root}
 use Rattle.building.specs.Planting.{Top, leaf_top, fork_top, content_of, edge_of, labeled, tops, planting}
-use Rattle.building.specs.PlainBuilder.{Made, Maker, put_alone, put_bits, Leaves, make_leaves, contents_of, entries_of, is_last, planted, put_edge, plant_here, make_dict, put_root, plant_root, make_dict_e, map_at}
-use Rattle.building_laws.specs.DictLaws.{PairsHeld, Unknowns, not_last, plant_root_open}
-use Rattle.building_laws.specs.GoesLaws.{Goes, goes_as, goes_none, WasPut, goes_put, put_held, empty_held, held_good, made_same, alone_put, bits_put, bits_held}
+use Rattle.building.specs.PlainBuilder.{Maker, Leaves, make_leaves, contents_of, entries_of, is_last, planted, put_edge, make_dict, put_root, plant_root, make_dict_e, map_at}
+use Rattle.building_laws.specs.DictLaws.{PairsHeld, Unknowns, not_last}
+use Rattle.building_laws.specs.GoesLaws.{Goes, goes_as, WasPut, goes_put, put_held, empty_held, held_good, alone_put, bits_put, bits_held}
 use Rattle.building_laws.specs.MapLaws.{blank, blank_part, blank_pairs, blank_merged}
-use Rattle.building_laws.specs.MoveLaws.{slice_eta, then_whole, IsHeld, made, or_false}
+use Rattle.building_laws.specs.MoveLaws.{slice_eta, then_whole, IsHeld, made}
 use Rattle.building_laws.specs.PlantLaws.{label_more}
-use Rattle.building_laws.specs.PlantSoundLaws.{AllStand, stand_as, TopSound, of_leaf, of_fork, label_made, WasEdge, was_edge, was_as, top_tree, tops_sound, low_of, neither, bind_is, leaf_held, fork_held}
+use Rattle.building_laws.specs.PlantSoundLaws.{AllStand, TopSound, of_leaf, of_fork, label_made, WasEdge, was_edge, top_tree, tops_sound, low_of, neither, bind_is, leaf_held, fork_held}
 use Rattle.building_laws.specs.RangeLaws.{pruned_good, can_hide, hidden-below}
 use Rattle.building_laws.specs.SoundLaws.{Keeps, Sounds, BySound, ShapeSound, IsSpelled}
 

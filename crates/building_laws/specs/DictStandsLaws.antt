@@ -1,17 +1,14 @@
 -- Where the tests of a map fail, its values don't fit, or its edges can't be put, the plain builder stops at that place.
-use Rattle.std.proofs.Common.{◌≡◌, ◌≢◌, ◌<◌, ◌≤◌, ◌⊎◌, inl, inr, ℕ, zero, suc, ◌+◌, Bool, true, false, ◌&&◌, ◌||◌, nat_lt, List, [], ◌∷◌, ◌++◌, length, Option, Some, None, Result, Ok, Err, refl, sym, ap, ◌∙◌, subst, arith}
-use Rattle.std.proofs.lemmas.Bool.{lt-ltb, le-ltb}
+use Rattle.std.proofs.Common.{◌≡◌, ◌<◌, ◌⊎◌, inl, inr, ℕ, ◌+◌, Bool, true, false, ◌||◌, nat_lt, List, [], ◌∷◌, length, Ok, Err, refl, sym, ap, ◌∙◌, subst, arith}
+use Rattle.std.proofs.lemmas.Bool.{lt-ltb}
 use Rattle.cell_nodes.specs.Constructed.{pruned_of}
 use Rattle.cell_nodes.specs.Tree.{deepest}
-use Rattle.cell_nodes.specs.declared.tree.Hidden.{Hidden}
 use Rattle.cell_nodes.specs.declared.tree.Mode.{Mode}
 use Rattle.cell_nodes.specs.declared.tree.Mode.TheVariants.{Whole, Partial, Lax}
-use Rattle.cell_nodes.specs.declared.tree.Tree.{Tree}
-use Rattle.hashmap_tree.specs.Dict.{DictTree}
 use Rattle.hashmap_tree.specs.Entries.{Slice, cell_of, leaf, hidden, Entries, hidden_in}
-use Rattle.hashmap_tree.specs.Exceeds.{Excess, first_key, Exceeds, IsWithin}
+use Rattle.hashmap_tree.specs.Exceeds.{first_key}
 use Rattle.hashmap_tree.specs.ExceedsLaws.{exceeds-some}
-use Rattle.hashmap_tree.specs.OnceLaws.{Some_entry, some_entry}
+use Rattle.hashmap_tree.specs.OnceLaws.{some_entry}
 use Rattle.hashmap_tree.specs.Merged.{merged}
 use Rattle.hashmap_tree.specs.MergedLaws.{merged-parts}
 use Rattle.hashmap_tree.specs.Order.{AreInOrder}
@@ -21,17 +18,16 @@ use Rattle.typed_value.specs.Values.{PlainPairs, no_pairs, a_pair, parts}
 use Rattle.core_form.specs.Closed.{Closed}
 use Rattle.core_form.specs.Closed as closed
 use Rattle.spelling.specs.Goals.{at_type, Shape, typed}
-use Rattle.spelling.specs.Places.{Spot, Place, stuck}
-use Rattle.spelling.specs.PlainReader.{◌>>=◌}
-use Rattle.spelling.specs.Slices.{nothing, only_bits}
+use Rattle.spelling.specs.Places.{Spot, Place}
+use Rattle.spelling.specs.Slices.{nothing}
 use Rattle.spelling.specs.declared.Cause.TheVariants as why
 use Rattle.spelling_laws.specs.StepLaws.{bind_on, bind_fault, when_true, when_false, both, both_on}
 use Rattle.building.specs.Buildable.{AreHashes}
-use Rattle.building.specs.Growing.{Grown, empty, is_deep, join, is_over, lay}
+use Rattle.building.specs.Growing.{Grown, empty, is_deep}
 use Rattle.building.specs.MapTests.{keys_of, outline, Admits, FitEdge, FitRoot, in_order, are_placed, is_hidden_alone, is_none, admits, has_some, fits_edge, fits_root}
-use Rattle.building.specs.Planting.{Top, leaf_top, fork_top, content_of, has_deep, edge_of, tops, planting}
-use Rattle.building.specs.PlainBuilder.{Made, Maker, put, put_alone, Leaves, make_leaves, contents_of, entries_of, is_last, cause_of, planted, put_edge, plant_here, make_dict, put_root, plant_root, make_dict_e, map_at}
-use Rattle.building.specs.Unfit.{Crowded, Misfits, Lays, HasNoRoom, IsDeep, UnfitLeaves, LaidLeaves, HasDeep, IsTop, UnfitEdge, in_parts, edge_after_rest, edge_full, edge_deep, cell_full, UnfitDict, UnfitTree, no_entries, hidden_tree, in_edges, reference, UnfitDictE, UnfitMapAt, with_one, full}
+use Rattle.building.specs.Planting.{content_of, edge_of, tops, planting}
+use Rattle.building.specs.PlainBuilder.{Maker, Leaves, make_leaves, contents_of, entries_of, is_last, planted, plant_here, make_dict, plant_root, make_dict_e, map_at}
+use Rattle.building.specs.Unfit.{Misfits, Lays, IsDeep, UnfitLeaves, LaidLeaves, UnfitEdge, in_parts, edge_after_rest, edge_full, edge_deep, cell_full, UnfitDict, UnfitTree, no_entries, hidden_tree, in_edges, reference, UnfitDictE, UnfitMapAt, with_one, full}
 use Rattle.building_laws.specs.DictLaws.{Unknowns, hashed_of, plant_root_open}
 use Rattle.building_laws.specs.DictSoundLaws.{AllKeys, order_is, placed_is, keys_are, some_is, none_is, hidden_blank}
 use Rattle.building_laws.specs.MapLaws.{blank, blank_pairs, blank_merged, in_order_on, placed_on}
@@ -40,7 +36,7 @@ use Rattle.building_laws.specs.MapStandsLaws as maps
 use Rattle.building_laws.specs.MoveLaws.{IsHeld, made}
 use Rattle.building_laws.specs.PlantLaws.{AreHashed, bind_to, not_hidden, tree_planted, planted_edge}
 use Rattle.building_laws.specs.PlantLaws as plants
-use Rattle.building_laws.specs.StandsLaws.{Decides, put_stands, alone_stands, bits_stand}
+use Rattle.building_laws.specs.StandsLaws.{Decides, alone_stands, bits_stand}
 
 -- ---- the tests
 

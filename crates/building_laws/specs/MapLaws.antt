@@ -1,25 +1,24 @@
 -- The entries of a tree of good cells are in order and fit, whatever their contents; and those contents can stand in
 -- cells.
-use Rattle.std.proofs.Common.{◌≡◌, ◌<◌, ◌≤◌, ◌⊎◌, inl, inr, ℕ, zero, suc, ◌+◌, Bool, true, false, ◌&&◌, ◌||◌, nat_eq, List, [], ◌∷◌, ◌++◌, length, Option, Some, None, refl, sym, ap, ◌∙◌, subst, arith, lit<, length-append}
+use Rattle.std.proofs.Common.{◌≡◌, inl, inr, ℕ, suc, ◌+◌, Bool, true, false, ◌||◌, nat_eq, List, [], ◌∷◌, ◌++◌, length, Some, refl, sym, ap, ◌∙◌, subst, arith, lit<, length-append}
 use Rattle.std.proofs.lemmas.Bool.{eq-eqb, le-leb}
 use Rattle.bit_slice.specs.Bits.{AreBits}
 use Rattle.bit_slice.specs.BitLists.{AreBits-append}
 use Rattle.cell_nodes.specs.Good.{IsGood}
 use Rattle.cell_nodes.specs.declared.tree.Hidden.{Hidden}
 use Rattle.cell_nodes.specs.declared.tree.Mode.{Mode}
-use Rattle.cell_nodes.specs.declared.tree.Mode.TheVariants.{Whole, Partial, Lax}
 use Rattle.cell_nodes.specs.declared.tree.Tree.{Tree}
 use Rattle.hashmap_labels.specs.Labels.{IsLabel}
 use Rattle.hashmap_labels.specs.LengthLaws.{are_bits-AreBits}
 use Rattle.hashmap_labels.specs.SpellingLaws.{label_bits}
 use Rattle.hashmap_labels.specs.declared.forms.Forms.TheVariants.{Required}
-use Rattle.hashmap_tree.specs.Dict.{forms_of, unseen, DictTree, one, two, Branch, open_edge, hidden_edge}
-use Rattle.hashmap_tree.specs.Entries.{Slice, cell_of, Then, Part, leaf, hidden, Entries, under, fork, pairs_in, hidden_in}
+use Rattle.hashmap_tree.specs.Dict.{forms_of, DictTree, one, two, Branch, open_edge, hidden_edge}
+use Rattle.hashmap_tree.specs.Entries.{Slice, Then, Part, leaf, hidden, Entries, under, fork}
 use Rattle.hashmap_tree.specs.KeyLaws.{true-before}
 use Rattle.hashmap_tree.specs.Merged.{hidden_parts, those_before, those_after, merged}
 use Rattle.hashmap_tree.specs.Order.{Before, MayStand, AreInOrder}
 use Rattle.hashmap_tree.specs.OrderedLaws.{StartAfter, order-cons, order-stand, order-bits, order-after, order-rest}
-use Rattle.hashmap_tree.specs.Placed.{IsAmong, HasBelow, IsForkChild, ArePlaced, AllPlaced}
+use Rattle.hashmap_tree.specs.Placed.{IsAmong, IsForkChild, ArePlaced}
 use Rattle.spelling.specs.Slices.{nothing, only_bits}
 use Rattle.spelling_laws.specs.StepLaws.{both_on}
 use Rattle.building.specs.MapTests.{may_stand, goes_before, in_order, flipped, after_bit, sibling, begins, has_below, has_some_below, are_placed}

@@ -1,24 +1,21 @@
 -- Where planting stops, the entries exceed the limits so.
-use Rattle.std.proofs.Common.{◌≡◌, ◌≢◌, ◌<◌, ◌≤◌, ◌⊎◌, inl, inr, ℕ, zero, suc, ◌+◌, Bool, true, false, ◌||◌, cond, nat_lt, List, [], ◌∷◌, ◌++◌, length, Option, Some, None, Result, Ok, Err, refl, sym, ap, ◌∙◌, subst, arith, lit<, append_assoc}
+use Rattle.std.proofs.Common.{◌≡◌, ◌≢◌, ◌<◌, ◌≤◌, ◌⊎◌, inl, inr, ℕ, zero, suc, ◌+◌, Bool, true, false, ◌||◌, cond, nat_lt, List, [], ◌∷◌, ◌++◌, length, Result, Ok, Err, refl, sym, ap, ◌∙◌, subst, arith, append_assoc}
 use Rattle.std.proofs.lemmas.Bool.{ltb-true, ltb-false}
 use Rattle.std.proofs.lemmas.List.{append-nil}
-use Rattle.bit_slice.specs.Bits.{AreBits, IsBit}
 use Rattle.cell_nodes.specs.Constructed.{pruned_of}
 use Rattle.cell_nodes.specs.Good.{IsGood}
 use Rattle.cell_nodes.specs.GoodParts.{good-sound}
 use Rattle.cell_nodes.specs.Tree.{deepest}
-use Rattle.cell_nodes.specs.declared.tree.Hidden.{Hidden}
 use Rattle.cell_nodes.specs.declared.tree.Mode.TheVariants.{Partial}
 use Rattle.cell_nodes.specs.declared.tree.Tree.{Tree}
-use Rattle.hashmap_tree.specs.Dict.{Branch}
 use Rattle.hashmap_tree.specs.Entries.{Slice, cell_of, Part, leaf, hidden, Entries, under, fork}
-use Rattle.hashmap_tree.specs.Exceeds.{Excess, full, deep, beneath, first_key, label_size, IsBuilt, Exceeds, leaf_full, in_zeros, in_ones, fork_full, fork_deep, ExceedsBranch, in_edge, hidden_deep}
+use Rattle.hashmap_tree.specs.Exceeds.{Excess, full, deep, beneath, first_key, IsBuilt, Exceeds, leaf_full, in_zeros, in_ones, fork_full, fork_deep, ExceedsBranch, in_edge, hidden_deep}
 use Rattle.hashmap_tree.specs.Order.{Before, MayStand, AreInOrder}
-use Rattle.hashmap_tree.specs.OrderedLaws.{cut-bit, Cuts, IsEnd, under-fork}
+use Rattle.hashmap_tree.specs.OrderedLaws.{cut-bit, under-fork}
 use Rattle.hashmap_tree.specs.Placed.{AllPlaced}
 use Rattle.hashmap_tree.specs.PlacedLaws.{HasPlaces, placed-under, fork-places, alone-misplaced}
 use Rattle.building.specs.Growing.{is_deep}
-use Rattle.building.specs.Planting.{◌>>=◌, labeled, Top, leaf_top, fork_top, content_of, has_deep, edge_of, side, reported_below, cell_from, part_of, fork_of, sides_of, leaf_of, tops}
+use Rattle.building.specs.Planting.{◌>>=◌, labeled, Top, leaf_top, fork_top, content_of, edge_of, side, reported_below, part_of, fork_of, sides_of, leaf_of, tops}
 use Rattle.building.specs.Unfit.{ExceedsBelow, in_left, in_right}
 use Rattle.building_laws.specs.MapStandsLaws.{label_length}
 use Rattle.building_laws.specs.PlantLaws.{side_zero, side_one, part_open}

@@ -1,24 +1,20 @@
 -- Where a map doesn't fit, the plain builder stops at that place.
-use Rattle.std.proofs.Common.{◌≡◌, ◌≢◌, ◌<◌, ◌≤◌, ◌⊎◌, inl, inr, ℕ, zero, suc, ◌+◌, Bool, true, false, ◌||◌, cond, nat_lt, List, [], ◌∷◌, ◌++◌, length, Option, Some, None, Result, Ok, Err, refl, sym, ap, ◌∙◌, subst, arith, length-append}
+use Rattle.std.proofs.Common.{◌≡◌, ◌<◌, ◌≤◌, ◌⊎◌, inl, inr, ℕ, suc, ◌+◌, Bool, true, false, ◌||◌, cond, nat_lt, List, [], ◌∷◌, ◌++◌, length, Result, Ok, Err, refl, sym, ap, ◌∙◌, subst, arith, length-append}
 use Rattle.std.proofs.lemmas.Bool.{lt-ltb, le-ltb, ltb-true}
 use Rattle.bit_slice.specs.Bits.{AreBits}
-use Rattle.cell_nodes.specs.Constructed.{pruned_of}
-use Rattle.cell_nodes.specs.Good.{IsGood}
 use Rattle.cell_nodes.specs.Tree.{deepest}
 use Rattle.cell_nodes.specs.declared.tree.Hidden.{Hidden}
-use Rattle.cell_nodes.specs.declared.tree.Mode.{Mode}
-use Rattle.cell_nodes.specs.declared.tree.Mode.TheVariants.{Whole, Partial, Lax}
+use Rattle.cell_nodes.specs.declared.tree.Mode.TheVariants.{Partial}
 use Rattle.cell_nodes.specs.declared.tree.Tree.{Tree}
-use Rattle.hashmap_tree.specs.Dict.{DictTree, Branch}
-use Rattle.hashmap_tree.specs.Entries.{Slice, cell_of, Part, leaf, hidden, Entries, under, fork, hidden_in}
-use Rattle.hashmap_tree.specs.Exceeds.{Excess, full, deep, beneath, first_key, label_size, IsBuilt, Exceeds, leaf_full, in_zeros, in_ones, fork_full, fork_deep, ExceedsBranch, in_edge, hidden_deep, IsWithin}
+use Rattle.hashmap_tree.specs.Entries.{Slice, cell_of, Part, leaf, hidden, Entries, under, fork}
+use Rattle.hashmap_tree.specs.Exceeds.{Excess, full, deep, beneath, first_key, label_size, IsBuilt, Exceeds, leaf_full, in_zeros, in_ones, fork_full, fork_deep, ExceedsBranch, in_edge, hidden_deep}
 use Rattle.hashmap_tree.specs.ExceedsLaws.{label-long, some-of, branch-some}
 use Rattle.hashmap_tree.specs.OnceLaws.{Some_entry, some_below}
-use Rattle.hashmap_tree.specs.Order.{Before, MayStand, AreInOrder}
+use Rattle.hashmap_tree.specs.Order.{MayStand, AreInOrder}
 use Rattle.hashmap_tree.specs.OrderedLaws.{StartAfter, order-cons, order-stand, order-bits, order-after, order-rest, before-under}
 use Rattle.building.specs.Growing.{is_deep}
-use Rattle.building.specs.Planting.{◌>>=◌, labeled, Top, leaf_top, fork_top, content_of, has_deep, edge_of, reported_below, cell_from, part_of, fork_of, tops, planting}
-use Rattle.building.specs.Unfit.{ExceedsBelow, in_left, in_right, IsTop, of_leaf, of_fork, IsDeep, HasDeep}
+use Rattle.building.specs.Planting.{◌>>=◌, labeled, Top, leaf_top, fork_top, content_of, has_deep, edge_of, reported_below, cell_from, part_of, tops}
+use Rattle.building.specs.Unfit.{ExceedsBelow, in_left, in_right, IsTop, of_leaf, of_fork, HasDeep}
 use Rattle.building_laws.specs.MoveLaws.{bits_before, bits_after}
 use Rattle.building_laws.specs.PlantLaws.{bind_to, AreHashed, hashed_on, hashed_zeros, hashed_ones, leaf_along, fork_along, fork_on, part_open, branch_planted}
 use Rattle.building_laws.specs.PlantSoundLaws.{label_made}

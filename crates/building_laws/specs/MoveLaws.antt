@@ -1,21 +1,20 @@
 -- A content that is put, part by part, until it is the whole of a cell.
-use Rattle.std.proofs.Common.{◌≡◌, ◌<◌, ◌≤◌, ℕ, ◌+◌, Bool, true, false, not, ◌&&◌, ◌||◌, cond, List, [], ◌∷◌, ◌++◌, length, Ok, refl, sym, ap, ◌∙◌, subst, arith, nat_lt, append_assoc, length-append}
+use Rattle.std.proofs.Common.{◌≡◌, ◌<◌, ◌≤◌, ℕ, ◌+◌, Bool, true, false, not, ◌&&◌, ◌||◌, List, [], ◌∷◌, ◌++◌, length, Ok, refl, sym, ap, ◌∙◌, subst, arith, nat_lt, append_assoc, length-append}
 use Rattle.std.proofs.lemmas.List.{append-nil, nil_from_length}
 use Rattle.std.proofs.lemmas.Bool.{ltb-true, ltb-false, lt-ltb, le-ltb}
 use Rattle.bit_slice.specs.Bits.{AreBits}
-use Rattle.bit_slice.specs.BitLists.{AreBits-append}
 use Rattle.cell_nodes.specs.Good.{IsGood, AllGood}
 use Rattle.cell_nodes.specs.GoodParts.{good-sound, all_good-head, all_good-tail}
 use Rattle.cell_nodes.specs.HeldLaws.{AreBelow}
 use Rattle.cell_nodes.specs.Tree.{deepest}
-use Rattle.cell_nodes.specs.declared.tree.Tree.{Tree, out-Tree}
+use Rattle.cell_nodes.specs.declared.tree.Tree.{Tree}
 use Rattle.hashmap_tree.specs.CellLaws.{content-cell_of}
-use Rattle.hashmap_tree.specs.Entries.{Slice, content, cell_of, Then}
+use Rattle.hashmap_tree.specs.Entries.{Slice, cell_of, Then}
 use Rattle.hashmap_tree.specs.Exceeds.{IsWithin}
 use Rattle.hashmap_tree.specs.ExceedsLaws.{good-within}
-use Rattle.spelling.specs.Places.{Spot, Place}
+use Rattle.spelling.specs.Places.{Spot}
 use Rattle.spelling.specs.Slices.{nothing, is_nothing, took}
-use Rattle.spelling_laws.specs.StepLaws.{bind_on, reported_on, when_true, when_false}
+use Rattle.spelling_laws.specs.StepLaws.{bind_on, reported_on, when_false}
 use Rattle.building.specs.Growing.{Grown, join, is_over, is_deep, some_deep, lay}
 use Rattle.building.specs.PlainBuilder.{Made, put, put_alone, put_bits, grew}
 

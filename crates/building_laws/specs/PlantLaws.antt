@@ -1,6 +1,6 @@
 -- Entries with a tree of good cells are planted, to that tree.
-use Rattle.std.proofs.Common.{◌≡◌, ◌≢◌, ◌<◌, ◌≤◌, ◌⊎◌, inl, inr, ℕ, zero, suc, ◌+◌, Bool, true, false, ◌||◌, cond, nat_lt, nat_eq, List, [], ◌∷◌, ◌++◌, length, replicate, Option, Some, None, Result, Ok, Err, refl, sym, ap, ◌∙◌, subst, arith, append_assoc, length-append}
-use Rattle.std.proofs.lemmas.List.{append-nil, length-replicate}
+use Rattle.std.proofs.Common.{◌≡◌, ◌<◌, ◌≤◌, ℕ, zero, suc, ◌+◌, Bool, true, false, ◌||◌, cond, nat_lt, List, [], ◌∷◌, ◌++◌, length, replicate, Some, Result, Ok, refl, sym, ap, ◌∙◌, subst, arith, append_assoc}
+use Rattle.std.proofs.lemmas.List.{append-nil}
 use Rattle.std.proofs.lemmas.Bool.{le-ltb, eq-eqb}
 use Rattle.bit_slice.specs.Bits.{AreBits, IsBit, bit_number, bit_length, spelled}
 use Rattle.cell_nodes.specs.Constructed.{pruned_of}
@@ -19,11 +19,10 @@ use Rattle.hashmap_labels.specs.declared.forms.Forms.{Forms}
 use Rattle.hashmap_labels.specs.declared.forms.Forms.TheVariants.{Required}
 use Rattle.hashmap_tree.specs.Dict.{forms_of, unseen, DictTree, one, two, Branch, open_edge, hidden_edge}
 use Rattle.hashmap_tree.specs.Entries.{Slice, cell_of, Part, leaf, hidden, Entries, under, fork}
-use Rattle.hashmap_tree.specs.Exceeds.{Excess, full, deep, first_key}
+use Rattle.hashmap_tree.specs.Exceeds.{Excess, first_key}
 use Rattle.hashmap_tree.specs.OnceLaws.{Some_entry, some_below}
-use Rattle.building.specs.Growing.{is_deep}
-use Rattle.building.specs.Planting.{◌>>=◌, first_bit, in_form, labeled, Top, leaf_top, fork_top, content_of, has_deep, edge_of, with_bit, side, Planter, reported_below, cell_from, part_of, fork_of, sides_of, leaf_of, tops, planting}
-use Rattle.building_laws.specs.MoveLaws.{IsHeld, good_held, bits_before, bits_after, slice_eta, not_deep}
+use Rattle.building.specs.Planting.{◌>>=◌, first_bit, in_form, labeled, Top, leaf_top, fork_top, content_of, has_deep, edge_of, with_bit, side, Planter, reported_below, cell_from, part_of, fork_of, sides_of, tops}
+use Rattle.building_laws.specs.MoveLaws.{IsHeld, good_held, slice_eta, not_deep}
 
 when_false : {A : Type 0} (b : Bool) (x y : A) → b ≡ false → cond b x y ≡ y
 when_false true x y e = cc

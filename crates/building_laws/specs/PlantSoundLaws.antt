@@ -1,10 +1,10 @@
 -- What is planted is the tree of the entries, within the limits of cells.
-use Rattle.std.proofs.Common.{◌≡◌, ◌≢◌, ◌<◌, ◌≤◌, ◌⊎◌, inl, inr, ℕ, zero, suc, ◌+◌, Bool, true, false, ◌||◌, cond, nat_lt, List, [], ◌∷◌, ◌++◌, length, Option, Some, None, Result, Ok, Err, refl, sym, ap, ◌∙◌, subst, arith, lit<, append_assoc, length-append}
+use Rattle.std.proofs.Common.{◌≡◌, ◌<◌, ◌≤◌, inl, inr, ℕ, zero, suc, ◌+◌, Bool, true, false, ◌||◌, cond, nat_lt, List, [], ◌∷◌, ◌++◌, length, Some, Result, Ok, Err, refl, sym, ap, ◌∙◌, subst, arith, lit<, append_assoc}
 use Rattle.std.proofs.lemmas.Bool.{ltb-false}
 use Rattle.std.proofs.lemmas.List.{append-nil}
 use Rattle.bit_slice.specs.Bits.{AreBits, IsBit}
 use Rattle.cell_nodes.specs.Constructed.{pruned_of}
-use Rattle.cell_nodes.specs.Good.{IsGood, AllGood, none, more}
+use Rattle.cell_nodes.specs.Good.{IsGood, none, more}
 use Rattle.cell_nodes.specs.declared.tree.Hidden.{Hidden}
 use Rattle.cell_nodes.specs.declared.tree.Mode.{Mode}
 use Rattle.cell_nodes.specs.declared.tree.Mode.TheVariants.{Partial}
@@ -16,15 +16,15 @@ use Rattle.hashmap_labels.specs.declared.forms.Forms.{Forms}
 use Rattle.hashmap_labels.specs.declared.forms.Forms.TheVariants.{Required}
 use Rattle.hashmap_tree.specs.Dict.{forms_of, unseen, DictTree, one, two, Branch, open_edge, hidden_edge}
 use Rattle.hashmap_tree.specs.Entries.{Slice, cell_of, Part, leaf, hidden, Entries, under, fork}
-use Rattle.hashmap_tree.specs.Exceeds.{Excess, full, deep, first_key}
+use Rattle.hashmap_tree.specs.Exceeds.{Excess, first_key}
 use Rattle.hashmap_tree.specs.Order.{Before, MayStand, AreInOrder}
-use Rattle.hashmap_tree.specs.OrderedLaws.{order-after, cut-bit, Cuts, IsEnd, under-fork, length-under}
+use Rattle.hashmap_tree.specs.OrderedLaws.{order-after, cut-bit, IsEnd, under-fork}
 use Rattle.hashmap_tree.specs.Placed.{AllPlaced}
 use Rattle.hashmap_tree.specs.PlacedLaws.{HasPlaces, placed-under, fork-places, alone-misplaced}
 use Rattle.hashmap_tree.specs.PrunedLaws.{hides-stored}
 use Rattle.building.specs.Buildable.{IsHash}
 use Rattle.building.specs.Growing.{is_deep}
-use Rattle.building.specs.Planting.{◌>>=◌, labeled, Top, leaf_top, fork_top, content_of, has_deep, edge_of, side, Planter, reported_below, cell_from, part_of, fork_of, sides_of, leaf_of, tops}
+use Rattle.building.specs.Planting.{◌>>=◌, labeled, Top, leaf_top, fork_top, content_of, has_deep, edge_of, side, reported_below, cell_from, part_of, sides_of, leaf_of, tops}
 use Rattle.building_laws.specs.GoesLaws.{held_good}
 use Rattle.building_laws.specs.MoveLaws.{IsHeld}
 use Rattle.building_laws.specs.PlantLaws.{label_is, side_zero, side_one, part_open}

@@ -1,24 +1,12 @@
 -- Lists and records that are built spell the value.
-use Rattle.std.proofs.Common.{◌≡◌, ◌<◌, ◌≤◌, ℕ, zero, suc, ◌+◌, Bool, true, false, ◌&&◌, ◌||◌, cond, List, [], ◌∷◌, length, Option, Some, None, Result, Ok, Err, slice_get, refl, sym, ap, ◌∙◌, subst, ◌⊎◌, arith, nat_lt, nat_eq, inl, inr}
-use Rattle.std.specs.Prelude.{ℤ, bytes_eq}
+use Rattle.std.proofs.Common.{◌≡◌, ℕ, zero, suc, ◌+◌, Bool, true, false, ◌&&◌, ◌||◌, cond, List, [], ◌∷◌, length, Option, Some, None, Result, Ok, Err, refl, sym, ap, ◌∙◌, subst, ◌⊎◌, arith, nat_eq, inl, inr}
+use Rattle.std.specs.Prelude.{bytes_eq}
 use Rattle.std.proofs.lemmas.Bool.{ltb-true, leb-true, eqb-true}
-use Rattle.std.proofs.lemmas.List.{append-nil}
 use Rattle.std.proofs.lemmas.Slice.Eq.{bytes_eq-Decides}
-use Rattle.bit_slice.specs.Bits.{AreBits, spelled, signed_spelled, twos_complement}
-use Rattle.bit_slice.specs.BitLists.{AreBits-spelled}
-use Rattle.cell_nodes.specs.Constructed.{pruned_of}
-use Rattle.cell_nodes.specs.Good.{IsGood, AllGood, none, more}
-use Rattle.cell_nodes.specs.Tree.{deepest}
-use Rattle.cell_nodes.specs.declared.tree.Tree.{Tree}
-use Rattle.cell_nodes.specs.declared.tree.Hidden.{Hidden}
 use Rattle.cell_nodes.specs.declared.tree.Mode.{Mode}
-use Rattle.cell_nodes.specs.declared.tree.Mode.TheVariants.{Whole, Partial, Lax}
-use Rattle.hashmap_tree.specs.Dict.{unseen}
-use Rattle.hashmap_tree.specs.Entries.{Slice, cell_of, Then}
-use Rattle.hashmap_tree.specs.PrunedLaws.{hides-stored}
-use Rattle.typed_value.specs.Values as values
-use Rattle.typed_value.specs.Values.{Plain, Plains, PlainPairs, number, bit_string, record_of, absent, list_of, ref_to, unknown, map_of, raw, rest, no_vals, a_val, no_pairs, a_pair, parts}
-use Rattle.core_form.specs.Core.{Word, Items, no_items, an_item, check, solve, field, sets, field_names, Condition, Ty, Declaration, CoreSchema}
+use Rattle.hashmap_tree.specs.Entries.{Slice, Then}
+use Rattle.typed_value.specs.Values.{Plains, record_of, list_of, no_vals, a_val, parts}
+use Rattle.core_form.specs.Core.{Word, Items, no_items, an_item, check, solve, field, sets, field_names, Declaration, CoreSchema}
 use Rattle.core_form.specs.Closed.{Closed, ClosedArgs}
 use Rattle.core_form.specs.Closed as closed
 use Rattle.core_form.specs.Fit.{fit}
@@ -26,24 +14,22 @@ use Rattle.core_form.specs.Scope.{Scope, value_in, values_in, with_number, bind}
 use Rattle.nat_solver.specs.Number.{Compares, comparison}
 use Rattle.nat_solver.specs.declared.compare.Op.{Op}
 use Rattle.nat_solver.specs.declared.compare.Op.TheVariants.{Eq, Lt, Le, Gt, Ge}
-use Rattle.spelling.specs.Slices.{nothing, only_bits, only_ref, kept, took}
-use Rattle.spelling.specs.Goals.{Row, natural, integer, string, no_row, row, Goal, at_type, at_field, at_cell, Shape, typed, fields_here, fields_under, left_out, as_cell, at_fields, under_ref, shape_of}
+use Rattle.spelling.specs.Slices.{nothing, only_bits}
+use Rattle.spelling.specs.Goals.{at_type, at_field, Shape, typed, fields_here}
 use Rattle.spelling.specs.Places.{Spot, Place, start, item_of, field_of, result_of, tag_of}
 use Rattle.spelling.specs.PlainReader.{known, reported, sought_number, Choice, first}
-use Rattle.spelling.specs.Spells.{own, integer_of, Spells, SpellsShape, Each, Meanings, a_meaning, Repeats, Fields, SpellsNumber, SpellsString, Meets, SpellsDeclared, Holds, SpellsChild, free}
+use Rattle.spelling.specs.Spells.{Each, Repeats, Fields, Meets}
 use Rattle.spelling_laws.specs.FitLaws.{fit_sound}
 use Rattle.spelling_laws.specs.SolvingLaws.{sought_sound}
-use Rattle.spelling_laws.specs.StepLaws.{bind_ok, known_ok, reported_ok, only_ok, guard_ok, both}
-use Rattle.building.specs.Buildable.{IsBuildable, IsHash, InRange, AllInRange}
-use Rattle.building.specs.Growing.{Grown, empty, join, is_deep, some_deep}
-use Rattle.building.specs.Laid.{ends, ends_shape, ends_fields, ends_items}
-use Rattle.building.specs.PlainBuilder.{Made, Maker, put, put_bits, is_in_range, make_integer, make_number, make_string, first_of, finished, put_ref, make_child, make_hidden, make_cell, turn, make_items, count, grew, Step, step, make_fields, same_words, has_fields, candidate, choose, make_inside, make_declared, make_inner, number_at, string_at, record_at, absent_at, list_at, ref_at, unknown_at, raw_at, rest_at}
+use Rattle.spelling_laws.specs.StepLaws.{bind_ok, known_ok, reported_ok, only_ok, both}
+use Rattle.building.specs.Buildable.{IsBuildable}
+use Rattle.building.specs.Growing.{Grown}
+use Rattle.building.specs.Laid.{ends_fields, ends_items}
+use Rattle.building.specs.PlainBuilder.{Made, Maker, put, turn, make_items, count, grew, Step, step, make_fields, same_words, has_fields, candidate, choose, make_inside, make_declared, record_at, list_at}
 use Rattle.building_laws.specs.CompleteLaws.{check_ends, solve_ends, ended, candidate_is}
-use Rattle.building_laws.specs.GoesLaws.{Goes, goes_as, goes_then, goes_none, then_join, WasPut, was_put, goes_put, put_held, empty_held, held_good, below_of, made_same, alone_put, bits_put, bits_held}
-use Rattle.building_laws.specs.MoveLaws.{slice_eta, then_whole, IsHeld, made, or_assoc, or_false, took_same}
-use Rattle.building_laws.specs.RangeLaws.{in_range_is, pruned_good, can_hide, hidden-below}
-
-use Rattle.building_laws.specs.SoundLaws.{Keeps, AllSound, ShapeSound, IsSpelled, IsSpelledAt}
+use Rattle.building_laws.specs.GoesLaws.{Goes, goes_as, goes_then, goes_none, was_put, goes_put, made_same, bits_held}
+use Rattle.building_laws.specs.MoveLaws.{made, or_assoc, took_same}
+use Rattle.building_laws.specs.SoundLaws.{Keeps, AllSound, ShapeSound, IsSpelledAt}
 
 -- ---- lists
 

@@ -1,7 +1,7 @@
 -- Where the plain builder stops, the item or the value doesn't fit at that place.
-use Rattle.std.proofs.Common.{◌≡◌, ◌≢◌, ◌<◌, ◌≤◌, ◌⊎◌, inl, inr, ℕ, zero, suc, ◌+◌, Bool, true, false, not, ◌&&◌, ◌||◌, cond, List, [], ◌∷◌, ◌++◌, length, Option, Some, None, Result, Ok, Err, refl, sym, ap, ◌∙◌, subst, arith, nat_lt, nat_eq}
+use Rattle.std.proofs.Common.{◌≡◌, ◌≢◌, ◌<◌, ◌⊎◌, inl, inr, ℕ, zero, suc, ◌+◌, Bool, true, false, not, ◌&&◌, ◌||◌, cond, List, [], ◌∷◌, length, Option, Some, None, Result, Ok, Err, refl, sym, ap, ◌∙◌, subst, arith, nat_lt, nat_eq}
 use Rattle.std.specs.Prelude.{ℤ}
-use Rattle.std.proofs.lemmas.Bool.{lt-ltb, le-ltb, ltb-true, ltb-false, eqb-true, eq-eqb}
+use Rattle.std.proofs.lemmas.Bool.{ltb-true, ltb-false, eqb-true, eq-eqb}
 use Rattle.bit_slice.specs.Bits.{spelled, signed_spelled, InSignedRange}
 use Rattle.cell_nodes.specs.Constructed.{pruned_of}
 use Rattle.cell_nodes.specs.Tree.{deepest}
@@ -36,7 +36,7 @@ use Rattle.spelling_laws.specs.StepLaws.{bind_ok, bind_err, only_ok, test_err, r
 use Rattle.building.specs.Buildable.{IsBuildable}
 use Rattle.building.specs.Growing.{Grown, empty, join, is_over, is_deep, some_deep, lay}
 use Rattle.building.specs.PlainBuilder.{Made, Maker, put, put_alone, put_bits, make_natural, is_in_range, make_integer, make_number, make_string, finished, put_ref, make_child, make_hidden, make_cell, turn, make_items, count, grew, Step, make_fields, same_words, has_fields, choose, make_inside, make_declared, make_inner, record_at, number_at, string_at, absent_at, list_at, ref_at, unknown_at, raw_at, rest_at}
-use Rattle.building.specs.Unfit.{Misfits, Lays, IsDeep, SomeDeep, HasRoom, HasNoRoom, Crowded, after_rest, full, too_deep, UnfitPut, UnfitBits, IsOutside, UnfitNumber, UnfitString, UnfitChild, UnfitHidden, UnfitNumberAt, UnfitStringAt, UnfitAbsentAt, UnfitRefAt, UnfitUnknownAt, UnfitRawAt, UnfitRestAt, UnfitTurn, this, idle, later, UnfitItems, UnfitListAt, Put, UnfitFields, HasFields, UnfitDeclared, none_fits, misnamed, no_tag, entered, UnfitInner, UnfitRecordAt}
+use Rattle.building.specs.Unfit.{Misfits, Lays, IsDeep, SomeDeep, HasRoom, HasNoRoom, Crowded, after_rest, full, too_deep, UnfitPut, UnfitBits, UnfitNumber, UnfitString, UnfitChild, UnfitHidden, UnfitNumberAt, UnfitStringAt, UnfitAbsentAt, UnfitRefAt, UnfitUnknownAt, UnfitRawAt, UnfitRestAt, this, idle, later, UnfitItems, UnfitListAt, Put, UnfitFields, HasFields, UnfitDeclared, none_fits, misnamed, no_tag, entered, UnfitInner, UnfitRecordAt}
 use Rattle.building_laws.specs.CompleteLaws.{choose_on}
 use Rattle.building_laws.specs.GoesLaws.{WasPut, was_put, nothing_is, empty_held, bits_held}
 use Rattle.building_laws.specs.MoveLaws.{IsHeld, made}

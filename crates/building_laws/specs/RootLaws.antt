@@ -1,5 +1,5 @@
 -- The root of a reading is built; so two good trees with one reading are equal.
-use Rattle.std.proofs.Common.{◌≡◌, ◌<◌, ◌≤◌, ℕ, zero, suc, ◌+◌, Bool, true, false, cond, nat_lt, Option, Some, None, Result, Ok, Err, refl, sym, ap, ◌∙◌, subst, arith, lit<, inl, inr}
+use Rattle.std.proofs.Common.{◌≡◌, ◌≤◌, ℕ, zero, suc, ◌+◌, Bool, true, false, cond, nat_lt, Some, None, Result, Ok, Err, refl, sym, ap, ◌∙◌, subst, arith, inl, inr}
 use Rattle.std.proofs.lemmas.Bool.{le-ltb}
 use Rattle.cell_nodes.specs.Good.{IsGood}
 use Rattle.cell_nodes.specs.Tree.{unfolded}
@@ -10,20 +10,20 @@ use Rattle.cell_nodes.specs.declared.tree.Tree.{Tree}
 use Rattle.hashmap_labels.specs.declared.forms.Forms.TheVariants.{Required}
 use Rattle.hashmap_tree.specs.Dict.{forms_of, unseen}
 use Rattle.hashmap_tree.specs.Entries.{Slice}
-use Rattle.typed_value.specs.Values.{Plain, number, bit_string, record_of, absent, list_of, ref_to, unknown, map_of, raw, rest, levels, parts, most_levels, most_parts}
+use Rattle.typed_value.specs.Values.{Plain, number, bit_string, record_of, absent, list_of, ref_to, unknown, map_of, raw, rest, levels, parts}
 use Rattle.core_form.specs.Core.{CoreSchema}
 use Rattle.core_form.specs.Closed.{Closed}
 use Rattle.core_form.specs.Closed as closed
-use Rattle.spelling.specs.Goals.{at_type, at_cell, Shape, typed, fields_under, as_cell, in_table, in_width, under_ref, is_ref, shape_of}
-use Rattle.spelling.specs.Places.{Place, at_root, stuck}
-use Rattle.spelling.specs.Spells.{Spells, SpellsUnknown, Holds, RootUnknown, IsRootOf, Reading}
+use Rattle.spelling.specs.Goals.{at_type, at_cell, Shape, typed, fields_under, as_cell, in_table, in_width, under_ref, is_ref}
+use Rattle.spelling.specs.Places.{Place, at_root}
+use Rattle.spelling.specs.Spells.{Spells, SpellsUnknown, Holds, IsRootOf}
 use Rattle.spelling.specs.declared.Cause.{Cause}
 use Rattle.spelling.specs.declared.Cause.TheVariants.{Width}
 use Rattle.spelling_laws.specs.ProperLaws.{proper_under}
 use Rattle.spelling_laws.specs.StepLaws.{bind_on, when_true, when_false}
 use Rattle.building.specs.Buildable.{IsBuildable, IsHash, InRange}
 use Rattle.building.specs.Growing.{empty}
-use Rattle.building.specs.PlainBuilder.{finished, making, sized, open_root, hidden_root, hides_root, root_by, built_root, build_within, most_cells, build}
+use Rattle.building.specs.PlainBuilder.{making, hidden_root, hides_root, root_by, built_root, build_within}
 use Rattle.building.specs.Unfit.{ReadsWithin}
 use Rattle.building_laws.specs.BuiltLaws.{complete}
 use Rattle.building_laws.specs.CompleteLaws.{cell_complete}

@@ -1,5 +1,4 @@
 -- The laws of the plain builder, and the ways from a value to a cell and back.
-use Rattle.std.proofs.Common.{◌≡◌, ◌↔◌}
 use Rattle.typed_value.specs.Values.{most_levels, most_parts}
 use Rattle.spelling_laws.specs.OutcomeLaws.{reader_is_sound, reader_is_complete}
 use Rattle.building.specs.PlainBuilder.{most_cells}

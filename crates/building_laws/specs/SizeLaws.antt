@@ -1,22 +1,21 @@
 -- What is built has no more levels than are left, and no more parts than may begin.
-use Rattle.std.proofs.Common.{◌≡◌, ◌<◌, ◌≤◌, ℕ, zero, suc, ◌+◌, Bool, true, false, nat_lt, nat_eq, List, Option, Some, None, Result, Ok, Err, refl, sym, subst, arith}
+use Rattle.std.proofs.Common.{◌≡◌, ◌≤◌, ℕ, zero, suc, ◌+◌, false, nat_lt, nat_eq, List, Option, Some, None, Result, Ok, sym, subst, arith}
 use Rattle.std.proofs.lemmas.Bool.{ltb-true}
-use Rattle.cell_nodes.specs.declared.tree.Hidden.{Hidden}
 use Rattle.cell_nodes.specs.declared.tree.Mode.{Mode}
 use Rattle.typed_value.specs.Values.{Plain, Plains, PlainPairs, number, bit_string, record_of, absent, list_of, ref_to, unknown, map_of, raw, rest, no_vals, a_val, no_pairs, a_pair, levels, levels_in, levels_by, parts, parts_in, parts_by}
-use Rattle.core_form.specs.Core.{Word, Items, no_items, an_item, check, solve, field, sets, Declaration, CoreSchema}
+use Rattle.core_form.specs.Core.{Word, Items, no_items, an_item, check, solve, field, sets, CoreSchema}
 use Rattle.core_form.specs.Closed.{Closed}
 use Rattle.core_form.specs.Closed as closed
-use Rattle.core_form.specs.Scope.{Scope, value_in, values_in, with_number, bind}
+use Rattle.core_form.specs.Scope.{Scope, value_in, with_number, bind}
 use Rattle.nat_solver.specs.Number.{comparison}
-use Rattle.spelling.specs.Goals.{Goal, at_type, at_field, at_cell, Shape, typed, fields_here, fields_under, left_out, as_cell, at_fields, under_ref, shape_of}
+use Rattle.spelling.specs.Goals.{Goal, at_type, at_field, Shape, typed, fields_here, fields_under, at_fields, under_ref, shape_of}
 use Rattle.spelling.specs.Places.{Spot, Place, start, item_of, field_of, tag_of}
 use Rattle.spelling.specs.PlainReader.{known, reported, sought_number, Choice}
 use Rattle.spelling.specs.Slices.{only_bits}
 use Rattle.spelling_laws.specs.StepLaws.{bind_ok, only_ok}
 use Rattle.building.specs.Growing.{Grown, empty}
 use Rattle.building.specs.MapTests.{outline, fits_edge, fits_root}
-use Rattle.building.specs.PlainBuilder.{Made, Maker, put, make_child, Leaves, make_leaves, make_dict, make_dict_e, turn, make_items, count, grew, Step, step, make_fields, has_fields, choose, make_inside, make_declared, record_at, list_at, ref_at, map_at, make_shape, make_goal, making}
+use Rattle.building.specs.PlainBuilder.{Made, Maker, put, Leaves, make_leaves, turn, make_items, count, Step, step, make_fields, has_fields, choose, make_inside, make_declared, record_at, list_at, ref_at, map_at, make_shape, make_goal, making}
 
 abbrev pub Fits : ℕ → ℕ → ℕ → Plain → Type 0
 Fits n most q v = (levels v ≤ n) × (q + parts v ≤ most)

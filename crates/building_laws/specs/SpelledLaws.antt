@@ -1,24 +1,23 @@
 -- Each value that is built is spelled by what is put, by recursion on the value.
-use Rattle.std.proofs.Common.{◌≡◌, ℕ, zero, suc, ◌+◌, Bool, true, false, cond, nat_lt, Some, None, Result, Ok, Err, refl, sym, ap, subst}
+use Rattle.std.proofs.Common.{◌≡◌, ℕ, zero, suc, ◌+◌, nat_lt, Some, None, Ok, sym, subst}
 use Rattle.cell_nodes.specs.declared.tree.Mode.{Mode}
 use Rattle.hashmap_labels.specs.declared.forms.Forms.TheVariants.{Required}
 use Rattle.hashmap_tree.specs.Dict.{forms_of}
-use Rattle.hashmap_tree.specs.Entries.{Slice}
 use Rattle.typed_value.specs.Values.{Plain, Plains, PlainPairs, number, bit_string, record_of, absent, list_of, ref_to, unknown, map_of, raw, rest, no_vals, a_val, no_pairs, a_pair}
 use Rattle.core_form.specs.Core.{CoreSchema}
 use Rattle.spelling.specs.Goals.{Goal, at_type, at_field, at_cell, Shape, typed, fields_here, fields_under, left_out, as_cell, shape_of}
-use Rattle.spelling.specs.Places.{Spot, Place, stuck}
+use Rattle.spelling.specs.Places.{Spot}
 use Rattle.spelling.specs.PlainReader.{reported}
 use Rattle.spelling_laws.specs.StepLaws.{bind_ok, reported_ok, only_ok}
 use Rattle.building.specs.Buildable.{IsBuildable, InRange, AllInRange, PairsInRange}
 use Rattle.building.specs.Growing.{Grown}
-use Rattle.building.specs.PlainBuilder.{Maker, make_shape, make_goal, making}
+use Rattle.building.specs.PlainBuilder.{make_shape, make_goal, making}
 use Rattle.building_laws.specs.DictSoundLaws.{map_sound}
-use Rattle.building_laws.specs.GoesLaws.{Goes, goes_as}
+use Rattle.building_laws.specs.GoesLaws.{goes_as}
 use Rattle.building_laws.specs.MoveLaws.{made}
 use Rattle.building_laws.specs.RecordSoundLaws.{list_sound, record_sound, inner_sound}
 use Rattle.building_laws.specs.ShapeLaws.{NotCell, not_type, not_field, ok_same}
-use Rattle.building_laws.specs.SoundLaws.{Keeps, IsCell, KeepsAt, KeepsShape, StartsAt, StartsShape, Sounds, AllSound, BySound, ShapeSound, number_sound, string_sound, absent_sound, raw_sound, rest_sound, unknown_sound, ref_sound}
+use Rattle.building_laws.specs.SoundLaws.{Keeps, KeepsAt, KeepsShape, StartsAt, StartsShape, Sounds, AllSound, BySound, ShapeSound, number_sound, string_sound, absent_sound, raw_sound, rest_sound, unknown_sound, ref_sound}
 
 -- ---- from the shape to the goal
 

@@ -1,7 +1,7 @@
 -- Where an item or a value doesn't fit, the plain builder stops at that place.
-use Rattle.std.proofs.Common.{◌≡◌, ◌≢◌, ◌<◌, ◌≤◌, ◌⊎◌, inl, inr, ℕ, zero, suc, ◌+◌, Bool, true, false, not, ◌&&◌, ◌||◌, cond, List, [], ◌∷◌, ◌++◌, length, Option, Some, None, Result, Ok, Err, slice_get, refl, sym, ap, ◌∙◌, subst, arith, nat_lt, nat_eq}
-use Rattle.std.specs.Prelude.{ℤ, bytes_eq}
-use Rattle.std.proofs.lemmas.Bool.{lt-ltb, le-ltb, ltb-true, ltb-false, eqb-true, eq-eqb}
+use Rattle.std.proofs.Common.{◌≡◌, ◌≢◌, ◌<◌, inl, inr, ℕ, zero, suc, ◌+◌, Bool, true, false, not, ◌&&◌, ◌||◌, cond, List, [], ◌∷◌, ◌++◌, length, Option, Some, None, Result, Ok, Err, refl, sym, ap, ◌∙◌, arith, nat_lt, nat_eq}
+use Rattle.std.specs.Prelude.{ℤ}
+use Rattle.std.proofs.lemmas.Bool.{lt-ltb, le-ltb, eqb-true, eq-eqb}
 use Rattle.bit_slice.specs.Bits.{spelled, signed_spelled, InSignedRange}
 use Rattle.cell_nodes.specs.Constructed.{pruned_of}
 use Rattle.cell_nodes.specs.Tree.{deepest}
@@ -16,16 +16,16 @@ use Rattle.typed_value.specs.Values.{Plain, Plains, PlainPairs, no_vals, a_val, 
 use Rattle.core_form.specs.Core.{Word, Items, no_items, an_item, check, solve, field, sets, field_names, Declaration, CoreSchema}
 use Rattle.core_form.specs.Closed.{Closed, ClosedArgs}
 use Rattle.core_form.specs.Closed as closed
-use Rattle.core_form.specs.Scope.{Scope, value_in, values_in, with_number, bind}
+use Rattle.core_form.specs.Scope.{Scope, value_in, with_number, bind}
 use Rattle.nat_solver.specs.Number.{Expr, Numbers, OneUnknown, comparison, Compares, first_lacking}
 use Rattle.nat_solver.specs.Number as numbers
 use Rattle.nat_solver.specs.declared.compare.Op.{Op}
-use Rattle.spelling.specs.Goals.{Row, natural, integer, string, no_row, row, Goal, at_type, at_field, at_cell, Shape, typed, fields_here, fields_under, left_out, as_cell, at_fields, under_ref}
+use Rattle.spelling.specs.Goals.{Row, natural, integer, string, no_row, row, Goal, at_type, at_field, Shape, typed, fields_here, fields_under, left_out, as_cell, at_fields, under_ref}
 use Rattle.spelling.specs.Places.{Spot, Place, stuck, start, item_of, field_of, result_of, tag_of}
 use Rattle.spelling.specs.Acceptable.{Seeks}
 use Rattle.spelling.specs.PlainReader.{◌>>=◌, known, reported, sought_number, Choice}
 use Rattle.spelling.specs.Slices.{nothing, only_bits, only_ref, is_nothing}
-use Rattle.spelling.specs.Spells.{own, integer_of, Meets}
+use Rattle.spelling.specs.Spells.{own, Meets}
 use Rattle.spelling.specs.Stuck.{StopsPair, StopsSolve, too_great, onward, NoEnd, StopsResult}
 use Rattle.spelling.specs.Stuck as stops
 use Rattle.spelling.specs.declared.Cause.{Cause}
@@ -36,8 +36,8 @@ use Rattle.spelling_laws.specs.SolvingLaws.{sought_complete, sought_stands, lack
 use Rattle.spelling_laws.specs.StepLaws.{bind_on, bind_fault, when_true, when_false, both, both_on}
 use Rattle.building.specs.Buildable.{IsBuildable}
 use Rattle.building.specs.Growing.{Grown, empty, join, is_over, is_deep, some_deep, lay}
-use Rattle.building.specs.PlainBuilder.{Made, Maker, put, put_alone, put_bits, make_natural, is_in_range, make_integer, make_number, make_string, finished, put_ref, make_child, make_hidden, make_cell, turn, make_items, count, grew, Step, step, make_fields, same_words, has_fields, choose, make_declared, make_inner, number_at, string_at, record_at, absent_at, list_at, ref_at, unknown_at, raw_at, rest_at}
-use Rattle.building.specs.Unfit.{Misfits, Lays, Put, UnfitTurn, this, idle, later, UnfitItems, UnfitFields, HasFields, UnfitDeclared, none_fits, misnamed, no_tag, entered, UnfitInner, UnfitRecordAt, UnfitListAt, IsDeep, SomeDeep, HasRoom, HasNoRoom, Crowded, after_rest, full, too_deep, UnfitPut, UnfitBits, IsOutside, UnfitNumber, UnfitString, UnfitChild, UnfitHidden, UnfitNumberAt, UnfitStringAt, UnfitAbsentAt, UnfitRefAt, UnfitUnknownAt, UnfitRawAt, UnfitRestAt}
+use Rattle.building.specs.PlainBuilder.{Maker, put, put_alone, put_bits, make_natural, is_in_range, make_integer, make_number, make_string, finished, make_child, make_hidden, make_cell, turn, make_items, count, grew, Step, step, make_fields, same_words, has_fields, choose, make_declared, make_inner, number_at, string_at, record_at, absent_at, list_at, ref_at, unknown_at, raw_at, rest_at}
+use Rattle.building.specs.Unfit.{Misfits, Lays, Put, this, idle, later, UnfitItems, UnfitFields, HasFields, UnfitDeclared, none_fits, misnamed, no_tag, entered, UnfitInner, UnfitRecordAt, UnfitListAt, IsDeep, SomeDeep, HasRoom, HasNoRoom, Crowded, after_rest, full, too_deep, UnfitPut, UnfitBits, UnfitNumber, UnfitString, UnfitChild, UnfitHidden, UnfitNumberAt, UnfitStringAt, UnfitAbsentAt, UnfitRefAt, UnfitUnknownAt, UnfitRawAt, UnfitRestAt}
 use Rattle.building_laws.specs.CompleteLaws.{choose_on, same_on}
 use Rattle.building_laws.specs.GoesLaws.{nothing_is}
 use Rattle.building_laws.specs.MoveLaws.{made}

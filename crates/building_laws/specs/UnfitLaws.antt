@@ -1,11 +1,9 @@
 -- Where a value is unfit, the plain builder stops at that place. So it is unfit at one place at most, and has no tree then.
-use Rattle.std.proofs.Common.{◌≡◌, ◌≢◌, ◌<◌, ◌≤◌, ◌⊎◌, inl, inr, ℕ, zero, suc, ◌+◌, Bool, true, false, ◌||◌, List, [], nat_lt, Option, Some, None, Result, Ok, Err, refl, sym, ap, ◌∙◌, subst, arith}
+use Rattle.std.proofs.Common.{◌≡◌, inl, inr, ℕ, zero, suc, ◌+◌, nat_lt, Some, None, Result, Ok, Err, refl, sym, ap, ◌∙◌, arith}
 use Rattle.std.proofs.lemmas.Bool.{lt-ltb, le-ltb}
-use Rattle.cell_nodes.specs.Good.{IsGood}
 use Rattle.cell_nodes.specs.Tree.{unfolded}
 use Rattle.cell_nodes.specs.declared.tree.Hidden.{Hidden}
 use Rattle.cell_nodes.specs.declared.tree.Mode.{Mode}
-use Rattle.cell_nodes.specs.declared.tree.Tree.{Tree}
 use Rattle.hashmap_labels.specs.declared.forms.Forms.TheVariants.{Required}
 use Rattle.hashmap_tree.specs.Dict.{forms_of}
 use Rattle.hashmap_tree.specs.Entries.{Slice, Then}
@@ -13,23 +11,22 @@ use Rattle.typed_value.specs.Values.{Plain, Plains, PlainPairs, number, bit_stri
 use Rattle.core_form.specs.Core.{CoreSchema}
 use Rattle.core_form.specs.Closed.{Closed}
 use Rattle.spelling.specs.Goals.{Goal, at_type, at_field, at_cell, Shape, under_ref, shape_of}
-use Rattle.spelling.specs.Places.{Spot, Place, stuck, at_root}
+use Rattle.spelling.specs.Places.{Spot, Place, at_root}
 use Rattle.spelling.specs.PlainReader.{◌>>=◌, reported}
 use Rattle.spelling.specs.Slices.{nothing}
 use Rattle.spelling.specs.declared.Cause.{Cause}
-use Rattle.spelling.specs.declared.Cause.TheVariants as why
 use Rattle.spelling_laws.specs.ProperLaws.{Proper, ProperShape, proper_shape, proper_under}
 use Rattle.spelling_laws.specs.StepLaws.{bind_on, bind_fault, when_true, when_false}
 use Rattle.building.specs.Buildable.{IsBuildable, InRange, AllInRange, PairsInRange}
-use Rattle.building.specs.Growing.{Grown, empty, join}
+use Rattle.building.specs.Growing.{Grown, empty}
 use Rattle.building.specs.Laid.{Laid, IsWithinAt}
-use Rattle.building.specs.PlainBuilder.{Maker, make_shape, make_goal, making, sized, hidden_root, hides_root, root_by, built_root, build_within}
+use Rattle.building.specs.PlainBuilder.{Maker, make_shape, making, hidden_root, root_by, built_root, build_within}
 use Rattle.building.specs.Unfit.{Misfits, Lays, UnfitAt, UnfitShape, UnfitWithin, UnfitHiddenRoot, no_level, no_part, root_deep, UnfitRoot, open_root, sprawls}
 use Rattle.building.specs.Unfit as unfit
 use Rattle.building_laws.specs.BuiltLaws.{complete}
 use Rattle.building_laws.specs.DictLaws.{HeldAt}
 use Rattle.building_laws.specs.DictStandsLaws.{ByDecide, map_at_stands}
-use Rattle.building_laws.specs.MoveLaws.{then_all, IsHeld, made}
+use Rattle.building_laws.specs.MoveLaws.{then_all, made}
 use Rattle.building_laws.specs.RootLaws.{root_built}
 use Rattle.building_laws.specs.StandsLaws.{Fails, Gets, Decides, AllDecide, number_at_stands, string_at_stands, absent_at_stands, record_at_stands, inner_at_stands, list_at_stands, ref_at_stands, unknown_at_stands, raw_at_stands, rest_at_stands}
 
