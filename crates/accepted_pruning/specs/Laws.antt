@@ -26,7 +26,7 @@ use Rattle.pruning_laws.specs.Laws.{Commutes}
 abbrev pub AcceptedNamesApart : Type 0
 AcceptedNamesApart = (s : SchemaView) → IsAccepted s → NamesFieldsApart (kept_cores s)
 
--- pruning commutes with reading
+-- pruning commutes with reading, in a tree of mask 0
 abbrev pub PruningCommutes : Type 0
 PruningCommutes =
     (s : SchemaView) → IsAccepted s → (t : Closed) (c : Tree) (v : Plain) → IsGood c → mask c ≡ 0
@@ -34,7 +34,8 @@ PruningCommutes =
     → (paths : List (List Stride))
     → Commutes (kept_cores s) t c (cut_root (unless_kept paths) r c) v (Blanked v (unkept paths (spots_of r))) paths
 
--- any pruned tree is the pruned branch that stands for the whole, or reads as the value blanked where it is pruned
+-- Any pruned tree of a tree of mask 0 is the pruned branch that stands for the whole, or reads as the value blanked where
+-- it is pruned; trees that stand in the value as they are may be pruned further.
 abbrev pub PrunedTreeReads : Type 0
 PrunedTreeReads =
     (s : SchemaView) → IsAccepted s → (t : Closed) (c : Tree) (v : Plain) → IsGood c → mask c ≡ 0

@@ -10,7 +10,7 @@ pub fn accepted_names_apart()
     kept_stays_within();
 }
 
-/// Pruning commutes with reading.
+/// Pruning commutes with reading, in a tree of mask 0.
 pub fn pruning_commutes()
     ensures { PruningCommutes }
 {
@@ -18,7 +18,8 @@ pub fn pruning_commutes()
     pruning_laws::laws::pruning_commutes();
 }
 
-/// Any pruned tree is the pruned branch that stands for the whole, or reads as the value blanked where it is pruned.
+/// Any pruned tree of a tree of mask 0 is the pruned branch that stands for the whole, or reads as the value blanked where
+/// it is pruned; trees that stand in the value as they are may be pruned further.
 pub fn pruned_tree_reads()
     ensures { PrunedTreeReads }
 {

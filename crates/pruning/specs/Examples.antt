@@ -130,6 +130,6 @@ other_hidden c z o = refl
 pub first_known : (c z o : Tree) → known (shown key_01 (ends c z o)) (at_key (0 ∷ (0 ∷ []))) ≡ Known
 first_known c z o = refl
 
--- a key of another width is absent too, and showing it hides what no longer key could lie under
+-- a key of another width is absent too, and showing it keeps the edges whose prefix begins it
 pub short_key_known : (c z o : Tree) → known (shown (at_key (0 ∷ []) ∷ []) (ends c z o)) (at_key (0 ∷ [])) ≡ KnownAbsent
 short_key_known c z o = refl

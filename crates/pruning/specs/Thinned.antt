@@ -1,5 +1,5 @@
--- A value whose cells as they are, and the references of whose rests, are pruned; and what a pruned tree hides at a
--- position.
+-- A value whose cells as they are, and the references of whose rests, are pruned; and whether a tree has a
+-- pruned branch at a position.
 use Rattle.std.specs.Prelude.{Bool, true, false, ℕ, List, [], ◌∷◌, Option, Some, None, slice_get}
 use Rattle.cell_nodes.specs.Prunes.{Prunes, AllPrune}
 use Rattle.cell_nodes.specs.declared.tree.Hidden.{Hidden}

@@ -1,21 +1,21 @@
 //! What follows from the definitions alone. Each function states one law; its body is empty.
 ghost use Rattle.pruning_laws.specs.Laws.{PrunedTreeReads, PruningCommutes, ReadingIsLaid};
 
-/// A value that is read lies in its cells: beside each reference stands the cell that it leads to, and of each map its
-/// edges.
+/// A value that is read whole lies in its cells: beside each reference stands the cell that it leads to, and of each map
+/// its edges.
 pub fn reading_is_laid()
     ensures { ReadingIsLaid }
 {}
 
-/// Pruning commutes with reading: hiding the references that no chosen path keeps gives a tree with the hash and the
-/// depth of the old one, which reads as the value with just these references hidden. Of each chosen path it is known
-/// whether it leads to a value.
+/// Pruning commutes with reading, in a tree of mask 0: hiding the references that no chosen path keeps gives a tree with
+/// the hash and the depth of the old one, which reads as the value with just these references hidden. Of each chosen path
+/// it is known whether it leads to a value.
 pub fn pruning_commutes()
     ensures { PruningCommutes }
 {}
 
-/// Any pruned tree of a tree that reads is the pruned branch that stands for it, or reads as the value with the references
-/// hidden where it has pruned branches; trees that stand in a value as they are may be pruned further.
+/// Any pruned tree of a tree of mask 0 that reads is the pruned branch that stands for it, or reads as the value with the
+/// references hidden where it has pruned branches; trees that stand in a value as they are may be pruned further.
 pub fn pruned_tree_reads()
     ensures { PrunedTreeReads }
 {}
