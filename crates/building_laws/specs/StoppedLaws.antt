@@ -1,4 +1,4 @@
--- Where the plain builder stops, the value is unfit, by recursion on the levels. So a value has a tree or a place.
+-- Where the plain builder stops, the value is unfit at that place: by recursion on the levels, and of the root.
 use Rattle.std.proofs.Common.{◌≡◌, ◌⊎◌, inl, inr, ℕ, zero, suc, ◌+◌, Bool, true, false, ◌||◌, nat_lt, Option, Some, None, Result, Ok, Err, refl, sym, ap, ◌∙◌, subst, arith, List}
 use Rattle.std.proofs.lemmas.Bool.{ltb-true, ltb-false}
 use Rattle.cell_nodes.specs.Constructed.{pruned_of}
