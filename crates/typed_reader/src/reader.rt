@@ -19,7 +19,7 @@ ghost use Rattle.spelling.specs.Goals as goals;
 ghost use Rattle.spelling.specs.Places.{Spot, start};
 ghost use Rattle.spelling.specs.PlainReader as plain;
 ghost use Rattle.spelling.specs.Spells.{next_bit};
-ghost use Rattle.typed_value.specs.Values as values;
+ghost use Rattle.typed_value.specs.Values as forms;
 ghost use Rattle.typed_value.specs.View.{names_in, pair_of, pairs_of, value as value_view};
 ghost use Rattle.typed_reader.specs.Begun.{entered};
 ghost use Rattle.typed_reader.specs.Turns.{turn};
@@ -59,7 +59,7 @@ pub fn read_closed<'a>(
 ) -> Result<Found<'a>, StopError>
     ensures gives { (h : Spot) → Gives h found_view result
         (reader_of levels mode plan.now.0 h (goals.at_type (type_view ty.now)) begun.old (slice_of s.entry)) }
-    ensures counts { IfOk result (λ x. begun.new ≡ begun.old + values.parts (value_view x.value)) }
+    ensures counts { IfOk result (λ x. begun.new ≡ begun.old + forms.parts (value_view x.value)) }
 {
     begin(alloc, levels, begun)?;
     if !in_table(ty) {
@@ -88,7 +88,7 @@ fn read_field<'a>(
         (reader_of levels mode plan.now.0 h
         (goals.at_field (governed plan.now.1 condition) (type_at plan.now.1 ty) (scope_of env.now types.now))
         begun.old (slice_of s.entry)) }
-    ensures counts { IfOk result (λ x. begun.new ≡ begun.old + values.parts (value_view x.value)) }
+    ensures counts { IfOk result (λ x. begun.new ≡ begun.old + forms.parts (value_view x.value)) }
 {
     begin(alloc, levels, begun)?;
     let left = levels - 1;
@@ -134,7 +134,7 @@ fn read_fields_under<'a>(
         (plain.read_ref mode (reader_of levels mode plan.now.0) h
         (goals.at_fields (record_at plan.now.1 first count) (scope_of env.now types.now))
         begun.old (slice_of s.entry).bits (slice_of s.entry).refs) }
-    ensures counts { IfOk result (λ x. begun.new + 1 ≡ begun.old + values.parts (value_view x.value)) }
+    ensures counts { IfOk result (λ x. begun.new + 1 ≡ begun.old + forms.parts (value_view x.value)) }
 {
     let CellSlice { bits, refs } = s;
     let Some((cell, refs)) = refs.first() else {
@@ -186,7 +186,7 @@ fn read_type<'a>(
     ensures gives { (h : Spot) → Gives h found_view result
         (plain.read_type mode (core_of plan.now.0) (reader_of levels mode plan.now.0) h
         (type_view ty.now) begun.old (slice_of s.entry)) }
-    ensures counts { IfOk result (λ x. begun.new + 1 ≡ begun.old + values.parts (value_view x.value)) }
+    ensures counts { IfOk result (λ x. begun.new + 1 ≡ begun.old + forms.parts (value_view x.value)) }
 {
     match ty {
         ClosedType::Nat32 => read_number(alloc, 32, 4_294_967_296, s),
@@ -232,7 +232,7 @@ fn read_ref<'a>(
     ensures gives { (h : Spot) → Gives h found_view result
         (plain.read_ref mode (reader_of levels mode plan.now.0) h
         (goals.under_ref (type_view inner.now)) begun.old (slice_of s.entry).bits (slice_of s.entry).refs) }
-    ensures counts { IfOk result (λ x. begun.new + 1 ≡ begun.old + values.parts (value_view x.value)) }
+    ensures counts { IfOk result (λ x. begun.new + 1 ≡ begun.old + forms.parts (value_view x.value)) }
 {
     let CellSlice { bits, refs } = s;
     let Some((cell, refs)) = refs.first() else {
@@ -261,7 +261,7 @@ pub fn read_cell(
     ensures gives { (h : Spot) → Gives h value_view result
         (plain.cell_value (reader_of levels mode plan.now.0) h
         (goals.under_ref (type_view inner.now)) begun.old cell.now) }
-    ensures counts { IfOk result (λ v. begun.new ≡ begun.old + values.parts (value_view v)) }
+    ensures counts { IfOk result (λ v. begun.new ≡ begun.old + forms.parts (value_view v)) }
 {
     if let ClosedType::Whole = inner {
         begin(alloc, levels, begun)?;
@@ -287,7 +287,7 @@ fn read_whole(
     ensures gives { (h : Spot) → Gives h value_view result
         (plain.whole_of (reader_of levels mode plan.now.0) h
         (goals.at_type (type_view ty.now)) begun.old (slice_of s.entry)) }
-    ensures counts { IfOk result (λ v. begun.new ≡ begun.old + values.parts (value_view v)) }
+    ensures counts { IfOk result (λ v. begun.new ≡ begun.old + forms.parts (value_view v)) }
 {
     let found = read_closed(alloc, plan, mode, levels, begun, ty, s)?;
     if !is_nothing(&found.rest) {
@@ -311,7 +311,7 @@ fn read_repeat<'a>(
     ensures gives { (h : Spot) → Gives h found_view result
         (plain.read_type mode (core_of plan.now.0) (reader_of levels mode plan.now.0) h
         (closed.repeat count (type_view inner.now)) begun.old (slice_of s.entry)) }
-    ensures counts { IfOk result (λ x. begun.new + 1 ≡ begun.old + values.parts (value_view x.value)) }
+    ensures counts { IfOk result (λ x. begun.new + 1 ≡ begun.old + forms.parts (value_view x.value)) }
 {
     let mut items = Items::new(alloc);
     let mut left = s;
@@ -343,7 +343,7 @@ fn read_dict<'a>(
     ensures gives { (h : Spot) → Gives h found_view result
         (plain.read_dict mode (reader_of levels mode plan.now.0) h
         n (type_view inner.now) begun.old (slice_of s.entry)) }
-    ensures counts { IfOk result (λ x. begun.new + 1 ≡ begun.old + values.parts (value_view x.value)) }
+    ensures counts { IfOk result (λ x. begun.new + 1 ≡ begun.old + forms.parts (value_view x.value)) }
 {
     let walk = match first_edge(alloc, s, n, mode) {
         Ok(walk) => walk,
@@ -385,7 +385,7 @@ fn read_dict_e<'a>(
     ensures gives { (h : Spot) → Gives h found_view result
         (plain.by_bit mode (reader_of levels mode plan.now.0) h
         n (type_view inner.now) begun.old (next_bit (slice_of s.entry).bits) (slice_of s.entry).refs) }
-    ensures counts { IfOk result (λ x. begun.new + 1 ≡ begun.old + values.parts (value_view x.value)) }
+    ensures counts { IfOk result (λ x. begun.new + 1 ≡ begun.old + forms.parts (value_view x.value)) }
 {
     let CellSlice { bits, refs } = s;
     let Some((bit, bits)) = bits.take(1) else {
@@ -422,7 +422,7 @@ fn read_leaves(
     ensures gives { (h : Spot) → Gives h (λ ps. pairs_of (map pair_of ps)) result
         (plain.leaf_values (reader_of levels mode plan.now.0) h
         (type_view inner.now) begun.old (map leaf_of leaves.items)) }
-    ensures counts { IfOk result (λ ps. begun.new ≡ begun.old + values.parts_by (pairs_of (map pair_of ps))) }
+    ensures counts { IfOk result (λ ps. begun.new ≡ begun.old + forms.parts_by (pairs_of (map pair_of ps))) }
 {
     let mut pairs = Items::new(alloc);
     for (key, content) in leaves {
@@ -448,7 +448,7 @@ fn read_declared<'a>(
         (plain.read_declared (reader_of levels mode plan.now.0) h
         (plain.choose (core_of plan.now.0) (core_of plan.now.0) name.now (closed_args args.now) (slice_of s.entry).bits)
         begun.old (slice_of s.entry)) }
-    ensures counts { IfOk result (λ x. begun.new + 1 ≡ begun.old + values.parts (value_view x.value)) }
+    ensures counts { IfOk result (λ x. begun.new + 1 ≡ begun.old + forms.parts (value_view x.value)) }
 {
     let CellSlice { bits, refs } = s;
     let Some(c) = plan.choose(name, args, bits.again()) else {
@@ -492,12 +492,12 @@ fn read_constructor<'a>(
     ensures gives { (d : Declaration) (scope : Scope) → slice_get (core_of plan.now.0) c ≡ Some d
         → fit_of d.core (closed_args args.now) ≡ Some scope
         → Gives (start d) (λ x. (
-          values.record_of (Some d.shown) (names_in (map pair_of x.0)) (values_of x.0),
+          forms.record_of (Some d.shown) (names_in (map pair_of x.0)) (values_of x.0),
           outputs_of x.1,
           slice_of x.2,
         )) result
         (entered (reader_of levels mode plan.now.0) d scope begun.old (slice_of s.entry)) }
-    ensures counts { IfOk result (λ x. begun.new ≡ begun.old + values.parts_in (values_of x.0)) }
+    ensures counts { IfOk result (λ x. begun.new ≡ begun.old + forms.parts_in (values_of x.0)) }
 {
     let entry = plan.entry(c);
     let Some(mut slots) = fit(alloc, plan.inputs(c), args, entry.slots)? else {
@@ -547,7 +547,7 @@ fn read_fields<'a>(
         begun.old (slice_of s.entry)) }
     ensures names { IfOk result (λ x. names_in (map pair_of x.0)
         ≡ field_names (items_in plan.now.1 (type_at plan.now.1) None ops.now)) }
-    ensures counts { IfOk result (λ x. begun.new ≡ begun.old + values.parts_in (values_of x.0)) }
+    ensures counts { IfOk result (λ x. begun.new ≡ begun.old + forms.parts_in (values_of x.0)) }
 {
     let mut fields = Items::new(alloc);
     let mut condition = None;
