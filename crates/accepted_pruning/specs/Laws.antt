@@ -1,7 +1,7 @@
 -- What the laws say, for every accepted schema: facts about the definitions alone. The schema stands in them by the
 -- core forms of its declarations without those that are passed over.
 use Rattle.std.specs.Prelude.{filter}
-use Rattle.std.specs.Prelude.{◌≡◌, ◌⊎◌, List}
+use Rattle.std.specs.Prelude.{◌≡◌, ◌⊎◌, ℕ, List, Some, slice_get}
 use Rattle.tlb_syntax.specs.Tree.{SchemaView}
 use Rattle.cell_nodes.specs.Constructed.{stub}
 use Rattle.cell_nodes.specs.Good.{IsGood}
@@ -16,11 +16,12 @@ use Rattle.typed_value.specs.Values.{Plain}
 use Rattle.accepted_schema.specs.Accepted.{IsAccepted, kept_cores}
 use Rattle.pruning.specs.Blanked.{Blanked}
 use Rattle.pruning.specs.Cut.{cut_root}
+use Rattle.pruning.specs.Knowing.{NamesSomething}
 use Rattle.pruning.specs.SpellsLaid.{LaidRoot, plain_root, IsLaidRoot}
 use Rattle.pruning.specs.Names.{NamesFieldsApart}
 use Rattle.pruning.specs.Spots.{unless_kept, unkept, spots_of}
 use Rattle.pruning.specs.Thinned.{pruned_in, ReadsThinned}
-use Rattle.pruning_laws.specs.Laws.{Commutes}
+use Rattle.pruning_laws.specs.Laws.{Commutes, KnowsNamed}
 
 -- no two fields of a record are shown by one name
 abbrev pub AcceptedNamesApart : Type 0
@@ -42,3 +43,11 @@ PrunedTreeReads =
     → Reading Whole (kept_cores s) t c v → (r : LaidRoot) → plain_root r ≡ v → IsLaidRoot (kept_cores s) t c r
     → (p : Tree) → Prunes c p 0
     → (p ≡ stub c 0) ⊎ ReadsThinned (kept_cores s) t p (Blanked v (filter (pruned_in p) (spots_of r)))
+
+-- where the spots that no path keeps are hidden, what is known of each chosen path that names something
+abbrev pub NamedIsKnown : Type 0
+NamedIsKnown =
+    (s : SchemaView) → IsAccepted s → (t : Closed) (c : Tree) (r : LaidRoot) → IsLaidRoot (kept_cores s) t c r
+    → (paths : List (List Stride)) (i : ℕ) (path : List Stride) → slice_get paths i ≡ Some path
+    → NamesSomething (plain_root r) path
+    → KnowsNamed (plain_root r) (Blanked (plain_root r) (unkept paths (spots_of r))) path

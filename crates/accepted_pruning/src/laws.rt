@@ -1,5 +1,5 @@
 //! What follows from the definitions alone, for every accepted schema. Each function states one law.
-ghost use Rattle.accepted_pruning.specs.Laws.{AcceptedNamesApart, PrunedTreeReads, PruningCommutes};
+ghost use Rattle.accepted_pruning.specs.Laws.{AcceptedNamesApart, NamedIsKnown, PrunedTreeReads, PruningCommutes};
 
 use tlb_kinds::laws::kept_stays_within;
 
@@ -25,4 +25,13 @@ pub fn pruned_tree_reads()
 {
     accepted_names_apart();
     pruning_laws::laws::pruned_tree_reads();
+}
+
+/// Where the references that no chosen path keeps are hidden, of the chosen paths that name something those are Known
+/// that lead to a value, and those are KnownAbsent that name an absent key.
+pub fn named_is_known()
+    ensures { NamedIsKnown }
+{
+    accepted_names_apart();
+    pruning_laws::laws::named_is_known();
 }

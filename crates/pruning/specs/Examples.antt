@@ -133,3 +133,44 @@ first_known c z o = refl
 -- a key of another width is absent too, and showing it keeps the edges whose prefix begins it
 pub short_key_known : (c z o : Tree) → known (shown (at_key (0 ∷ []) ∷ []) (ends c z o)) (at_key (0 ∷ [])) ≡ KnownAbsent
 short_key_known c z o = refl
+
+-- ---- absence
+
+-- a key of <00:1,11:4>, behind one reference and behind two
+pub behind_one : (c z o : Tree) → names_absence (values.ref_to tt (plain (ends c z o))) (at_key (0 ∷ (1 ∷ []))) ≡ true
+behind_one c z o = refl
+
+pub behind_two : (c z o : Tree)
+    → names_absence (values.ref_to tt (values.ref_to tt (plain (ends c z o)))) (at_key (0 ∷ (1 ∷ []))) ≡ true
+behind_two c z o = refl
+
+-- m{value:^<00:1,11:4>}: the steps before the key lead to the map
+pub behind_steps : (b c z o : Tree)
+    → names_absence (plain (inside (codes "m") (ref_to b (ends c z o)))) (named (codes "value") ∷ at_key (0 ∷ (1 ∷ [])))
+    ≡ true
+behind_steps b c z o = refl
+
+-- a shorter and a longer key than those of the map
+pub short_key_named : (c z o : Tree) → names_absence (plain (ends c z o)) (at_key (0 ∷ [])) ≡ true
+short_key_named c z o = refl
+
+pub long_key_named : (c z o : Tree) → names_absence (plain (ends c z o)) (at_key (0 ∷ (0 ∷ (0 ∷ [])))) ≡ true
+long_key_named c z o = refl
+
+-- no absence: a path that goes on after an absent key, a present key, a name that a record lacks, and no step
+pub past_absence : (c z o : Tree)
+    → names_absence (plain (ends c z o)) (keyed (0 ∷ (1 ∷ [])) ∷ at_name (codes "v")) ≡ false
+past_absence c z o = refl
+
+pub present_key : (c z o : Tree) → names_absence (plain (ends c z o)) (at_key (0 ∷ (0 ∷ []))) ≡ false
+present_key c z o = refl
+
+pub present_behind_one : (c z o : Tree)
+    → names_absence (values.ref_to tt (plain (ends c z o))) (at_key (1 ∷ (1 ∷ []))) ≡ false
+present_behind_one c z o = refl
+
+pub lacked_name : (c : Tree) → names_absence (plain (two c)) (at_name (codes "z")) ≡ false
+lacked_name c = refl
+
+pub no_step : (c z o : Tree) → names_absence (plain (ends c z o)) [] ≡ false
+no_step c z o = refl

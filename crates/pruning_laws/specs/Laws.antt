@@ -1,6 +1,6 @@
 -- What the laws say: facts about the definitions alone.
 use Rattle.std.specs.Prelude.{filter}
-use Rattle.std.specs.Prelude.{◌≡◌, ◌⊎◌, ℕ, List, Some, slice_get}
+use Rattle.std.specs.Prelude.{◌≡◌, ◌⊎◌, ◌↔◌, true, ℕ, List, Some, None, slice_get}
 use Rattle.cell_nodes.specs.Constructed.{stub}
 use Rattle.cell_nodes.specs.Good.{IsGood}
 use Rattle.cell_nodes.specs.Prunes.{Prunes}
@@ -12,9 +12,10 @@ use Rattle.core_form.specs.Closed.{Closed}
 use Rattle.spelling.specs.Spells.{Reading}
 use Rattle.typed_value.specs.Paths.{Stride, at_path}
 use Rattle.typed_value.specs.Values.{Plain}
+use Rattle.pruning.specs.declared.Knowledge.TheVariants.{Known, KnownAbsent}
 use Rattle.pruning.specs.Blanked.{Blanked}
 use Rattle.pruning.specs.Cut.{cut_root}
-use Rattle.pruning.specs.Knowing.{known, as_named}
+use Rattle.pruning.specs.Knowing.{known, as_named, names_absence, NamesSomething}
 use Rattle.pruning.specs.SpellsLaid.{LaidRoot, plain_root, IsLaidRoot}
 use Rattle.pruning.specs.Names.{NamesFieldsApart}
 use Rattle.pruning.specs.Spots.{unless_kept, unkept, spots_of}
@@ -53,3 +54,22 @@ PrunedTreeReads =
     → Reading Whole schema t c v → (r : LaidRoot) → plain_root r ≡ v → IsLaidRoot schema t c r → (p : Tree)
     → Prunes c p 0
     → (p ≡ stub c 0) ⊎ ReadsThinned schema t p (Blanked v (filter (pruned_in p) (spots_of r)))
+
+-- a path that names an absence leads to no value
+abbrev pub AbsenceHasNoValue : Type 0
+AbsenceHasNoValue = (v : Plain) (path : List Stride) → names_absence v path ≡ true → at_path v path ≡ None
+
+-- What is known of the path in the value w with hidden parts: that it leads to a value exactly where it leads to one in
+-- v, that it leads to nothing exactly where it names an absence there, and one of the two.
+pub record KnowsNamed (v w : Plain) (path : List Stride) : Type 0 where
+  pub either : (known w path ≡ Known) ⊎ (known w path ≡ KnownAbsent)
+  pub value : (known w path ≡ Known) ↔ ((u : Plain) × (at_path v path ≡ Some u))
+  pub absence : (known w path ≡ KnownAbsent) ↔ (names_absence v path ≡ true)
+
+-- Where the spots that no path keeps are hidden, this is known of each chosen path that names something.
+abbrev pub NamedIsKnown : Type 0
+NamedIsKnown =
+    (schema : CoreSchema) → NamesFieldsApart schema → (t : Closed) (c : Tree) (r : LaidRoot) → IsLaidRoot schema t c r
+    → (paths : List (List Stride)) (i : ℕ) (path : List Stride) → slice_get paths i ≡ Some path
+    → NamesSomething (plain_root r) path
+    → KnowsNamed (plain_root r) (Blanked (plain_root r) (unkept paths (spots_of r))) path

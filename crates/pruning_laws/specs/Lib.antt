@@ -1,3 +1,4 @@
+pub mod AbsenceLaws
 pub mod BlankedLaws
 pub mod ChoiceLaws
 pub mod CleanLaws
