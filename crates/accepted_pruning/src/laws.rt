@@ -18,8 +18,8 @@ pub fn pruning_commutes()
     pruning_laws::laws::pruning_commutes();
 }
 
-/// Any pruned tree of a tree of mask 0 is the pruned branch that stands for the whole, or reads as the value blanked where
-/// it is pruned; trees that stand in the value as they are may be pruned further.
+/// Any pruned tree of a tree of mask 0 is the pruned branch that stands for the whole, or reads as the value blanked
+/// where it is pruned; trees that stand in the value as they are may be pruned further.
 pub fn pruned_tree_reads()
     ensures { PrunedTreeReads }
 {
