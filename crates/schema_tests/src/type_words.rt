@@ -58,6 +58,9 @@ static WORDS: [(&str, &str); 45] = [
 ];
 
 fn shown(rt: &impl Abort, alloc: Global, word: &str) -> String {
+    if word.len() > 1_048_576 {
+        return format!(in alloc; "long").expect(rt, "memory");
+    }
     let schema = schema(rt, alloc, SCHEMA);
     let types = TypeIndex::of(alloc, schema.constructors.as_slice()).expect(rt, "memory");
     let text = match resolve(alloc, &types, word) {
