@@ -10,24 +10,13 @@ Runs the built program text_again, which reads a text by `parse` and prints its 
 Times are processor time, the least of three. Ends with status 1 where a bound is passed.
 """
 import os
-import resource
-import subprocess
 import sys
 import tempfile
 
+from processor_time import spent
+
 AGAIN = os.path.join(os.path.dirname(os.path.abspath(__file__)), "..", "crates", "text_again", "out", "text_again")
 MOST = 134_217_728
-
-
-def spent(command):
-    least = None
-    for _ in range(3):
-        before = resource.getrusage(resource.RUSAGE_CHILDREN)
-        subprocess.run(command, stdout=subprocess.DEVNULL, check=True)
-        after = resource.getrusage(resource.RUSAGE_CHILDREN)
-        time = after.ru_utime - before.ru_utime + after.ru_stime - before.ru_stime
-        least = time if least is None else min(least, time)
-    return least
 
 
 def tree(depth):

@@ -10,10 +10,10 @@ interns its cells in a pool, writes the bag and reads what it wrote, and the `ha
 Times are processor time, the least of three. Ends with status 1 where a bound is passed.
 """
 import os
-import resource
-import subprocess
 import sys
 import tempfile
+
+from processor_time import spent
 
 CRATES = os.path.join(os.path.dirname(os.path.abspath(__file__)), "..", "crates")
 AGAIN = os.path.join(CRATES, "bag_again", "out", "bag_again")
@@ -33,17 +33,6 @@ def bag_of(count):
     numbers = [(count, 3), (1, 3), (0, 3), (len(data), 4), (0, 3)]
     header = bytes.fromhex("b5ee9c720304") + b"".join(n.to_bytes(width, "big") for n, width in numbers)
     return header + bytes(data)
-
-
-def spent(command):
-    least = None
-    for _ in range(3):
-        before = resource.getrusage(resource.RUSAGE_CHILDREN)
-        subprocess.run(command, stdout=subprocess.DEVNULL, check=True)
-        after = resource.getrusage(resource.RUSAGE_CHILDREN)
-        time = after.ru_utime - before.ru_utime + after.ru_stime - before.ru_stime
-        least = time if least is None else min(least, time)
-    return least
 
 
 def main():

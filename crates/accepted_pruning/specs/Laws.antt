@@ -35,8 +35,8 @@ PruningCommutes =
     → (paths : List (List Stride))
     → Commutes (kept_cores s) t c (cut_root (unless_kept paths) r c) v (Blanked v (unkept paths (spots_of r))) paths
 
--- Any pruned tree of a tree of mask 0 is the pruned branch that stands for the whole, or reads as the value blanked where
--- it is pruned; trees that stand in the value as they are may be pruned further.
+-- Any pruned tree of a tree of mask 0 is the pruned branch that stands for the whole, or reads as the value blanked
+-- where it is pruned; trees that stand in the value as they are may be pruned further.
 abbrev pub PrunedTreeReads : Type 0
 PrunedTreeReads =
     (s : SchemaView) → IsAccepted s → (t : Closed) (c : Tree) (v : Plain) → IsGood c → mask c ≡ 0
