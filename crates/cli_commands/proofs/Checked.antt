@@ -1,5 +1,5 @@
 -- What `check` puts for an accepted schema.
-use Rattle.std.proofs.Common.{◌≡◌, ◌↔◌, ◌∙◌, ap, sym, refl, ℕ, List, Result, Ok, Err}
+use Rattle.std.proofs.Common.{◌≡◌, ap, ℕ, List, Result, Ok, Err}
 use Rattle.cli_refusals.specs.Refusal.{Refusal}
 use Rattle.cli_stages.specs.Schema.{GivesAccepted, WritesAccepted}
 use Rattle.cli_stages.specs.Stage.{goes_on, stops}
@@ -9,7 +9,7 @@ use Rattle.cli_commands.specs.Check.{Checks, ChecksAccepted, count_line}
 never : (r : Refusal) (text : List ℕ) → Ok text ≡ Err r → ⊥
 never r text is = cc
 
-same-text : (a b : List ℕ) → Ok {E = Refusal} a ≡ Ok b → a ≡ b
+same-text : (a b : List ℕ) → (◌≡◌ {A = Result (List ℕ) Refusal} (Ok a) (Ok b)) → a ≡ b
 same-text a b is = cc
 
 counted : GivesAccepted → (schema text : List ℕ) → Checks schema (Ok text)

@@ -44,7 +44,7 @@ use Rattle.cli_stages.specs.Schema.{Schema}
 use Rattle.cli_stages.specs.SchemaText.{SchemaText, RefusesText}
 use Rattle.cli_stages.specs.Stage.{stage, IsAnswered, IsStageStatus, IsOnce, IsStage}
 use Rattle.cli_stages.specs.StageLaws.{next-stage}
-use Rattle.cli_stages.specs.Tags.{Tags, IsTagRefusal, RefusesTags}
+use Rattle.cli_stages.specs.Tags.{Tags, RefusesTags}
 use Rattle.cli_stages.specs.TypeWord.{TypeWord, RefusesWord}
 use Rattle.cli_stages.proofs.Layers.{Bags, Forms, Readings, Schemas, Texts}
 

@@ -1,16 +1,15 @@
 -- What the stage of a schema gives.
-use Rattle.std.proofs.Common.{◌≡◌, ◌∙◌, ap, sym, subst, refl, List, ℕ, Result, Ok, Err}
+use Rattle.std.proofs.Common.{◌≡◌, ◌∙◌, ap, sym, subst, refl, List, ℕ, Ok, Err}
 use Rattle.tlb_kinds.specs.Refusals.{kept_of}
 use Rattle.tlb_syntax.specs.Tree.{SchemaView}
 use Rattle.tlb_syntax.specs.Written.{Writes}
 use Rattle.core_form.specs.Core.{CoreSchema}
 use Rattle.schema_leads.specs.Tags.{cores}
-use Rattle.accepted_schema.specs.Accepted.{AreAllSeparated, HasShortTags, IsAccepted, kept_cores}
+use Rattle.accepted_schema.specs.Accepted.{AreAllSeparated, HasShortTags, kept_cores}
 use Rattle.accepted_schema.specs.Laws.{AcceptedStays}
 use Rattle.cli_refusals.specs.Refusal.{Refusal}
 use Rattle.cli_stages.specs.Kinds.{Kinds}
 use Rattle.cli_stages.specs.Schema.{IsWhole, Schema, WritesAccepted}
-use Rattle.cli_stages.specs.SchemaText.{SchemaText}
 use Rattle.cli_stages.specs.Stage.{Next, goes_on, stops}
 use Rattle.cli_stages.specs.Tags.{Tags}
 use Rattle.cli_stages.proofs.Layers.{Schemas}

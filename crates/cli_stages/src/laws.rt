@@ -2,10 +2,10 @@
 ghost use Rattle.cli_stages.specs.Schema.{GivesAccepted};
 ghost use Rattle.cli_stages.specs.Stages.{Stages};
 
+use accepted_schema::laws::{accepted_has_no_refusal, accepted_or_refused, accepted_stays};
 use flat_records::laws::{
     form_or_none, one_form, one_reading, one_stop, read_or_stuck, reading_or_stop,
 };
-use accepted_schema::laws::{accepted_has_no_refusal, accepted_or_refused, accepted_stays};
 use tlb_grammar::laws::{at_most_one_answer, written_or_refused};
 use tlb_kinds::laws::{kept_stays_within, kinded_stays, passed_over};
 use tlb_syntax::laws::written_within_limits;
