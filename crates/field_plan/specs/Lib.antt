@@ -1,1 +1,4 @@
+pub mod Choosing
+pub mod ChoosingLaws
+pub mod Names
 pub mod Planned

@@ -1,1 +1,6 @@
+pub mod Edges
 pub mod Gives
+pub mod Shaped
+pub mod Slots
+pub mod StopLaws
+pub mod Stops
