@@ -1,7 +1,7 @@
 -- What the laws say, for every accepted schema: facts about the definitions alone. The schema stands in them by the
 -- core forms of its declarations without those that are passed over.
 use Rattle.std.specs.Prelude.{filter}
-use Rattle.std.specs.Prelude.{◌≡◌, ◌⊎◌, ℕ, List, Some, slice_get}
+use Rattle.std.specs.Prelude.{◌≡◌, ◌⊎◌, ℕ, List, Option, Some, slice_get}
 use Rattle.tlb_syntax.specs.Tree.{SchemaView}
 use Rattle.cell_nodes.specs.Constructed.{stub}
 use Rattle.cell_nodes.specs.Good.{IsGood}
@@ -17,11 +17,14 @@ use Rattle.accepted_schema.specs.Accepted.{IsAccepted, kept_cores}
 use Rattle.pruning.specs.Blanked.{Blanked}
 use Rattle.pruning.specs.Cut.{cut_root}
 use Rattle.pruning.specs.Knowing.{NamesSomething}
-use Rattle.pruning.specs.SpellsLaid.{LaidRoot, plain_root, IsLaidRoot}
+use Rattle.pruning.specs.SpellsLaid.{LaidRoot, plain_root, IsLaidRoot, LaidReading}
 use Rattle.pruning.specs.Names.{NamesFieldsApart}
 use Rattle.pruning.specs.Spots.{unless_kept, unkept, spots_of}
 use Rattle.pruning.specs.Thinned.{pruned_in, ReadsThinned}
 use Rattle.pruning_laws.specs.Laws.{Commutes, KnowsNamed}
+use Rattle.proof_laws.specs.Laws.{ExactlyOne, IsProofOf}
+use Rattle.proof_laws.specs.Proving.{proved, ProveAnswers}
+use Rattle.proof_laws.specs.Viewing.{ViewAnswers}
 
 -- no two fields of a record are shown by one name
 abbrev pub AcceptedNamesApart : Type 0
@@ -51,3 +54,28 @@ NamedIsKnown =
     → (paths : List (List Stride)) (i : ℕ) (path : List Stride) → slice_get paths i ≡ Some path
     → NamesSomething (plain_root r) path
     → KnowsNamed (plain_root r) (Blanked (plain_root r) (unkept paths (spots_of r))) path
+
+-- a root cell has at most one laid reading at a type
+abbrev pub OneLaid : Type 0
+OneLaid =
+    (s : SchemaView) → IsAccepted s → (t : Closed) (c : Tree) (r q : LaidRoot) → LaidReading (kept_cores s) t c r
+    → LaidReading (kept_cores s) t c q → r ≡ q
+
+-- making a proof has exactly one answer
+abbrev pub OneProveAnswer : Type 0
+OneProveAnswer =
+    (s : SchemaView) → IsAccepted s → (t : Closed) (c : Tree) (paths : List (List Stride))
+    → ExactlyOne (ProveAnswers (kept_cores s) t c paths)
+
+-- reading a proof has exactly one answer; the tree of a cell is good
+abbrev pub OneViewAnswer : Type 0
+OneViewAnswer =
+    (s : SchemaView) → IsAccepted s → (t : Closed) (c : Tree) → IsGood c → (root : Option (List ℕ))
+    → ExactlyOne (ViewAnswers (kept_cores s) t c root)
+
+-- What is proved is read as the value with just the references unknown that no path keeps, and with the tree's hash.
+abbrev pub ProveThenView : Type 0
+ProveThenView =
+    (s : SchemaView) → IsAccepted s → (t : Closed) (c : Tree) → IsGood c → (paths : List (List Stride)) (proof : Tree)
+    (shown : Plain) → ProveAnswers (kept_cores s) t c paths (proved proof shown)
+    → IsProofOf (kept_cores s) t c paths proof shown

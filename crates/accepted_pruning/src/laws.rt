@@ -1,6 +1,8 @@
 //! What follows from the definitions alone, for every accepted schema. Each function states one law.
-ghost use Rattle.accepted_pruning.specs.Laws.{AcceptedNamesApart, NamedIsKnown, PrunedTreeReads, PruningCommutes};
+ghost use Rattle.accepted_pruning.specs.Laws.{AcceptedNamesApart, NamedIsKnown, OneLaid, OneProveAnswer, OneViewAnswer};
+ghost use Rattle.accepted_pruning.specs.Laws.{ProveThenView, PrunedTreeReads, PruningCommutes};
 
+use accepted_spelling::laws::accepted_is_acceptable;
 use tlb_kinds::laws::kept_stays_within;
 
 /// In an accepted schema no two fields of a record are shown by one name.
@@ -34,4 +36,36 @@ pub fn named_is_known()
 {
     accepted_names_apart();
     pruning_laws::laws::named_is_known();
+}
+
+/// A root cell has at most one laid reading at a type.
+pub fn one_laid()
+    ensures { OneLaid }
+{
+    accepted_is_acceptable();
+    proof_laws::laws::one_laid();
+}
+
+/// Making a proof of chosen paths has exactly one answer.
+pub fn one_prove_answer()
+    ensures { OneProveAnswer }
+{
+    accepted_is_acceptable();
+    proof_laws::laws::one_prove_answer();
+}
+
+/// Reading a proof has exactly one answer.
+pub fn one_view_answer()
+    ensures { OneViewAnswer }
+{
+    accepted_is_acceptable();
+    proof_laws::laws::one_view_answer();
+}
+
+/// What is proved is read as the value with just the references unknown that no path keeps, and with the tree's hash.
+pub fn prove_then_view()
+    ensures { ProveThenView }
+{
+    accepted_names_apart();
+    proof_laws::laws::prove_then_view();
 }

@@ -143,9 +143,18 @@ fn texts_are_refused(rt: HostRuntime) {
     }
 }
 
-// A text of one part so many times, then others.
-fn repeated(rt: &impl Abort, alloc: Global, part: &str, count: usize, after: &str) -> Vec<u8> {
+// A text with one part so many times, between others.
+fn repeated(
+    rt: &impl Abort,
+    alloc: Global,
+    before: &str,
+    part: &str,
+    count: usize,
+    after: &str,
+) -> Vec<u8> {
     let mut text = Vec::new(alloc);
+    text.extend_from_slice(before.as_bytes())
+        .expect(rt, "memory");
     for _ in 0..count {
         text.extend_from_slice(part.as_bytes()).expect(rt, "memory");
     }
@@ -154,26 +163,34 @@ fn repeated(rt: &impl Abort, alloc: Global, part: &str, count: usize, after: &st
     text
 }
 
-// A part that opens a level, how many of them, what comes after them, and the refusal.
-static DEEP: [(&str, usize, &str, &str, u64); 8] = [
-    ("^", 2303, "~", "Ok", 0),
-    ("^", 2304, "~", "DeepText", 2304),
-    ("^", 2304, "x ", "Syntax", 2304),
-    ("[", 2304, "]", "Syntax", 2305),
-    ("[", 2304, "1", "DeepText", 2304),
-    ("[", 2305, "", "DeepText", 2304),
-    ("(x{},", 1025, "(", "DeepText", 5125),
-    ("(x{},", 1025, "1", "Syntax", 5125),
+// What comes before, a part and how many of it, what comes after, and the refusal.
+static LONG: [(&str, &str, usize, &str, &str, u64); 16] = [
+    ("", "^", 2303, "~", "Ok", 0),
+    ("", "^", 2304, "~", "DeepText", 2304),
+    ("", "^", 2304, "x ", "Syntax", 2304),
+    ("", "[", 2304, "]", "Syntax", 2305),
+    ("", "[", 2304, "1", "DeepText", 2304),
+    ("", "[", 2305, "", "DeepText", 2304),
+    ("", "(x{},", 1025, "(", "DeepText", 5125),
+    ("", "(x{},", 1025, "1", "Syntax", 5125),
+    ("", "(x{},", 1025, "!(x{})", "DeepText", 5125),
+    ("%(x{},", "(x{},", 1025, "(x{})", "DeepText", 5131),
+    ("[", "1,", 1_048_574, "1]", "Ok", 0),
+    ("[", "1,", 1_048_576, "", "BulkText", 2_097_151),
+    ("[", "(x{}),", 262_143, "(x{})]", "Ok", 0),
+    ("[", "(x{}),", 262_144, "(x{})]", "BulkText", 1_572_865),
+    ("%(x{}", ",(x{})", 262_144, ")", "Ok", 0),
+    ("%(x{}", ",(x{})", 262_145, ")", "BulkText", 1_572_870),
 ];
 
 #[test]
-fn deep_texts_are_refused(rt: HostRuntime) {
-    for (part, count, after, cause, place) in DEEP.iter() {
-        let text = repeated(&rt, rt.alloc(), part, *count, after);
+fn long_texts_are_refused(rt: HostRuntime) {
+    for (before, part, count, after, cause, place) in LONG.iter() {
+        let text = repeated(&rt, rt.alloc(), before, part, *count, after);
         let found = refused(&rt, rt.alloc(), text.as_slice());
         assert!(rt;
             found.0 == *cause && found.1 == *place,
-            "{count} of {part} and {after}"
+            "{before}, {count} of {part} and {after}"
         );
     }
 }

@@ -27,7 +27,7 @@ abbrev pub Hashes : List ℕ → Answer → Type 0
 Hashes bag = Next (BagStage bag) (λ root. Gives (level_lines root (level_of (mask root))))
 
 pub hashes_once : Stages → (bag : List ℕ) → IsStage (Hashes bag)
-hashes_once stages bag = next-stage (stages.bag bag) (λ root. last-stage _)
+hashes_once stages bag = next-stage (stages.bag bag) (λ root given. last-stage _)
 
 abbrev pub hash : Command
 hash = record {

@@ -7,42 +7,36 @@ use Rattle.cli_refusals.specs.Refusal.{Answer}
 use Rattle.cli_stages.specs.Bag.{Bag as BagStage}
 use Rattle.cli_stages.specs.Cell.{Cell}
 use Rattle.cli_stages.specs.FlatForm.{FlatForm}
-use Rattle.cli_stages.specs.Kinds.{Kinds}
-use Rattle.cli_stages.specs.SchemaText.{SchemaText}
+use Rattle.cli_stages.specs.Schema.{Schema}
 use Rattle.cli_stages.specs.Stage.{Gives, IsStage, Next}
 use Rattle.cli_stages.specs.StageLaws.{last-stage, next-stage}
 use Rattle.cli_stages.specs.Stages.{Stages}
-use Rattle.cli_stages.specs.Tags.{Tags}
 use Rattle.cli_stages.specs.TypeWord.{TypeWord as TypeStage}
 use Rattle.cli_commands.specs.Command.{Command, at}
-use Rattle.cli_commands.specs.declared.slot.Slot.TheVariants.{Schema, TypeWord, Bag}
+use Rattle.cli_commands.specs.declared.slot.Slot.TheVariants.{Schema as SchemaSlot, TypeWord, Bag}
 
 abbrev pub Reads : Name → List ℕ → List ℕ → Answer → Type 0
 Reads word schema bag =
-    Next (SchemaText schema) (λ tree.
-    Next (Kinds tree) (λ kept.
-    Next (Tags kept) (λ accepted.
+    Next (Schema schema) (λ accepted.
     Next (FlatForm schema) (λ declarations.
     Next (TypeStage word declarations) (λ declaration.
     Next (BagStage bag) (λ root.
     Next (Cell declaration root) (λ value.
-    Gives (line_of (text_of value)))))))))
+    Gives (line_of (text_of value)))))))
 
 pub reads_once : Stages → (word : Name) (schema bag : List ℕ) → IsStage (Reads word schema bag)
 reads_once stages word schema bag =
-    next-stage (stages.schema_text schema) (λ tree.
-    next-stage (stages.kinds tree) (λ kept.
-    next-stage (stages.tags kept) (λ accepted.
-    next-stage (stages.flat_form schema) (λ declarations.
-    next-stage (stages.type_word word declarations) (λ declaration.
-    next-stage (stages.bag bag) (λ root.
-    next-stage (stages.cell declaration root) (λ value.
-    last-stage _)))))))
+    next-stage (stages.schema schema) (λ accepted is_given.
+    next-stage (stages.flat_form schema) (λ declarations are_given.
+    next-stage (stages.type_word word declarations) (λ declaration is_declared.
+    next-stage (stages.bag bag) (λ root is_held.
+    next-stage (stages.cell declaration root) (λ value is_spelled.
+    last-stage _)))))
 
 abbrev pub read : Command
 read = record {
   word = codes "read";
-  slots = Schema ∷ TypeWord ∷ Bag ∷ [];
+  slots = SchemaSlot ∷ TypeWord ∷ Bag ∷ [];
   Answers = λ words contents. Reads (at words 1) (at contents 0) (at contents 1);
   answers_once = λ stages words contents. reads_once stages (at words 1) (at contents 0) (at contents 1);
 }

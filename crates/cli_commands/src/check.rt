@@ -6,9 +6,7 @@ ghost use Rattle.cli_commands.specs.Check.{Checks, count_line as line_of_counts}
 ghost use Rattle.cli_commands.specs.View.{text_by};
 
 use cli_stages::Stop;
-use cli_stages::kinds::kinds;
-use cli_stages::schema_text::schema_text;
-use cli_stages::tags::tags;
+use cli_stages::schema::accepted;
 use std::alloc::Global;
 use tag_ambiguity::Accepted;
 use tlb_memory::NoMemory;
@@ -26,9 +24,7 @@ pub fn check(alloc: Global, schema: &[u8]) -> Result<Vec<u8>, Stop>
     requires { length schema.now ≤ 1048576 }
     ensures { Answers (Checks schema.now) text_by result }
 {
-    let tree = schema_text(alloc, schema)?;
-    let kinded = kinds(alloc, tree)?;
-    let accepted = tags(alloc, kinded)?;
+    let accepted = accepted(alloc, schema)?;
     let text = count_line(alloc, &accepted)?;
     Ok(text)
 }

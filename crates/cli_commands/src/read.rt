@@ -11,9 +11,7 @@ use cli_stages::Stop;
 use cli_stages::bag::bag;
 use cli_stages::cell::cell_value;
 use cli_stages::flat_form::flat_form;
-use cli_stages::kinds::kinds;
-use cli_stages::schema_text::schema_text;
-use cli_stages::tags::tags;
+use cli_stages::schema::accepted;
 use cli_stages::type_word::type_word;
 use flat_records::print;
 use std::alloc::Global;
@@ -34,9 +32,7 @@ pub fn read(alloc: Global, schema: &[u8], word: &str, file: &[u8]) -> Result<Vec
     requires { length schema.now ≤ 1048576 }
     ensures { Answers (Reads word.now schema.now file.now) text_by result }
 {
-    let tree = schema_text(alloc, schema)?;
-    let kinded = kinds(alloc, tree)?;
-    tags(alloc, kinded)?;
+    accepted(alloc, schema)?;
     let declarations = flat_form(alloc, schema)?;
     let declaration = type_word(&declarations, word)?;
     let root = bag(alloc, file)?;

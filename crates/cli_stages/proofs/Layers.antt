@@ -14,6 +14,9 @@ use Rattle.tlb_grammar.specs.declared.error.GrammarError.{GrammarError}
 use Rattle.tlb_lexer.specs.Tokenization.{Tokenizes, TokenRefusal}
 use Rattle.tlb_lexer.specs.declared.LexError.{LexError}
 use Rattle.tlb_lexer.specs.declared.Token.{Token}
+use Rattle.accepted_schema.specs.Laws.{AcceptedHasNoRefusal, AcceptedOrRefused}
+use Rattle.tlb_kinds.specs.Laws.{KeptStaysWithin, KindedStays, PassedOver}
+use Rattle.tlb_syntax.specs.Limits.{IsWithinLimits}
 use Rattle.tlb_syntax.specs.Tree.{SchemaView}
 use Rattle.tlb_syntax.specs.Written.{Writes}
 use Rattle.typed_value.specs.Values.{Plain}
@@ -23,6 +26,14 @@ pub record Texts : Type 0 where
   pub refused : (text : List ℕ) (e f : GrammarError) → Refuses text e → Refuses text f → e ≡ f
   pub not_both : (text : List ℕ) (s : SchemaView) (e : GrammarError) → Writes text s → Refuses text e → ⊥
   pub some : (text : List ℕ) → ((s : SchemaView) × Writes text s) ⊎ ((e : GrammarError) × Refuses text e)
+
+pub record Schemas : Type 0 where
+  pub within : (text : List ℕ) (s : SchemaView) → Writes text s → IsWithinLimits s
+  pub stays_within : KeptStaysWithin
+  pub stays_kinded : KindedStays
+  pub passed_over : PassedOver
+  pub accepted_or_refused : AcceptedOrRefused
+  pub has_no_refusal : AcceptedHasNoRefusal
 
 pub record Forms : Type 0 where
   pub tokenized : (text : List ℕ) (a b : List Token) → Tokenizes text a → Tokenizes text b → a ≡ b

@@ -1,3 +1,4 @@
 mod Layers
 mod StageFacts
 mod Stopped
+mod Whole

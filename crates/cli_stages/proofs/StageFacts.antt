@@ -16,17 +16,19 @@ use Rattle.kind_declarations.specs.Faults.{first}
 use Rattle.tlb_grammar.specs.Answer.{Refuses}
 use Rattle.tlb_grammar.specs.declared.error.GrammarError.{GrammarError}
 use Rattle.tlb_kinds.specs.RefusalLaws.{refused_not_kinded}
-use Rattle.tlb_kinds.specs.Refusals.{kept_of, refusals}
+use Rattle.tlb_kinds.specs.Refusals.{IsKinded, kept_of, refusals}
 use Rattle.tlb_kinds.specs.declared.error.KindError.{KindError}
 use Rattle.tlb_lexer.specs.Tokenization.{Tokenizes, TokenRefusal}
 use Rattle.tlb_lexer.specs.declared.LexError.{LexError}
 use Rattle.tlb_lexer.specs.declared.Token.{Token}
+use Rattle.tlb_syntax.specs.Limits.{IsWithinLimits}
 use Rattle.tlb_syntax.specs.Tree.{SchemaView}
 use Rattle.tlb_syntax.specs.Written.{Writes}
 use Rattle.typed_value.specs.Values.{Plain}
 use Rattle.core_form.specs.Core.{Word}
 use Rattle.schema_leads.specs.Tags.{cores}
-use Rattle.accepted_schema.specs.Refusals.{TagRefusal, tag_too_long, ambiguous, first_of, tag_refusals}
+use Rattle.accepted_schema.specs.Accepted.{IsAccepted}
+use Rattle.accepted_schema.specs.Refusals.{TagRefusal, tag_too_long, ambiguous, first_of, first_tag_refusal, tag_refusals}
 use Rattle.tag_ambiguity.specs.Judged.{refusal_by}
 use Rattle.tag_ambiguity.specs.declared.error.TagError.{TagError}
 use Rattle.tag_ambiguity.specs.declared.error.TagError.TheVariants.{TagTooLong, Ambiguous, NoMemory as NoTagMemory}
@@ -38,11 +40,13 @@ use Rattle.cli_stages.specs.Bag.{Bag, RefusesBag}
 use Rattle.cli_stages.specs.Cell.{Cell, RefusesCell, exotic, stuck, SpellsValue}
 use Rattle.cli_stages.specs.FlatForm.{FlatForm, FormOf, RefusesForm}
 use Rattle.cli_stages.specs.Kinds.{Kinds, RefusesKinds}
+use Rattle.cli_stages.specs.Schema.{Schema}
 use Rattle.cli_stages.specs.SchemaText.{SchemaText, RefusesText}
 use Rattle.cli_stages.specs.Stage.{stage, IsAnswered, IsStageStatus, IsOnce, IsStage}
-use Rattle.cli_stages.specs.Tags.{Tags, IsTagRefusal, RefusesTags}
+use Rattle.cli_stages.specs.StageLaws.{next-stage}
+use Rattle.cli_stages.specs.Tags.{Tags, RefusesTags}
 use Rattle.cli_stages.specs.TypeWord.{TypeWord, RefusesWord}
-use Rattle.cli_stages.proofs.Layers.{Bags, Forms, Readings, Texts}
+use Rattle.cli_stages.proofs.Layers.{Bags, Forms, Readings, Schemas, Texts}
 
 some-same : {X : Type 0} (d e : X) (o : Option X) → o ≡ Some d → o ≡ Some e → d ≡ e
 some-same d e o a b = let same : Some d ≡ Some e = sym a ∙ b in cc
@@ -68,7 +72,7 @@ text-some : (text : List ℕ) → ((s : SchemaView) × Writes text s) ⊎ ((e : 
 text-some text (inl h) = (Ok h.0, h.1)
 text-some text (inr h) = (Err _, (h.0, h.1, refl))
 
-pub text-stage : Texts → (text : List ℕ) → IsStage (SchemaText text)
+text-stage : Texts → (text : List ℕ) → IsStage (SchemaText text)
 text-stage laws text = record {
   once = stage-once (RefusesText text) _
       (λ r s a b. a.2 ∙ ap (λ e. schema (Text e)) (laws.refused text a.0 b.0 a.1 b.1) ∙ sym b.2)
@@ -88,7 +92,7 @@ kinds-some : (s : SchemaView) → (refusals s ≡ []) ⊎ ((e : KindError) × (f
 kinds-some s (inl is) = (Ok (kept_of s), (is, refl))
 kinds-some s (inr h) = (Err _, (h.0, h.1, refl))
 
-pub kinds-stage : (s : SchemaView) → IsStage (Kinds s)
+kinds-stage : (s : SchemaView) → IsStage (Kinds s)
 kinds-stage s = record {
   once = stage-once (RefusesKinds s) _
       (λ r t a b. a.2 ∙ ap (λ e. schema (ByKinds e)) (some-same a.0 b.0 _ a.1 b.1) ∙ sym b.2)
@@ -125,20 +129,55 @@ reported-none rs (TagTooLong x c) none ne is = let same : None ≡ Some (tag_too
 reported-none rs (Ambiguous x c d) none ne is = let same : None ≡ Some (ambiguous x c d) = sym (ap first_of none) ∙ is in cc
 reported-none rs NoTagMemory none ne is = ne refl
 
-tags-some : (s : SchemaView) (rs : List TagRefusal) → tag_refusals (cores s) ≡ rs → IsAnswered (Tags s)
-tags-some s [] is = (Ok s, (is, refl))
-tags-some s (tag_too_long x c ∷ rs) is =
-    (Err (schema (ByTags (TagTooLong x c))), (TagTooLong x c, record { is_refusal = λ same. cc; first = ap first_of is; is = refl }))
-tags-some s (ambiguous x c d ∷ rs) is =
-    (Err (schema (ByTags (Ambiguous x c d))), (Ambiguous x c d, record { is_refusal = λ same. cc; first = ap first_of is; is = refl }))
+refused-by : (s : SchemaView) (r : TagRefusal) → first_tag_refusal (cores s) ≡ Some r → (q : Refusal) × RefusesTags s q
+refused-by s (tag_too_long x c) is =
+    (schema (ByTags (TagTooLong x c)), (TagTooLong x c, record { is_refusal = λ same. cc; first = is; is = refl }))
+refused-by s (ambiguous x c d) is =
+    (schema (ByTags (Ambiguous x c d)), (Ambiguous x c d, record { is_refusal = λ same. cc; first = is; is = refl }))
 
-pub tags-stage : (s : SchemaView) → IsStage (Tags s)
-tags-stage s = record {
+tags-by : (s : SchemaView) → IsAccepted s ⊎ ((r : TagRefusal) × (first_tag_refusal (cores s) ≡ Some r)) → IsAnswered (Tags s)
+tags-by s (inl accepted) = (Ok s, (accepted, refl))
+tags-by s (inr h) = let found = refused-by s h.0 h.1 in (Err found.0, found.1)
+
+-- what the stages before give: within the limits, without a refusal by its kinds, and nothing in it is passed over
+pub record IsJudgedByKinds (s : SchemaView) : Type 0 where
+  pub within : IsWithinLimits s
+  pub kinded : IsKinded s
+  pub kept : kept_of s ≡ s
+
+tags-some : Schemas → (s : SchemaView) → IsJudgedByKinds s → IsAnswered (Tags s)
+tags-some laws s is =
+    let P : SchemaView → Type 0 = λ x. IsAccepted s ⊎ ((r : TagRefusal) × (first_tag_refusal (cores x) ≡ Some r)) in
+    tags-by s (subst P is.kept (laws.accepted_or_refused s is.within is.kinded))
+
+no-refusal : Schemas → (s : SchemaView) → kept_of s ≡ s → IsAccepted s → tag_refusals (cores s) ≡ []
+no-refusal laws s kept accepted =
+    let P : SchemaView → Type 0 = λ x. tag_refusals (cores x) ≡ [] in subst P kept (laws.has_no_refusal s accepted)
+
+tags-stage : Schemas → (s : SchemaView) → IsJudgedByKinds s → IsStage (Tags s)
+tags-stage laws s is = record {
   once = stage-once (RefusesTags s) _ (tags-same s) (λ k l a b. a.1 ∙ sym b.1)
-      (λ r kept a b. reported-none (tag_refusals (cores s)) a.0 b.0 a.1.is_refusal a.1.first);
-  answered = tags-some s (tag_refusals (cores s)) refl;
+      (λ r accepted a b. reported-none (tag_refusals (cores s)) a.0 (no-refusal laws s is.kept b.0) a.1.is_refusal a.1.first);
+  answered = tags-some laws s is;
   refuses = λ r given. judged-as r _ given.1.is tt;
 }
+
+-- ---- all three
+
+kept-judged : Schemas → (text : List ℕ) (tree kept : SchemaView) → Writes text tree → Kinds tree (Ok kept) → IsJudgedByKinds kept
+kept-judged laws text tree kept writes given =
+    let P : SchemaView → Type 0 = IsJudgedByKinds in
+    subst P (sym given.1) (record {
+      within = laws.stays_within tree (laws.within text tree writes);
+      kinded = laws.stays_kinded tree given.0;
+      kept = laws.passed_over tree;
+    })
+
+pub schema-stage : Texts → Schemas → (text : List ℕ) → IsStage (Schema text)
+schema-stage texts laws text =
+    next-stage (text-stage texts text) (λ tree writes.
+    next-stage (kinds-stage tree) (λ kept given.
+    tags-stage laws kept (kept-judged laws text tree kept writes given)))
 
 -- ---- its form
 

@@ -2,6 +2,7 @@ pub mod Bag
 pub mod Cell
 pub mod FlatForm
 pub mod Kinds
+pub mod Schema
 pub mod SchemaText
 pub mod Stage
 pub mod StageLaws

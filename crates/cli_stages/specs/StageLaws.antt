@@ -19,7 +19,7 @@ refusal-no_result : {X : Type 0} (r : Refusal) (x : X) (a b : Result X Refusal) 
 refusal-no_result r x a b p q same = let both : Err r ≡ Ok x = sym p ∙ same ∙ q in grind arith
 
 next-once : {X Y : Type 0} (first : Result X Refusal → Type 0) (next : X → Result Y Refusal → Type 0) → IsOnce first
-    → ((x : X) → IsOnce (next x)) → IsOnce (Next first next)
+    → ((x : X) → first (Ok x) → IsOnce (next x)) → IsOnce (Next first next)
 next-once first next one others a b (stops r h is) (stops s k same) =
     is ∙ ap Err (refusals-same r s (Err r) (Err s) refl refl (one (Err r) (Err s) h k)) ∙ sym same
 next-once first next one others a b (stops r h is) (goes_on x k answers) =
@@ -28,14 +28,14 @@ next-once first next one others a b (goes_on x h answers) (stops r k is) =
     absurd (refusal-no_result r x (Err r) (Ok x) refl refl (one (Err r) (Ok x) k h))
 next-once {X = X} first next one others a b (goes_on x h answers) (goes_on y k others_answer) =
     let P : X → Type 0 = λ z. next z a in
-    others y a b (subst P (results-same x y (Ok x) (Ok y) refl refl (one (Ok x) (Ok y) h k)) answers) others_answer
+    others y k a b (subst P (results-same x y (Ok x) (Ok y) refl refl (one (Ok x) (Ok y) h k)) answers) others_answer
 
 -- ---- some answer
 
 next-by : {X Y : Type 0} (first : Result X Refusal → Type 0) (next : X → Result Y Refusal → Type 0)
-    (a : Result X Refusal) → first a → ((x : X) → IsAnswered (next x)) → IsAnswered (Next first next)
+    (a : Result X Refusal) → first a → ((x : X) → first (Ok x) → IsAnswered (next x)) → IsAnswered (Next first next)
 next-by first next (Err refusal) given others = (Err refusal, stops refusal given refl)
-next-by first next (Ok x) given others = let rest = others x in (rest.0, goes_on x given rest.1)
+next-by first next (Ok x) given others = let rest = others x given in (rest.0, goes_on x given rest.1)
 
 -- ---- its refusals
 
@@ -47,21 +47,22 @@ no-result r x a p q = let same : Err r ≡ Ok x = p ∙ q in grind arith
 
 next-refuses : {X Y : Type 0} (first : Result X Refusal → Type 0) (next : X → Result Y Refusal → Type 0)
     → ((r : Refusal) → first (Err r) → IsStageStatus (status_of r))
-    → ((x : X) (r : Refusal) → next x (Err r) → IsStageStatus (status_of r))
+    → ((x : X) → first (Ok x) → (r : Refusal) → next x (Err r) → IsStageStatus (status_of r))
     → (r : Refusal) → Next first next (Err r) → IsStageStatus (status_of r)
 next-refuses first next one others r (stops s given is) =
     let P : Refusal → Type 0 = λ x. IsStageStatus (status_of x) in
     subst P (sym (same-refusal r s _ is refl)) (one s given)
-next-refuses first next one others r (goes_on x given answers) = others x r answers
+next-refuses first next one others r (goes_on x given answers) = others x given r answers
 
 -- ---- stages
 
+-- the next one is a stage of what the first gives
 pub next-stage : {X Y : Type 0} {first : Result X Refusal → Type 0} {next : X → Result Y Refusal → Type 0}
-    → IsStage first → ((x : X) → IsStage (next x)) → IsStage (Next first next)
+    → IsStage first → ((x : X) → first (Ok x) → IsStage (next x)) → IsStage (Next first next)
 next-stage {first = first} {next = next} one others = record {
-  once = next-once first next one.once (λ x. (others x).once);
-  answered = next-by first next one.answered.0 one.answered.1 (λ x. (others x).answered);
-  refuses = next-refuses first next one.refuses (λ x. (others x).refuses);
+  once = next-once first next one.once (λ x given. (others x given).once);
+  answered = next-by first next one.answered.0 one.answered.1 (λ x given. (others x given).answered);
+  refuses = next-refuses first next one.refuses (λ x given. (others x given).refuses);
 }
 
 pub last-stage : {X : Type 0} (x : X) → IsStage (Gives x)

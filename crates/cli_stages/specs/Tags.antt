@@ -1,8 +1,9 @@
 -- The stage of a schema's tags and leads.
-use Rattle.std.specs.Prelude.{◌≡◌, ◌≢◌, [], Result}
+use Rattle.std.specs.Prelude.{◌≡◌, ◌≢◌, Result}
 use Rattle.tlb_syntax.specs.Tree.{SchemaView}
 use Rattle.schema_leads.specs.Tags.{cores}
-use Rattle.accepted_schema.specs.Refusals.{first_tag_refusal, tag_refusals}
+use Rattle.accepted_schema.specs.Accepted.{IsAccepted}
+use Rattle.accepted_schema.specs.Refusals.{first_tag_refusal}
 use Rattle.tag_ambiguity.specs.Judged.{refusal_by}
 use Rattle.tag_ambiguity.specs.declared.error.TagError.{TagError}
 use Rattle.tag_ambiguity.specs.declared.error.TagError.TheVariants.{NoMemory}
@@ -19,6 +20,6 @@ pub record IsTagRefusal (s : SchemaView) (refusal : Refusal) (error : TagError) 
 abbrev pub RefusesTags : SchemaView → Refusal → Type 0
 RefusesTags s refusal = (error : TagError) × IsTagRefusal s refusal error
 
--- or it has none, and is given
+-- or it is accepted, and is given
 abbrev pub Tags : SchemaView → Result SchemaView Refusal → Type 0
-Tags s = stage (RefusesTags s) (λ accepted. (tag_refusals (cores s) ≡ []) × (accepted ≡ s))
+Tags s = stage (RefusesTags s) (λ accepted. IsAccepted s × (accepted ≡ s))

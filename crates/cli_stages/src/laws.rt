@@ -1,10 +1,14 @@
 //! Laws of the stages: functions of no parameters, whose contracts speak of the definitions alone.
+ghost use Rattle.cli_stages.specs.Schema.{GivesAccepted};
 ghost use Rattle.cli_stages.specs.Stages.{Stages};
 
+use accepted_schema::laws::{accepted_has_no_refusal, accepted_or_refused, accepted_stays};
 use flat_records::laws::{
     form_or_none, one_form, one_reading, one_stop, read_or_stuck, reading_or_stop,
 };
 use tlb_grammar::laws::{at_most_one_answer, written_or_refused};
+use tlb_kinds::laws::{kept_stays_within, kinded_stays, passed_over};
+use tlb_syntax::laws::written_within_limits;
 
 /// Each stage refuses or gives something, once.
 pub fn each_stage_answers_once()
@@ -12,6 +16,13 @@ pub fn each_stage_answers_once()
 {
     at_most_one_answer();
     written_or_refused();
+    written_within_limits();
+    kept_stays_within();
+    kinded_stays();
+    passed_over();
+    accepted_or_refused();
+    accepted_has_no_refusal();
+    accepted_stays();
     tlb_lexer::laws::at_most_one();
     tlb_lexer::laws::at_least_one();
     one_form();
@@ -22,4 +33,17 @@ pub fn each_stage_answers_once()
     one_stop();
     read_or_stuck();
     reading_or_stop();
+}
+
+/// The stage of a schema gives it exactly where the text writes it and it is accepted.
+pub fn gives_accepted()
+    ensures { GivesAccepted }
+{
+    written_within_limits();
+    kept_stays_within();
+    kinded_stays();
+    passed_over();
+    accepted_or_refused();
+    accepted_has_no_refusal();
+    accepted_stays();
 }

@@ -4,11 +4,12 @@
 pub mod bag;
 pub mod cell;
 pub mod flat_form;
-pub mod kinds;
+mod kinds;
 pub mod laws;
-pub mod schema_text;
+pub mod schema;
+mod schema_text;
 mod stop;
-pub mod tags;
+mod tags;
 pub mod type_word;
 
 pub use stop::Stop;

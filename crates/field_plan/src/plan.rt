@@ -1,6 +1,8 @@
 //! Plans.
 ghost use Rattle.std.specs.Prelude.{◌≡◌, ◌<◌, IfOk, IsTrue, Some, is_some, length, map, option_map};
 ghost use Rattle.std.specs.Prelude.{slice_get};
+ghost use Rattle.accepted_schema.specs.Accepted.{IsAccepted};
+ghost use Rattle.tlb_kinds.specs.Refusals.{kept_of};
 ghost use Rattle.tlb_syntax.specs.View.{schema as schema_view};
 ghost use Rattle.core_form.specs.Closing.{close};
 ghost use Rattle.core_form.specs.Core.{Declaration};
@@ -33,6 +35,7 @@ use std::alloc::Global;
 use std::marker::Model;
 use tag_ambiguity::Accepted;
 use tlb_memory::NoMemory;
+use tlb_syntax::Schema;
 use type_index::TypeIndex;
 
 /// The plan of an accepted schema. Contracts see it as the schema, the lists, and what each constructor has beside
@@ -92,6 +95,15 @@ impl Plan {
         ensures planned { Planned (schema_view self.now.0) result.now self.now.2 }
     {
         &self.compiled.flat
+    }
+
+    /// The schema.
+    pub fn schema(&self) -> &Schema
+        ensures same { result.now ≡ self.now.0 }
+        ensures accepted { IsAccepted (schema_view self.now.0) }
+        ensures kept { kept_of (schema_view self.now.0) ≡ schema_view self.now.0 }
+    {
+        self.accepted.schema()
     }
 
     /// The types of the schema by their names.
@@ -237,6 +249,7 @@ impl Plan {
     }
 
     /// The closed type of a type of the lists, with the numbers and closed types of these slots; outputs are left out.
+    /// Overflow comes where a number exceeds 2^32 - 1, and also of a slot that is not set and of a record.
     pub fn close_type(
         &self,
         alloc: Global,

@@ -83,9 +83,9 @@ impl Slots {
                 self.set_type(alloc, *slot, t)?;
                 Ok(true)
             }
-            (PlanInput::Nat(_), ClosedArg::Ty(_)) | (PlanInput::Ty(_), ClosedArg::Nat(_)) => Ok(
-                false,
-            ),
+            (PlanInput::Nat(_), ClosedArg::Ty(_)) | (PlanInput::Ty(_), ClosedArg::Nat(_)) => {
+                Ok(false)
+            }
         }
     }
 }

@@ -1,4 +1,5 @@
-//! The leaves of a reader that goes by a flat plan: numbers, bits, widths, conditions, shapes and slots, and where it stops.
+//! The leaves of a reader that goes by a flat plan: numbers, bits, widths, conditions, shapes and slots, the cells of
+//! dictionaries, and where it stops.
 #![tactic(auto)]
 
 mod edges;

@@ -65,7 +65,8 @@ fn group(flat: &Flat, ty: u32) -> Option<(u32, u32)>
 fn inner_record(flat: &Flat, ty: u32) -> Option<FlatShape>
     requires flat { IsFlat flat.now }
     requires there { ty < length flat.now.types }
-    ensures is { (scope : Scope) → IfSome result (λ x. goals.laid (type_at flat.now ty) scope ≡ Ok (shape_view flat.now scope x)) }
+    ensures is { (scope : Scope) → IfSome result (λ x. goals.laid (type_at flat.now ty) scope
+        ≡ Ok (shape_view flat.now scope x)) }
     ensures sound { IfSome result (LaidIsSound flat.now ty) }
     ensures none { (scope : Scope) → IfNone result (goals.laid (type_at flat.now ty) scope
         ≡ goals.typed_or (close (type_at flat.now ty) scope)) }
@@ -133,7 +134,8 @@ pub fn shape(
     requires there { ty < length flat.now.types }
     requires condition { GovernIsSound flat.now condition }
     ensures shapes { Shapes flat.now (scope_of env.now types.now) result
-        (goals.shape_of (goals.at_field (governed flat.now condition) (type_at flat.now ty) (scope_of env.now types.now))) }
+        (goals.shape_of
+        (goals.at_field (governed flat.now condition) (type_at flat.now ty) (scope_of env.now types.now))) }
     ensures sound { IfOk result (ShapeIsSound flat.now ty) }
 {
     let Some((number, bit)) = condition else {

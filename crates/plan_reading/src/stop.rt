@@ -19,8 +19,9 @@ pub struct Entered {
 }
 
 /// Where a reading stopped, as it is seen from where a call began: the innermost constructor that was entered since, if
-/// any, the path after it, the innermost part first, and the cause. So nothing is kept of places while a reading goes on,
-/// and a stop takes a part at each field that it leaves.
+/// any, the path after it, the innermost part first, and the cause.
+///
+/// So nothing is kept of places while a reading goes on, and a stop takes a part at each field that it leaves.
 #[derive(Drop)]
 pub struct Stop {
     pub entered: Option<Entered>,

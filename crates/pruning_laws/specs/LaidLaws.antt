@@ -26,8 +26,8 @@ use Rattle.spelling.specs.declared.Cause.TheVariants.{Width}
 use Rattle.pruning.specs.Laid.{Laid, number, bit_string, record_of, absent, list_of, ref_to, ref_to_raw, no_map}
 use Rattle.pruning.specs.Laid.{map_under, map_here, rest, Laids, no_laids, a_laid, LaidEdge, a_leaf, a_fork, join}
 use Rattle.pruning.specs.Laid.{below, plain, plain_all, plain_pairs}
-use Rattle.pruning.specs.SpellsLaid.{EdgeCell, SpellsLaidShape, SpellsLaid, EachLaid, SpellsEdge, LaidRoot, as_it_is, laid as laid_root}
-use Rattle.pruning.specs.SpellsLaid.{plain_root, IsLaidRoot}
+use Rattle.pruning.specs.SpellsLaid.{EdgeCell, SpellsLaidShape, SpellsLaid, EachLaid, SpellsEdge, LaidRoot, as_it_is}
+use Rattle.pruning.specs.SpellsLaid.{laid as laid_root, plain_root, IsLaidRoot}
 
 -- ---- only the cell of a reference is taken as it is
 

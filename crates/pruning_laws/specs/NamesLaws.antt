@@ -19,7 +19,8 @@ use Rattle.spelling.specs.declared.Cause.{Cause}
 use Rattle.spelling.specs.declared.Cause.TheVariants.{Width}
 use Rattle.pruning.specs.Laid.{Laid, number, bit_string, record_of, absent, list_of, ref_to, ref_to_raw, no_map}
 use Rattle.pruning.specs.Laid.{map_under, map_here, rest, Laids, no_laids, a_laid, LaidEdge, a_leaf, a_fork}
-use Rattle.pruning.specs.SpellsLaid.{SpellsLaidShape, SpellsLaid, EachLaid, SpellsEdge, LaidRoot, as_it_is, laid as laid_root, IsLaidRoot}
+use Rattle.pruning.specs.SpellsLaid.{SpellsLaidShape, SpellsLaid, EachLaid, SpellsEdge, LaidRoot, as_it_is, IsLaidRoot}
+use Rattle.pruning.specs.SpellsLaid.{laid as laid_root}
 use Rattle.pruning.specs.Names.{AreApart, AreApartIn, NamesFieldsApart}
 use Rattle.pruning_laws.specs.PlaceLaws.{NamesApart, FieldsApart, ItemsApart, EdgeApart}
 use Rattle.pruning_laws.specs.BlankedLaws.{RootApart}

@@ -2,15 +2,11 @@
 #![tactic(auto)]
 
 #[cfg(test)]
-mod closing_rows;
-#[cfg(test)]
 mod dictionary_lines;
 #[cfg(test)]
 mod judgements;
 #[cfg(test)]
 mod lead_rows;
-#[cfg(test)]
-mod plan_rows;
 #[cfg(test)]
 mod records;
 #[cfg(test)]
@@ -21,7 +17,5 @@ mod terms;
 mod texts;
 #[cfg(test)]
 mod token_rows;
-#[cfg(test)]
-mod type_words;
 #[cfg(test)]
 mod verdicts;

@@ -16,11 +16,11 @@ use Rattle.value_text.specs.Text.{cell, name_of, separated}
 use Rattle.value_text.specs.Tokens.{Token, mark, number, bits, name, hidden}
 use Rattle.value_text.specs.Lexemes.{sign_byte}
 use Rattle.value_text.specs.Division.{lexeme_of}
-use Rattle.value_grammar.specs.Open.{CellSpot, Frame, Open, Part, Spot, after_entry, after_field, after_item, after_part, after_rest, at, bang, base_text, bits_due, body_text, cell_spot_text, child_due, done, due, entry_due, entry_or_end, entry_tokens, field, field_due, field_or_end, field_tokens, frame_text, frames_text, in_cell, item, item_or_end, item_tokens, keyed, labelled, named, pair, paren_due, part_text, parts_text, past, rest_bits, rest_child, rest_paren, so_far}
+use Rattle.value_grammar.specs.Open.{CellSpot, Frame, Open, OpenCell, Spot, after_entry, after_field, after_item, after_part, after_rest, at, bang, base_text, bits_due, body_text, cell_spot_text, child_due, done, due, entry_due, entry_or_end, entry_tokens, field, field_due, field_or_end, field_tokens, frame_text, frames_text, in_cell, item, item_or_end, item_tokens, keyed, labelled, named, pair, paren_due, open_cell_text, around_text, past, rest_bits, rest_child, rest_paren, so_far}
 use Rattle.value_grammar.specs.declared.cause.Cause.{Cause}
 use Rattle.value_grammar.specs.declared.cause.Cause.TheVariants.{DeepText, Range}
 use Rattle.value_grammar.specs.Within.{IsSome, closed, closed_exotic, closed_ordinary, is_beyond}
-use Rattle.value_grammar.specs.Steps.{Outcome, begin, begin_cell, begin_part, begin_rest, begin_sign, colon, entry, give_cell, give_closed, in_list, in_map, in_part, in_record, in_rest, key, key_or_end, label, label_or_end, list_or_end, move, move_cell, no_go, open_exotic, open_record, open_rest, the_map, the_record}
+use Rattle.value_grammar.specs.Steps.{Outcome, begin, begin_cell, begin_body, begin_rest, begin_sign, colon, entry, give_cell, give_closed, in_list, in_map, in_body, in_record, in_rest, key, key_or_end, label, label_or_end, list_or_end, move, move_cell, no_go, open_exotic, open_record, open_rest, the_map, the_record}
 use Rattle.value_grammar.proofs.Texts.{HasSome, MapOrder, NoneAfter, body_text-push, cell_text, give_text, hidden-push, past-separated, separated-push}
 
 abbrev pub token_of : Lexeme → Token
@@ -219,30 +219,30 @@ in_rest_adds r l p below h = tt
 -- ---- cells
 
 -- what is around a cell
-abbrev around : Option Slice → List Part → List Frame → List Token
-around base ps below = frames_text below ++ (base_text base ++ parts_text ps)
+abbrev around : Option Slice → List OpenCell → List Frame → List Token
+around base ps below = frames_text below ++ (base_text base ++ around_text ps)
 
-inner : (base : Option Slice) (ps : List Part) (below : List Frame) (c t : List Token)
-    → frames_text below ++ (base_text base ++ parts_text ps ++ (c ++ t)) ≡ (frames_text below ++ (base_text base ++ parts_text ps ++ c)) ++ t
+inner : (base : Option Slice) (ps : List OpenCell) (below : List Frame) (c t : List Token)
+    → frames_text below ++ (base_text base ++ around_text ps ++ (c ++ t)) ≡ (frames_text below ++ (base_text base ++ around_text ps ++ c)) ++ t
 inner base ps below c t = simp append_assoc refl
 
-begin_cell_adds : (base : Option Slice) (ps : List Part) (l : Lexeme) (p : ℕ) (below : List Frame)
+begin_cell_adds : (base : Option Slice) (ps : List OpenCell) (l : Lexeme) (p : ℕ) (below : List Frame)
     → Adds (begin_cell base ps l p below) (around base ps below) l
-begin_cell_adds base ps (ASign OpenParen) p below = sym (append_assoc (frames_text below) (base_text base ++ parts_text ps) (mark 40 ∷ []))
-begin_cell_adds base ps (ASign Bang) p below = sym (append_assoc (frames_text below) (base_text base ++ parts_text ps) (mark 33 ∷ []))
+begin_cell_adds base ps (ASign OpenParen) p below = sym (append_assoc (frames_text below) (base_text base ++ around_text ps) (mark 40 ∷ []))
+begin_cell_adds base ps (ASign Bang) p below = sym (append_assoc (frames_text below) (base_text base ++ around_text ps) (mark 33 ∷ []))
 begin_cell_adds base ps l p below = tt
 
-open_exotic_adds : (base : Option Slice) (ps : List Part) (l : Lexeme) (p : ℕ) (below : List Frame)
-    → Adds (open_exotic base ps l p below) (frames_text below ++ (base_text base ++ parts_text ps ++ mark 33 ∷ [])) l
+open_exotic_adds : (base : Option Slice) (ps : List OpenCell) (l : Lexeme) (p : ℕ) (below : List Frame)
+    → Adds (open_exotic base ps l p below) (frames_text below ++ (base_text base ++ around_text ps ++ mark 33 ∷ [])) l
 open_exotic_adds base ps (ASign OpenParen) p below = inner base ps below (mark 33 ∷ []) (mark 40 ∷ [])
 open_exotic_adds base ps l p below = tt
 
-begin_part_adds : (base : Option Slice) (ps : List Part) (exotic : Bool) (paren : ℕ) (l : Lexeme) (p : ℕ) (below : List Frame)
-    → Adds (begin_part base ps exotic paren l p below) (frames_text below ++ (base_text base ++ parts_text ps ++ (bang exotic ++ mark 40 ∷ []))) l
-begin_part_adds base ps exotic paren (Bits bs) p below =
-    ap (λ (l : List Token). frames_text below ++ (base_text base ++ parts_text ps ++ l)) (sym (append_assoc (bang exotic) (mark 40 ∷ []) (bits bs ∷ [])))
+begin_body_adds : (base : Option Slice) (ps : List OpenCell) (exotic : Bool) (paren : ℕ) (l : Lexeme) (p : ℕ) (below : List Frame)
+    → Adds (begin_body base ps exotic paren l p below) (frames_text below ++ (base_text base ++ around_text ps ++ (bang exotic ++ mark 40 ∷ []))) l
+begin_body_adds base ps exotic paren (Bits bs) p below =
+    ap (λ (l : List Token). frames_text below ++ (base_text base ++ around_text ps ++ l)) (sym (append_assoc (bang exotic) (mark 40 ∷ []) (bits bs ∷ [])))
     ∙ inner base ps below (bang exotic ++ mark 40 ∷ []) (bits bs ∷ [])
-begin_part_adds base ps exotic paren l p below = tt
+begin_body_adds base ps exotic paren l p below = tt
 
 abbrev IfMade : Result Tree Cause → (Tree → Type 0) → Type 0
 IfMade (Ok t) P = P t
@@ -278,24 +278,24 @@ kind_exotic bs n kind =
     (exotic_test (has_layout Proof bs n) Proof kind _ refl
     (exotic_test (has_layout Update bs n) Update kind None refl (λ e. absurd (cc)))))
 
-part_closed_text : (exotic : Bool) (bs : List ℕ) (refs : List Tree)
+whole_text : (exotic : Bool) (bs : List ℕ) (refs : List Tree)
     → IfMade (if exotic then closed_exotic (exotic_kind bs (length refs)) bs refs else closed_ordinary bs refs) (λ t. cell t ≡ (bang exotic ++ body_text bs refs) ++ mark 41 ∷ [])
-part_closed_text true bs refs = exotic_text (exotic_kind bs (length refs)) bs refs (kind_exotic bs (length refs))
-part_closed_text false bs refs = ordinary_text bs refs
+whole_text true bs refs = exotic_text (exotic_kind bs (length refs)) bs refs (kind_exotic bs (length refs))
+whole_text false bs refs = ordinary_text bs refs
 
-pub closed_text : (p : Part) → IfMade (closed p) (λ t. cell t ≡ (bang p.exotic ++ body_text p.bits p.refs) ++ mark 41 ∷ [])
-closed_text p = part_closed_text p.exotic p.bits p.refs
+pub closed_text : (p : OpenCell) → IfMade (closed p) (λ t. cell t ≡ (bang p.exotic ++ body_text p.bits p.refs) ++ mark 41 ∷ [])
+closed_text p = whole_text p.exotic p.bits p.refs
 
 -- one more reference, after a comma
 push_text : (f b p g m c : List Token) → f ++ (b ++ p ++ (g ++ (m ++ mark 44 ∷ c))) ≡ (f ++ (b ++ (p ++ (g ++ m ++ mark 44 ∷ [])))) ++ c
 push_text f b p g m c = simp append_assoc refl
 
 -- a whole cell in what is around it
-give_cell_text : (t : Tree) (base : Option Slice) (ps : List Part) (below : List Frame) → MapOrder below
+give_cell_text : (t : Tree) (base : Option Slice) (ps : List OpenCell) (below : List Frame) → MapOrder below
     → so_far (give_cell t base ps below) ≡ around base ps below ++ cell t
 give_cell_text t base (q ∷ qs) below h =
-    ap (λ (l : List Token). frames_text below ++ (base_text base ++ parts_text qs ++ (bang q.exotic ++ l))) (body_text-push q.bits q.refs t)
-    ∙ push_text (frames_text below) (base_text base) (parts_text qs) (bang q.exotic) (body_text q.bits q.refs) (cell t)
+    ap (λ (l : List Token). frames_text below ++ (base_text base ++ around_text qs ++ (bang q.exotic ++ l))) (body_text-push q.bits q.refs t)
+    ∙ push_text (frames_text below) (base_text base) (around_text qs) (bang q.exotic) (body_text q.bits q.refs) (cell t)
 give_cell_text t None [] below h = give_text (raw t) below h ∙ ap (λ (l : List Token). l ++ cell t) (sym (append-nil (frames_text below)))
 give_cell_text t (Some r) [] below h =
     let e : frames_text below ++ mark 37 ∷ (body_text r.bits r.refs ++ mark 44 ∷ cell t) ≡ (frames_text below ++ base_text (Some r)) ++ cell t =
@@ -303,25 +303,25 @@ give_cell_text t (Some r) [] below h =
     ap (λ (l : List Token). frames_text below ++ mark 37 ∷ l) (body_text-push r.bits r.refs t) ∙ e
     ∙ ap (λ (l : List Token). (frames_text below ++ l) ++ cell t) (sym (append-nil (base_text (Some r))))
 
-give_closed_adds : (r : Result Tree Cause) (c : List Token) (paren : ℕ) (base : Option Slice) (ps : List Part) (below : List Frame) → MapOrder below
+give_closed_adds : (r : Result Tree Cause) (c : List Token) (paren : ℕ) (base : Option Slice) (ps : List OpenCell) (below : List Frame) → MapOrder below
     → IfMade r (λ t. cell t ≡ c ++ mark 41 ∷ [])
-    → Adds (give_closed r paren base ps below) (frames_text below ++ (base_text base ++ parts_text ps ++ c)) (ASign CloseParen)
+    → Adds (give_closed r paren base ps below) (frames_text below ++ (base_text base ++ around_text ps ++ c)) (ASign CloseParen)
 give_closed_adds (Ok t) c paren base ps below h e =
     give_cell_text t base ps below h ∙ ap (λ (l : List Token). around base ps below ++ l) e ∙ simp append_assoc refl
 give_closed_adds (Err cause) c paren base ps below h e = tt
 
-in_part_adds : (base : Option Slice) (ps : List Part) (q : Part) (l : Lexeme) (p : ℕ) (below : List Frame) → MapOrder below
-    → Adds (in_part base ps q l p below) (frames_text below ++ (base_text base ++ parts_text ps ++ (bang q.exotic ++ body_text q.bits q.refs))) l
-in_part_adds base ps q (ASign Comma) p below h = inner base ps below (bang q.exotic ++ body_text q.bits q.refs) (mark 44 ∷ [])
-in_part_adds base ps q (ASign CloseParen) p below h =
+in_body_adds : (base : Option Slice) (ps : List OpenCell) (q : OpenCell) (l : Lexeme) (p : ℕ) (below : List Frame) → MapOrder below
+    → Adds (in_body base ps q l p below) (frames_text below ++ (base_text base ++ around_text ps ++ (bang q.exotic ++ body_text q.bits q.refs))) l
+in_body_adds base ps q (ASign Comma) p below h = inner base ps below (bang q.exotic ++ body_text q.bits q.refs) (mark 44 ∷ [])
+in_body_adds base ps q (ASign CloseParen) p below h =
     give_closed_adds (closed q) (bang q.exotic ++ body_text q.bits q.refs) q.place base ps below h (closed_text q)
-in_part_adds base ps q l p below h = tt
+in_body_adds base ps q l p below h = tt
 
-child_adds : (base : Option Slice) (ps : List Part) (q : Part) (l : Lexeme) (p : ℕ) (below : List Frame)
-    → Adds (begin_cell base (q ∷ ps) l p below) (frames_text below ++ (base_text base ++ parts_text ps ++ part_text q)) l
+child_adds : (base : Option Slice) (ps : List OpenCell) (q : OpenCell) (l : Lexeme) (p : ℕ) (below : List Frame)
+    → Adds (begin_cell base (q ∷ ps) l p below) (frames_text below ++ (base_text base ++ around_text ps ++ open_cell_text q)) l
 child_adds base ps q l p below =
     let P : List Token → Type 0 = λ t. Adds (begin_cell base (q ∷ ps) l p below) (frames_text below ++ t) l in
-    subst P (sym (append_assoc (base_text base) (parts_text ps) (part_text q))) (begin_cell_adds base (q ∷ ps) l p below)
+    subst P (sym (append_assoc (base_text base) (around_text ps) (open_cell_text q))) (begin_cell_adds base (q ∷ ps) l p below)
 
 rest_child_adds : (r : Slice) (l : Lexeme) (p : ℕ) (below : List Frame)
     → Adds (begin_cell (Some r) [] l p below) (frames_text below ++ (mark 37 ∷ body_text r.bits r.refs ++ mark 44 ∷ [])) l
@@ -329,11 +329,11 @@ rest_child_adds r l p below =
     let P : List Token → Type 0 = λ t. Adds (begin_cell (Some r) [] l p below) (frames_text below ++ t) l in
     subst P (append-nil (base_text (Some r))) (begin_cell_adds (Some r) [] l p below)
 
-cell_adds : (base : Option Slice) (ps : List Part) (c : CellSpot) (l : Lexeme) (p : ℕ) (below : List Frame) → MapOrder below
-    → Adds (move_cell base ps c l p below) (frames_text below ++ (base_text base ++ parts_text ps ++ cell_spot_text c)) l
+cell_adds : (base : Option Slice) (ps : List OpenCell) (c : CellSpot) (l : Lexeme) (p : ℕ) (below : List Frame) → MapOrder below
+    → Adds (move_cell base ps c l p below) (frames_text below ++ (base_text base ++ around_text ps ++ cell_spot_text c)) l
 cell_adds base ps paren_due l p below h = open_exotic_adds base ps l p below
-cell_adds base ps (bits_due exotic paren) l p below h = begin_part_adds base ps exotic paren l p below
-cell_adds base ps (after_part q) l p below h = in_part_adds base ps q l p below h
+cell_adds base ps (bits_due exotic paren) l p below h = begin_body_adds base ps exotic paren l p below
+cell_adds base ps (after_part q) l p below h = in_body_adds base ps q l p below h
 cell_adds base ps (child_due q) l p below h = child_adds base ps q l p below
 
 -- ---- every step

@@ -16,9 +16,9 @@ use Rattle.value_text.specs.declared.lexeme.Lexeme.TheVariants.{Sign as ASign, N
 use Rattle.value_text.specs.Writes.{cells_by, cells_in, cells_of}
 use Rattle.value_grammar.specs.declared.cause.Cause.{Cause}
 use Rattle.value_grammar.specs.declared.cause.Cause.TheVariants.{DeepText, Range}
-use Rattle.value_grammar.specs.Open.{CellSpot, Frame, Open, Part, Spot, after_entry, after_field, after_item, after_part, after_rest, at, base_cells, bits_due, cells_begun, child_due, done, due, entry_due, entry_or_end, field, field_due, field_or_end, frames_cells, frames_parts, in_cell, item, item_or_end, keyed, labelled, named, pair, paren_due, parts_begun, parts_cells, reference, refs_cells, rest_bits, rest_child, rest_paren}
+use Rattle.value_grammar.specs.Open.{CellSpot, Frame, Open, OpenCell, Spot, after_entry, after_field, after_item, after_part, after_rest, at, base_cells, bits_due, cells_begun, child_due, done, due, entry_due, entry_or_end, field, field_due, field_or_end, frames_cells, frames_parts, in_cell, item, item_or_end, keyed, labelled, named, pair, paren_due, parts_begun, around_cells, reference, refs_cells, rest_bits, rest_child, rest_paren}
 use Rattle.value_grammar.specs.Within.{begins_value, closed, closed_exotic, closed_ordinary, is_cell_due, is_paren, is_value_due}
-use Rattle.value_grammar.specs.Steps.{Outcome, begin, begin_cell, begin_part, begin_rest, begin_sign, colon, entry, give, give_cell, give_closed, in_list, in_map, in_part, in_record, in_rest, key, key_or_end, label, label_or_end, list_or_end, move, move_cell, no_go, one_more, open_exotic, open_record, open_rest, the_map, the_record}
+use Rattle.value_grammar.specs.Steps.{Outcome, begin, begin_cell, begin_body, begin_rest, begin_sign, colon, entry, give, give_cell, give_closed, in_list, in_map, in_body, in_record, in_rest, key, key_or_end, label, label_or_end, list_or_end, move, move_cell, no_go, one_more, open_exotic, open_record, open_rest, the_map, the_record}
 use Rattle.value_grammar.proofs.Adds.{OkThen}
 
 -- so many values and cells have begun
@@ -248,21 +248,21 @@ in_rest_grows r (ASign Comma) p below = (refl, refl)
 in_rest_grows r (ASign CloseParen) p below = give_grows (rest r) below
 in_rest_grows r l p below = tt
 
-begin_cell_grows : (base : Option Slice) (ps : List Part) (l : Lexeme) (p m n : ℕ) (below : List Frame) → frames_parts below + 1 ≡ m
-    → frames_cells below + (base_cells base + parts_cells ps) ≡ n → Grows (begin_cell base ps l p below) m (one_more (is_paren l) n)
+begin_cell_grows : (base : Option Slice) (ps : List OpenCell) (l : Lexeme) (p m n : ℕ) (below : List Frame) → frames_parts below + 1 ≡ m
+    → frames_cells below + (base_cells base + around_cells ps) ≡ n → Grows (begin_cell base ps l p below) m (one_more (is_paren l) n)
 begin_cell_grows base ps (ASign OpenParen) p m n below e g = (e, omega (arith, g))
 begin_cell_grows base ps (ASign Bang) p m n below e g = (e, omega (arith, g))
 begin_cell_grows base ps l p m n below e g = tt
 
-open_exotic_grows : (base : Option Slice) (ps : List Part) (l : Lexeme) (p : ℕ) (below : List Frame)
-    → Grows (open_exotic base ps l p below) (frames_parts below + 1) (one_more (is_paren l) (frames_cells below + (base_cells base + parts_cells ps + 0)))
+open_exotic_grows : (base : Option Slice) (ps : List OpenCell) (l : Lexeme) (p : ℕ) (below : List Frame)
+    → Grows (open_exotic base ps l p below) (frames_parts below + 1) (one_more (is_paren l) (frames_cells below + (base_cells base + around_cells ps + 0)))
 open_exotic_grows base ps (ASign OpenParen) p below = (refl, omega arith)
 open_exotic_grows base ps l p below = tt
 
-begin_part_grows : (base : Option Slice) (ps : List Part) (exotic : Bool) (paren : ℕ) (l : Lexeme) (p : ℕ) (below : List Frame)
-    → Grows (begin_part base ps exotic paren l p below) (frames_parts below + 1) (frames_cells below + (base_cells base + parts_cells ps + 1))
-begin_part_grows base ps exotic paren (Bits bs) p below = (refl, omega arith)
-begin_part_grows base ps exotic paren l p below = tt
+begin_body_grows : (base : Option Slice) (ps : List OpenCell) (exotic : Bool) (paren : ℕ) (l : Lexeme) (p : ℕ) (below : List Frame)
+    → Grows (begin_body base ps exotic paren l p below) (frames_parts below + 1) (frames_cells below + (base_cells base + around_cells ps + 1))
+begin_body_grows base ps exotic paren (Bits bs) p below = (refl, omega arith)
+begin_body_grows base ps exotic paren l p below = tt
 
 -- a cell that is closed has one more cell than its references
 abbrev IfMade : ℕ → Result Tree Cause → Type 0
@@ -283,31 +283,31 @@ exotic_cells None bs refs = tt
 exotic_cells (Some kind) bs refs =
     made_test (nat_lt 1024 (deepest (tree_of kind bs refs))) (Ok (tree_of kind bs refs)) DeepText (1 + refs_cells refs) (unfolded-tree_of kind bs refs)
 
-part_cells : (exotic : Bool) (bs : List ℕ) (refs : List Tree)
+closed_cells : (exotic : Bool) (bs : List ℕ) (refs : List Tree)
     → IfMade (1 + refs_cells refs) (if exotic then closed_exotic (exotic_kind bs (length refs)) bs refs else closed_ordinary bs refs)
-part_cells true bs refs = exotic_cells (exotic_kind bs (length refs)) bs refs
-part_cells false bs refs = ordinary_cells bs refs
+closed_cells true bs refs = exotic_cells (exotic_kind bs (length refs)) bs refs
+closed_cells false bs refs = ordinary_cells bs refs
 
-give_cell_grows : (t : Tree) (base : Option Slice) (ps : List Part) (below : List Frame)
-    → HasBegun (frames_parts below + 1) (frames_cells below + (base_cells base + parts_cells ps + unfolded t)) (give_cell t base ps below)
+give_cell_grows : (t : Tree) (base : Option Slice) (ps : List OpenCell) (below : List Frame)
+    → HasBegun (frames_parts below + 1) (frames_cells below + (base_cells base + around_cells ps + unfolded t)) (give_cell t base ps below)
 give_cell_grows t base (q ∷ qs) below = let e = refs_push q.refs t in (refl, omega (arith, e))
 give_cell_grows t None [] below = let h = give_grows (raw t) below in let e = h.0 in let g = h.1 in (omega (arith, e), omega (arith, g))
 give_cell_grows t (Some r) [] below = let e = refs_push r.refs t in (refl, omega (arith, e))
 
-give_closed_grows : (r : Result Tree Cause) (paren k : ℕ) (base : Option Slice) (ps : List Part) (below : List Frame) → IfMade k r
-    → Grows (give_closed r paren base ps below) (frames_parts below + 1) (frames_cells below + (base_cells base + parts_cells ps + k))
+give_closed_grows : (r : Result Tree Cause) (paren k : ℕ) (base : Option Slice) (ps : List OpenCell) (below : List Frame) → IfMade k r
+    → Grows (give_closed r paren base ps below) (frames_parts below + 1) (frames_cells below + (base_cells base + around_cells ps + k))
 give_closed_grows (Ok t) paren k base ps below h =
     let g = give_cell_grows t base ps below in
     let e = g.1 in
     (g.0, omega (arith, e, h))
 give_closed_grows (Err cause) paren k base ps below h = tt
 
-in_part_grows : (base : Option Slice) (ps : List Part) (q : Part) (l : Lexeme) (p : ℕ) (below : List Frame)
-    → Grows (in_part base ps q l p below) (frames_parts below + 1) (frames_cells below + (base_cells base + parts_cells ps + (1 + refs_cells q.refs)))
-in_part_grows base ps q (ASign Comma) p below = (refl, refl)
-in_part_grows base ps q (ASign CloseParen) p below =
-    give_closed_grows (closed q) q.place (1 + refs_cells q.refs) base ps below (part_cells q.exotic q.bits q.refs)
-in_part_grows base ps q l p below = tt
+in_body_grows : (base : Option Slice) (ps : List OpenCell) (q : OpenCell) (l : Lexeme) (p : ℕ) (below : List Frame)
+    → Grows (in_body base ps q l p below) (frames_parts below + 1) (frames_cells below + (base_cells base + around_cells ps + (1 + refs_cells q.refs)))
+in_body_grows base ps q (ASign Comma) p below = (refl, refl)
+in_body_grows base ps q (ASign CloseParen) p below =
+    give_closed_grows (closed q) q.place (1 + refs_cells q.refs) base ps below (closed_cells q.exotic q.bits q.refs)
+in_body_grows base ps q l p below = tt
 
 -- ---- every step
 
@@ -316,12 +316,12 @@ Counts o spot l below =
     Grows o (one_more (is_value_due spot && begins_value l) (parts_begun (at spot below)))
     (one_more (is_cell_due spot && is_paren l) (cells_begun (at spot below)))
 
-cell_grows : (base : Option Slice) (ps : List Part) (c : CellSpot) (l : Lexeme) (p : ℕ) (below : List Frame)
+cell_grows : (base : Option Slice) (ps : List OpenCell) (c : CellSpot) (l : Lexeme) (p : ℕ) (below : List Frame)
     → Counts (move_cell base ps c l p below) (in_cell base ps c) l below
 cell_grows base ps paren_due l p below = open_exotic_grows base ps l p below
-cell_grows base ps (bits_due exotic paren) l p below = begin_part_grows base ps exotic paren l p below
-cell_grows base ps (after_part q) l p below = in_part_grows base ps q l p below
-cell_grows base ps (child_due q) l p below = begin_cell_grows base (q ∷ ps) l p (frames_parts below + 1) (frames_cells below + (base_cells base + parts_cells ps + (1 + refs_cells q.refs))) below refl (omega arith)
+cell_grows base ps (bits_due exotic paren) l p below = begin_body_grows base ps exotic paren l p below
+cell_grows base ps (after_part q) l p below = in_body_grows base ps q l p below
+cell_grows base ps (child_due q) l p below = begin_cell_grows base (q ∷ ps) l p (frames_parts below + 1) (frames_cells below + (base_cells base + around_cells ps + (1 + refs_cells q.refs))) below refl (omega arith)
 
 pub counts : (spot : Spot) (l : Lexeme) (p : ℕ) (below : List Frame) → Counts (move spot l p below) spot l below
 counts due l p below = due_grows l p below

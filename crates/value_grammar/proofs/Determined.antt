@@ -1,15 +1,18 @@
--- The steps lead through a text in one way: to one value, or to a refusal, and not to both.
-use Rattle.std.proofs.Common.{◌≡◌, ◌⊎◌, inl, inr, ⊎_elim, ℕ, zero, suc, ◌+◌, List, [], ◌∷◌, ◌++◌, take, drop, Ok, Err, refl, sym, ap, ◌∙◌, subst, append-nil}
+-- The steps lead through a text in one way: to one value, or to one refusal, and not to both.
+use Rattle.std.proofs.Common.{◌≡◌, ◌≢◌, ◌⊎◌, inl, inr, ⊎_elim, ℕ, zero, suc, ◌+◌, List, [], ◌∷◌, ◌++◌, take, drop, Ok, Err, refl, sym, ap, ◌∙◌, subst, append-nil}
 use Rattle.typed_value.specs.Values.{Plain}
 use Rattle.value_text.specs.declared.lexeme.Lexeme.{Lexeme}
 use Rattle.value_text.specs.Division.{Divides, Placed, none, one, space_before, without_space}
-use Rattle.value_text.specs.Lexemes.{Stands}
+use Rattle.value_text.specs.Lexemes.{NothingStands, Stands}
 use Rattle.value_text.specs.OneLexemeLaws.{one_stands}
 use Rattle.value_text.specs.SeparateLaws.{first_byte}
 use Rattle.value_grammar.specs.declared.cause.Cause.{Cause}
+use Rattle.value_grammar.specs.declared.cause.Cause.TheVariants.{Syntax}
 use Rattle.value_grammar.specs.Open.{Frame, Spot, at, done}
 use Rattle.value_grammar.specs.Steps.{Held, Refusal, Stepped, and_then, run, start, step}
 use Rattle.value_grammar.specs.Reading.{Finishes, IsUnfinished, Reaches, Stops, at_end, at_lexeme, at_nothing}
+use Rattle.value_grammar.proofs.Goes.{run_append}
+use Rattle.value_grammar.proofs.Sound.{run_first}
 
 -- one division goes on from another
 pub record Further (e : ℕ) (r : List ℕ) (ls : List Placed) (f : ℕ) (s : List ℕ) (ms : List Placed) : Type 0 where
@@ -81,14 +84,6 @@ one_finish file v w f g =
     whole_is v w f.below g.below (sym f.whole ∙ ap (λ (x : Held). x.begun) e ∙ g.whole)
 
 -- ---- not both
-
-run_append : (g : Held) (ls ms : List Placed) → run g (ls ++ ms) ≡ and_then (run g ls) (λ x. run x ms)
-run_append g [] ms = refl
-run_append g (l ∷ ls) ms =
-    elim (step g l) as (λ o. and_then o (λ x. run x (ls ++ ms)) ≡ and_then (and_then o (λ x. run x ls)) (λ x. run x ms)) [
-      | Ok q ↦ run_append q ls ms
-      | Err refusal ↦ refl
-    ]
 
 -- what goes on after a state has a step from it
 goes_on : (h last : Held) (before more : List Placed) (l : Placed) → run start before ≡ Ok h → run start (before ++ l ∷ more) ≡ Ok last
@@ -175,3 +170,111 @@ finish_or_stop file v cause byte f (at_end {place = p} {h = h} s ends spot below
     (λ (x : (drop p file ≡ []) × (f.held ≡ h)). unfinished spot v f.below below (sym f.whole ∙ ap (λ (y : Held). y.begun) x.1 ∙ is) u)
     (λ (x : Within file p h f.held). none_at_end (drop p file) x.stands.0 x.stands.1 ends x.stands.2)
     (at_or_within file f.place p f.held h f.reaches s f.ends)
+
+-- ---- one refusal
+
+-- why the steps stop where they are
+data StopsHere (text : List ℕ) (place : ℕ) (h : Held) : Cause → ℕ → Type 0 where
+  here_lexeme : {n byte : ℕ} {l : Lexeme} {cause : Cause} → Stands l n text → step h (place, l) ≡ Err (cause, byte) → StopsHere text place h cause byte
+  here_nothing : text ≢ [] → NothingStands text → StopsHere text place h Syntax place
+  here_end : text ≡ [] → StopsHere text place h Syntax place
+
+-- the steps go on from there
+record GoesOn (text : List ℕ) (place : ℕ) (h : Held) : Type 0 where
+  l : Lexeme
+  n : ℕ
+  next : Held
+  stands : Stands l n text
+  goes : step h (place, l) ≡ Ok next
+
+one_error : (o : Stepped) (a b : Refusal) → o ≡ Err a → o ≡ Err b → a ≡ b
+one_error (Ok h) a b e f = absurd (cc)
+one_error (Err r) a b e f = cc
+
+same_stop : (text : List ℕ) (place : ℕ) (h : Held) (c d : Cause) (x y : ℕ) → StopsHere text place h c x → StopsHere text place h d y → ◌≡◌ {A = Refusal} (c, x) (d, y)
+same_stop text place h c d x y (here_lexeme {n = n} {byte = a} {l = l} {cause = q} st e) (here_lexeme {n = k} {byte = b} {l = m} {cause = r} su f) =
+    let o = one_stands text l m n k st su in
+    one_error (step h (place, l)) (q, a) (r, b) e (ap (λ (z : Lexeme). step h (place, z)) o.lexemes ∙ f)
+same_stop text place h c d x y (here_lexeme {n = n} {l = l} st e) (here_nothing some none_stands) = absurd (none_stands l n st)
+same_stop text place h c d x y (here_lexeme {n = n} {l = l} st e) (here_end ends) = absurd (none_at_end text l n ends st)
+same_stop text place h c d x y (here_nothing some none_stands) (here_lexeme {n = n} {l = l} st e) = absurd (none_stands l n st)
+same_stop text place h c d x y (here_nothing some none_stands) (here_nothing some_too none_too) = refl
+same_stop text place h c d x y (here_nothing some none_stands) (here_end ends) = absurd (some ends)
+same_stop text place h c d x y (here_end ends) (here_lexeme {n = n} {l = l} st e) = absurd (none_at_end text l n ends st)
+same_stop text place h c d x y (here_end ends) (here_nothing some none_stands) = absurd (some ends)
+same_stop text place h c d x y (here_end ends) (here_end ends_too) = refl
+
+ok_or_error : (o : Stepped) (h : Held) (r : Refusal) → o ≡ Ok h → o ≡ Err r → ⊥
+ok_or_error o h r e f = let b : Ok h ≡ Err r = sym e ∙ f in absurd (cc)
+
+stop_or_go : (text : List ℕ) (place : ℕ) (h : Held) (c : Cause) (x : ℕ) → StopsHere text place h c x → GoesOn text place h → ⊥
+stop_or_go text place h c x (here_lexeme {n = n} {byte = a} {l = l} {cause = q} st e) g =
+    let o = one_stands text l g.l n g.n st g.stands in
+    ok_or_error (step h (place, l)) g.next (q, a) (ap (λ (z : Lexeme). step h (place, z)) o.lexemes ∙ g.goes) e
+stop_or_go text place h c x (here_nothing some none_stands) g = none_stands g.l g.n g.stands
+stop_or_go text place h c x (here_end ends) g = none_at_end text g.l g.n ends g.stands
+
+-- two places that the steps reach are one, or the steps go on from one of the two
+data Meets (file : List ℕ) (p : ℕ) (g : Held) (q : ℕ) (h : Held) : Type 0 where
+  same_there : ◌≡◌ {A = ℕ × Held} (p, g) (q, h) → Meets file p g q h
+  first_goes : GoesOn (drop p file) p g → Meets file p g q h
+  second_goes : GoesOn (drop q file) q h → Meets file p g q h
+
+ends_are : (e f : ℕ) (r s : List ℕ) → Divides e r [] f s → ◌≡◌ {A = ℕ × List ℕ} (e, r) (f, s)
+ends_are e f r s none = refl
+
+goes_from : (file : List ℕ) (p q : ℕ) (g h : Held) (r : Reaches file p g) (s : Reaches file q h) (m : Placed) (ms : List Placed) → Divides r.end r.rest (m ∷ ms) s.end s.rest
+    → s.before ≡ r.before ++ m ∷ ms → GoesOn (drop p file) p g
+goes_from file p q g h r s m ms d w =
+    let t = some_stands r.end s.end r.rest s.rest m ms d in
+    let R : List Placed → Type 0 = λ x. run start x ≡ Ok h in
+    let n = run_first (step g m) ms h (goes_on g h r.before ms m r.ran (subst R w s.ran)) in
+    let same : m ≡ (p, t.0) = next_is r.end s.end r.rest s.rest m ms t.0 t.1 d t.2 ∙ ap (λ (x : ℕ). (x, t.0)) (sym r.spaced) in
+    let S : List ℕ → Type 0 = λ x. Stands t.0 t.1 x in
+    record { l = t.0; n = t.1; next = n.0; stands = subst S (sym r.left) t.2; goes = ap (step g) (sym same) ∙ n.1 }
+
+same_reach : (file : List ℕ) (p q : ℕ) (g h : Held) (r : Reaches file p g) (s : Reaches file q h) → ◌≡◌ {A = ℕ × List ℕ} (r.end, r.rest) (s.end, s.rest) → s.before ≡ r.before
+    → ◌≡◌ {A = ℕ × Held} (p, g) (q, h)
+same_reach file p q g h r s e w =
+    let R : List Placed → Type 0 = λ x. run start x ≡ Ok h in
+    let places : p ≡ q = r.spaced ∙ ap (λ (x : ℕ × List ℕ). x.0 + space_before x.1) e ∙ sym s.spaced in
+    let helds = held_is g h r.before r.ran (subst R w s.ran) in
+    (λ i. (places i, helds i))
+
+meets : (file : List ℕ) (p q : ℕ) (g h : Held) → Reaches file p g → Reaches file q h → Meets file p g q h
+meets file p q g h r s = ⊎_elim
+    (λ (x : Further r.end r.rest r.before s.end s.rest s.before). first x.more x.divides x.whole)
+    (λ (x : Further s.end s.rest s.before r.end r.rest r.before). second x.more x.divides x.whole)
+    (compare r.before s.before 0 r.end s.end file r.rest s.rest r.divides s.divides)
+  where
+    first : (more : List Placed) → Divides r.end r.rest more s.end s.rest → s.before ≡ r.before ++ more → Meets file p g q h
+    first [] d w = same_there (same_reach file p q g h r s (ends_are r.end s.end r.rest s.rest d) (w ∙ append-nil r.before))
+    first (m ∷ ms) d w = first_goes (goes_from file p q g h r s m ms d w)
+
+    second : (more : List Placed) → Divides s.end s.rest more r.end r.rest → r.before ≡ s.before ++ more → Meets file p g q h
+    second [] d w = same_there (sym (same_reach file q p h g s r (ends_are s.end r.end s.rest r.rest d) (w ∙ append-nil s.before)))
+    second (m ∷ ms) d w = second_goes (goes_from file q p h g s r m ms d w)
+
+record StopsAt (file : List ℕ) (cause : Cause) (byte : ℕ) : Type 0 where
+  place : ℕ
+  held : Held
+  reaches : Reaches file place held
+  here : StopsHere (drop place file) place held cause byte
+
+stops_at : (file : List ℕ) (cause : Cause) (byte : ℕ) → Stops file cause byte → StopsAt file cause byte
+stops_at file cause byte (at_lexeme {place = p} {h = h} r st e) = record { place = p; held = h; reaches = r; here = here_lexeme st e }
+stops_at file cause byte (at_nothing {place = p} {h = h} r some nothing) = record { place = p; held = h; reaches = r; here = here_nothing some nothing }
+stops_at file cause byte (at_end {place = p} {h = h} r ends spot below is u) = record { place = p; held = h; reaches = r; here = here_end ends }
+
+pub one_stop : (file : List ℕ) (c d : Cause) (x y : ℕ) → Stops file c x → Stops file d y → ◌≡◌ {A = Refusal} (c, x) (d, y)
+one_stop file c d x y f g =
+    let a = stops_at file c x f in
+    let b = stops_at file d y g in
+    met a b (meets file a.place b.place a.held b.held a.reaches b.reaches)
+  where
+    met : (a : StopsAt file c x) (b : StopsAt file d y) → Meets file a.place a.held b.place b.held → ◌≡◌ {A = Refusal} (c, x) (d, y)
+    met a b (same_there e) =
+        let P : ℕ × Held → Type 0 = λ z. StopsHere (drop z.0 file) z.0 z.1 d y in
+        same_stop (drop a.place file) a.place a.held c d x y a.here (subst P (sym e) b.here)
+    met a b (first_goes n) = absurd (stop_or_go (drop a.place file) a.place a.held c x a.here n)
+    met a b (second_goes n) = absurd (stop_or_go (drop b.place file) b.place b.held d y b.here n)

@@ -12,7 +12,7 @@ use Rattle.value_grammar.specs.declared.cause.Cause.{Cause}
 use Rattle.value_grammar.specs.declared.cause.Cause.TheVariants.{Syntax}
 use Rattle.value_grammar.specs.Grammar.{CanGoOn}
 use Rattle.value_grammar.specs.Shapes.{Shape, shape, shapes}
-use Rattle.value_grammar.specs.Open.{Frame, Open, Part, Spot, after_entry, after_field, after_item, after_part, after_rest, at, bits_due, child_due, done, due, entry_due, entry_or_end, field_due, field_or_end, in_cell, item_or_end, keyed, labelled, named, paren_due, so_far, rest_bits, rest_child, rest_paren}
+use Rattle.value_grammar.specs.Open.{Frame, Open, OpenCell, Spot, after_entry, after_field, after_item, after_part, after_rest, at, bits_due, child_due, done, due, entry_due, entry_or_end, field_due, field_or_end, in_cell, item_or_end, keyed, labelled, named, paren_due, so_far, rest_bits, rest_child, rest_paren}
 use Rattle.value_grammar.specs.Within.{IsWithin, begins_value, closed, is_beyond, is_cell_due, is_paren, is_value_due, limit, limit_of}
 use Rattle.value_grammar.specs.Steps.{Held, Outcome, Refusal, counted, held_of, move, one_more, run, start, step, step_at, unless_limit}
 use Rattle.value_grammar.specs.Reading.{IsUnfinished, Reaches, Stops, at_end, at_lexeme, at_nothing}
@@ -60,10 +60,10 @@ pub record There (before : List Placed) (o : Open) (values cells : ℕ) : Type 0
 so_long : (before : List Placed) (o : Open) → lexemes before ≡ map lexeme_of (so_far o) → length before ≡ length (so_far o)
 so_long before o e = sym (length-map before (λ (l : Placed). l.1)) ∙ ap length e ∙ length-map (so_far o) lexeme_of
 
-lexemes_push : (before : List Placed) (place : ℕ) (l : Lexeme) → lexemes (before ++ (place, l) ∷ []) ≡ lexemes before ++ l ∷ []
+pub lexemes_push : (before : List Placed) (place : ℕ) (l : Lexeme) → lexemes (before ++ (place, l) ∷ []) ≡ lexemes before ++ l ∷ []
 lexemes_push before place l = map-append (λ (x : Placed). x.1) before ((place, l) ∷ [])
 
-there_step : (before : List Placed) (spot : Spot) (below : List Frame) (values cells : ℕ) (l : Lexeme) (place : ℕ) (next : Held)
+pub there_step : (before : List Placed) (spot : Spot) (below : List Frame) (values cells : ℕ) (l : Lexeme) (place : ℕ) (next : Held)
     → There before (at spot below) values cells → IsLexeme l → step_at spot below values cells l place ≡ Ok next
     → There (before ++ (place, l) ∷ []) next.begun next.values next.cells
 there_step before spot below values cells l place next t i e =
@@ -100,7 +100,7 @@ there_run before (l ∷ ls) h last t a e =
     subst P (append_assoc before (l ∷ []) ls)
     (there_run (before ++ l ∷ []) ls n.0 last (there_next before h.begun h.values h.cells l n.0 t a.0 n.1) a.1 n.2)
 
-reached_there : (file : List ℕ) (place : ℕ) (h : Held) → (r : Reaches file place h) → ThereAt r.before h
+pub reached_there : (file : List ℕ) (place : ℕ) (h : Held) → (r : Reaches file place h) → ThereAt r.before h
 reached_there file place h r =
     there_run [] r.before start h (record { known = known_start; shaped = refl; parens = tt }) (divided_lexemes 0 r.end file r.rest r.before r.divides) r.ran
 
@@ -136,6 +136,9 @@ done_alone (rest_child r) below k e = absurd (cc)
 can_go_on : (before : List Lexeme) (spot : Spot) (below : List Frame) → Shaped before (at spot below) → Keeps (at spot below) → CanGoOn (shapes before)
 can_go_on before spot below s k = goes_on (where_of spot) (arounds below) (shapes before) s (done_alone spot below k)
 
+pub reached_goes_on : (before : List Placed) (o : Open) (values cells : ℕ) → There before o values cells → CanGoOn (shapes (lexemes before))
+reached_goes_on before (at spot below) values cells t = can_go_on (lexemes before) spot below t.shaped t.known.keeps
+
 no_more : (before : List Lexeme) (spot : Spot) (below : List Frame) (l : Lexeme) → Shaped before (at spot below)
     → steps.move (where_of spot) (shape l) (arounds below) ≡ None → CanGoOn (shapes before ++ shape l ∷ []) → ⊥
 no_more before spot below l s e = stuck (shapes before) (state_of (at spot below)) (shape l) s e
@@ -148,11 +151,11 @@ limit_there before spot below values cells l o t e =
     let k = t.known in
     (λ i. limit_of (sym k.all_values i) (sym k.all_cells i) spot below l) ∙ e
 
-cell_refused : (before : List Placed) (o : Open) (values cells n place : ℕ) (text : List ℕ) (cause : Cause) (q : Part) → There before o values cells
+cell_refused : (before : List Placed) (o : Open) (values cells n place : ℕ) (text : List ℕ) (cause : Cause) (q : OpenCell) → There before o values cells
     → Stands (ASign CloseParen) n text → Closes o q → closed q ≡ Err cause → RefusedAt o before place text cause q.place
 cell_refused before (at (in_cell base ps (after_part p)) below) values cells n place text cause q t st c f =
     let s = paren_of before base ps p below t.known.written t.parens in
-    let P : Part → Type 0 = λ x. ParenOf before x.place (bits x.bits ∷ more (map cell x.refs)) in
+    let P : OpenCell → Type 0 = λ x. ParenOf before x.place (bits x.bits ∷ more (map cell x.refs)) in
     let u = subst P c s in
     refused.at_cell st q u.earlier u.inner c f u.split u.written
 cell_refused before (at (in_cell base ps paren_due) below) values cells n place text cause q t st c f = absurd c

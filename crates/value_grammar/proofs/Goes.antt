@@ -1,5 +1,5 @@
 -- The steps go through tokens, from one state to another.
-use Rattle.std.proofs.Common.{◌≡◌, ℕ, ◌+◌, ◌≤◌, Bool, true, false, ◌&&◌, ◌||◌, nat_le, if◌then◌else◌, List, [], ◌∷◌, ◌++◌, map, length, Option, Some, None, Ok, refl, sym, ap, ◌∙◌, subst, arith, append_assoc}
+use Rattle.std.proofs.Common.{◌≡◌, ℕ, ◌+◌, ◌≤◌, Bool, true, false, ◌&&◌, ◌||◌, nat_le, if◌then◌else◌, List, [], ◌∷◌, ◌++◌, map, length, Option, Some, None, Ok, Err, refl, sym, ap, ◌∙◌, subst, arith, append_assoc}
 use Rattle.std.proofs.lemmas.Bool.Decides.{nat_tests}
 use Rattle.typed_value.specs.Values.{most_levels, most_parts}
 use Rattle.value_text.specs.declared.lexeme.Lexeme.{Lexeme}
@@ -10,16 +10,16 @@ use Rattle.value_grammar.specs.declared.cause.Cause.{Cause}
 use Rattle.value_grammar.specs.declared.cause.Cause.TheVariants.{BulkText, DeepText, KeyOrder, Range}
 use Rattle.value_grammar.specs.Open.{Frame, Open, Spot, due}
 use Rattle.value_grammar.specs.Within.{begins_value, is_beyond, is_bulk, is_deep, is_out_of_order, is_paren, limit_of}
-use Rattle.value_grammar.specs.Steps.{Stepped, and_then, begin, counted, held_of, one_more, run, step, step_at, unless_limit}
+use Rattle.value_grammar.specs.Steps.{Held, Stepped, and_then, begin, counted, held_of, one_more, run, step, step_at, unless_limit}
 
 -- from what is open, with so many values and cells, through the tokens to what is open then
 abbrev pub G : Open → ℕ → ℕ → List Token → Open → ℕ → ℕ → Type 0
 G o m n ts q i k = (ls rest : List Placed) → lexemes ls ≡ map lexeme_of ts → run (held_of o m n) (ls ++ rest) ≡ run (held_of q i k) rest
 
-head_is : (l m : Lexeme) (ls ms : List Lexeme) → l ∷ ls ≡ m ∷ ms → l ≡ m
+pub head_is : (l m : Lexeme) (ls ms : List Lexeme) → l ∷ ls ≡ m ∷ ms → l ≡ m
 head_is l m ls ms e = cc
 
-tail_is : (l m : Lexeme) (ls ms : List Lexeme) → l ∷ ls ≡ m ∷ ms → ls ≡ ms
+pub tail_is : (l m : Lexeme) (ls ms : List Lexeme) → l ∷ ls ≡ m ∷ ms → ls ≡ ms
 tail_is l m ls ms e = cc
 
 pub nothing : (o : Open) (m n : ℕ) → G o m n [] o m n
@@ -46,14 +46,14 @@ one o m n t q i k f = cons o m n t [] q i k q i k f (nothing q i k)
 
 -- ---- tokens and others after them
 
-record Parted (ls : List Placed) (ts us : List Token) : Type 0 where
-  first : List Placed
-  second : List Placed
-  whole : ls ≡ first ++ second
-  firsts : lexemes first ≡ map lexeme_of ts
-  seconds : lexemes second ≡ map lexeme_of us
+pub record Parted (ls : List Placed) (ts us : List Token) : Type 0 where
+  pub first : List Placed
+  pub second : List Placed
+  pub whole : ls ≡ first ++ second
+  pub firsts : lexemes first ≡ map lexeme_of ts
+  pub seconds : lexemes second ≡ map lexeme_of us
 
-parted : (ls : List Placed) (ts us : List Token) → lexemes ls ≡ map lexeme_of (ts ++ us) → Parted ls ts us
+pub parted : (ls : List Placed) (ts us : List Token) → lexemes ls ≡ map lexeme_of (ts ++ us) → Parted ls ts us
 parted ls [] us e = record { first = []; second = ls; whole = refl; firsts = refl; seconds = e }
 parted [] (t ∷ ts) us e = absurd (cc)
 parted (l ∷ ls) (t ∷ ts) us e =
@@ -81,6 +81,14 @@ along o m n ts us q i k e g = let P : List Token → Type 0 = λ x. G o m n x q 
 
 pub to : (o : Open) (m n : ℕ) (ts : List Token) (q r : Open) (i k x y : ℕ) → q ≡ r → i ≡ x → k ≡ y → G o m n ts q i k → G o m n ts r x y
 to o m n ts q r i k x y e f h g ls rest s = g ls rest s ∙ (λ j. run (held_of (e j) (f j) (h j)) rest)
+
+pub run_append : (g : Held) (ls ms : List Placed) → run g (ls ++ ms) ≡ and_then (run g ls) (λ x. run x ms)
+run_append g [] ms = refl
+run_append g (l ∷ ls) ms =
+    elim (step g l) as (λ o. and_then o (λ x. run x (ls ++ ms)) ≡ and_then (and_then o (λ x. run x ls)) (λ x. run x ms)) [
+      | Ok q ↦ run_append q ls ms
+      | Err refusal ↦ refl
+    ]
 
 -- ---- limits that are not passed
 

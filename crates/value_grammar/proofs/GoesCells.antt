@@ -1,10 +1,10 @@
 -- The steps go through the tokens of a cell.
 use Rattle.std.proofs.Common.{◌≡◌, ℕ, suc, ◌+◌, ◌*◌, ◌≤◌, ◌==◌, Bool, true, false, ◌&&◌, nat_le, nat_lt, if◌then◌else◌, List, [], ◌∷◌, ◌++◌, map, length, Option, Some, None, Result, Ok, Err, refl, sym, ap, ◌∙◌, subst, arith, append_assoc, append-nil}
 use Rattle.std.proofs.lemmas.Bool.Decides.{nat_tests}
-use Rattle.cell_nodes.specs.Equations.{one_le-unfolded, tree_of-out, unfolded-tree_of}
+use Rattle.cell_nodes.specs.Equations.{tree_of-out, unfolded-tree_of}
 use Rattle.cell_nodes.specs.Good.{AllGood, IsGood, good, more, none}
 use Rattle.cell_nodes.specs.Layout.{byte_of, exotic_kind, has_layout, pair_count, stored_mask}
-use Rattle.cell_nodes.specs.Tree.{deepest, depth, is_exotic, total, tree_of, unfolded}
+use Rattle.cell_nodes.specs.Tree.{deepest, greatest, is_exotic, total, tree_of, unfolded}
 use Rattle.cell_nodes.specs.declared.tree.Kind.{Kind}
 use Rattle.cell_nodes.specs.declared.tree.Kind.TheVariants.{Ordinary, Pruned, Library, Proof, Update}
 use Rattle.cell_nodes.specs.declared.tree.Tree.{Tree, out-Tree}
@@ -17,11 +17,11 @@ use Rattle.value_text.specs.Tokens.{mark, bits}
 use Rattle.value_text.specs.Writes.{most_cells}
 use Rattle.value_grammar.specs.declared.cause.Cause.{Cause}
 use Rattle.value_grammar.specs.declared.cause.Cause.TheVariants.{DeepText, Range}
-use Rattle.value_grammar.specs.Open.{Frame, Open, Part, after_part, at, bang, bits_due, body_text, child_due, in_cell, paren_due, rest_child}
-use Rattle.value_grammar.specs.Within.{closed, closed_exotic, closed_ordinary, limit_of, most_cell_levels}
-use Rattle.value_grammar.specs.Steps.{begin_cell, counted, give_cell, give_closed, held_of, part_of, step, unless_limit, with_child}
+use Rattle.value_grammar.specs.Open.{Frame, Open, OpenCell, after_part, at, bang, bits_due, body_text, child_due, in_cell, paren_due, rest_child}
+use Rattle.value_grammar.specs.Within.{cell_levels, closed, closed_exotic, closed_ordinary, limit_of, most_cell_levels}
+use Rattle.value_grammar.specs.Steps.{begin_cell, counted, give_cell, give_closed, held_of, open_cell_of, step, unless_limit, with_child}
 use Rattle.value_grammar.proofs.Texts.{cell_text}
-use Rattle.value_grammar.proofs.Heights.{Below, children_below}
+use Rattle.value_grammar.proofs.Heights.{cell_levels-tree_of, one_le-levels}
 use Rattle.value_grammar.proofs.Goes.{G, along, cons, cons_at, free, join, nothing, one, to, within}
 
 -- ---- a cell that has its layout is made when it is closed
@@ -88,7 +88,7 @@ ordinary_made bs cs h f =
     (λ i. if a i then Err DeepText else (if b i then Err Range else Ok (tree_of Ordinary bs cs)))
 
 made : (kind : Kind) (p : ℕ) (bs : List ℕ) (cs : List Tree) → has_layout kind bs (length cs) ≡ true → deepest (tree_of kind bs cs) ≤ 1024 → length cs ≤ 4
-    → closed (part_of (is_exotic kind) p bs cs) ≡ Ok (tree_of kind bs cs)
+    → closed (open_cell_of (is_exotic kind) p bs cs) ≡ Ok (tree_of kind bs cs)
 made Ordinary p bs cs h d f = ordinary_made bs cs d f
 made Pruned p bs cs h d f = exotic_made Pruned bs cs (exotic_kind bs (length cs)) (exotic_of Pruned bs (length cs) h refl) d
 made Library p bs cs h d f = exotic_made Library bs cs (exotic_kind bs (length cs)) (exotic_of Library bs (length cs) h refl) d
@@ -97,36 +97,38 @@ made Update p bs cs h d f = exotic_made Update bs cs (exotic_kind bs (length cs)
 
 -- ---- where a cell begins
 
--- a `(` and a `!` lead into a cell inside these
-pub record Begins (o : Open) (x k : ℕ) (base : Option Slice) (ps : List Part) (below : List Frame) (m : ℕ) : Type 0 where
-  pub paren : (p : ℕ) → step (held_of o x k) (p, ASign OpenParen) ≡ Ok (held_of (at (in_cell base ps (bits_due false p)) below) m (k + 1))
+-- a `(`, where there is room for one more cell, and a `!` lead into a cell inside these
+pub record Begins (o : Open) (x k : ℕ) (base : Option Slice) (ps : List OpenCell) (below : List Frame) (m : ℕ) : Type 0 where
+  pub paren : k + 1 ≤ most_cells → (p : ℕ) → step (held_of o x k) (p, ASign OpenParen) ≡ Ok (held_of (at (in_cell base ps (bits_due false p)) below) m (k + 1))
   pub exotic : (p : ℕ) → step (held_of o x k) (p, ASign Bang) ≡ Ok (held_of (at (in_cell base ps paren_due) below) m k)
 
 not_deep : (d : ℕ) (b : Bool) → d + 1 ≤ most_cell_levels → (nat_le most_cell_levels d && b) ≡ false
 not_deep d b h = ap (λ (t : Bool). t && b) (within d most_cell_levels h)
 
-child_begins : (base : Option Slice) (ps : List Part) (q : Part) (below : List Frame) (m k : ℕ) → suc (length ps) + 1 ≤ most_cell_levels → k + 1 ≤ most_cells
+pub child_begins : (base : Option Slice) (ps : List OpenCell) (q : OpenCell) (below : List Frame) (m k : ℕ) → suc (length ps) + 1 ≤ most_cell_levels
     → Begins (at (in_cell base ps (child_due q)) below) m k base (q ∷ ps) below m
-child_begins base ps q below m k h f =
+child_begins base ps q below m k h =
     let d = not_deep (suc (length ps)) true h in
-    let c = within k most_cells f in
-    let lim : limit_of m k (in_cell base ps (child_due q)) below (ASign OpenParen) ≡ None = free m k (in_cell base ps (child_due q)) below (ASign OpenParen) d c refl refl in
-    let lim_bang : limit_of m k (in_cell base ps (child_due q)) below (ASign Bang) ≡ None = free m k (in_cell base ps (child_due q)) below (ASign Bang) d refl refl refl in
+    let bang_free : limit_of m k (in_cell base ps (child_due q)) below (ASign Bang) ≡ None = free m k (in_cell base ps (child_due q)) below (ASign Bang) d refl refl refl in
     record {
-      paren = λ p. (λ i. counted (unless_limit (lim i) p (begin_cell base (q ∷ ps) (ASign OpenParen) p below)) m (k + 1));
-      exotic = λ p. (λ i. counted (unless_limit (lim_bang i) p (begin_cell base (q ∷ ps) (ASign Bang) p below)) m k);
+      paren = λ f p.
+          let c = within k most_cells f in
+          let paren_free : limit_of m k (in_cell base ps (child_due q)) below (ASign OpenParen) ≡ None =
+          free m k (in_cell base ps (child_due q)) below (ASign OpenParen) d c refl refl in
+          (λ i. counted (unless_limit (paren_free i) p (begin_cell base (q ∷ ps) (ASign OpenParen) p below)) m (k + 1));
+      exotic = λ p. (λ i. counted (unless_limit (bang_free i) p (begin_cell base (q ∷ ps) (ASign Bang) p below)) m k);
     }
 
-pub rest_begins : (r : Slice) (below : List Frame) (m k : ℕ) → k + 1 ≤ most_cells → Begins (at (rest_child r) below) m k (Some r) [] below m
-rest_begins r below m k f =
-    let c = within k most_cells f in
-    let lim : limit_of m k (rest_child r) below (ASign OpenParen) ≡ None = free m k (rest_child r) below (ASign OpenParen) refl c refl refl in
-    record {
-      paren = λ p. (λ i. counted (unless_limit (lim i) p (begin_cell (Some r) [] (ASign OpenParen) p below)) m (k + 1));
-      exotic = λ p. refl;
-    }
+pub rest_begins : (r : Slice) (below : List Frame) (m k : ℕ) → Begins (at (rest_child r) below) m k (Some r) [] below m
+rest_begins r below m k = record {
+  paren = λ f p.
+      let c = within k most_cells f in
+      let lim : limit_of m k (rest_child r) below (ASign OpenParen) ≡ None = free m k (rest_child r) below (ASign OpenParen) refl c refl refl in
+      (λ i. counted (unless_limit (lim i) p (begin_cell (Some r) [] (ASign OpenParen) p below)) m (k + 1));
+  exotic = λ p. refl;
+}
 
-paren_step : (base : Option Slice) (ps : List Part) (below : List Frame) (m k : ℕ) → k + 1 ≤ most_cells → (p : ℕ)
+pub paren_step : (base : Option Slice) (ps : List OpenCell) (below : List Frame) (m k : ℕ) → k + 1 ≤ most_cells → (p : ℕ)
     → step (held_of (at (in_cell base ps paren_due) below) m k) (p, ASign OpenParen) ≡ Ok (held_of (at (in_cell base ps (bits_due true p)) below) m (k + 1))
 paren_step base ps below m k f p =
     let c = within k most_cells f in
@@ -139,81 +141,78 @@ some_cells : (bs : List ℕ) (kind : Kind) (cs : List Tree) (k : ℕ) → k + un
 some_cells bs kind cs k h = let e = unfolded-tree_of kind bs cs in omega (arith, e, h)
 
 -- a whole body, in what is around it
-body_end : (kind : Kind) (bs : List ℕ) (cs : List Tree) (p : ℕ) (base : Option Slice) (ps : List Part) (below : List Frame) (m k : ℕ)
+body_end : (kind : Kind) (bs : List ℕ) (cs : List Tree) (p : ℕ) (base : Option Slice) (ps : List OpenCell) (below : List Frame) (m k : ℕ)
     → has_layout kind bs (length cs) ≡ true → deepest (tree_of kind bs cs) ≤ 1024 → length cs ≤ 4
-    → G (at (in_cell base ps (after_part (part_of (is_exotic kind) p bs cs))) below) m k (mark 41 ∷ []) (give_cell (tree_of kind bs cs) base ps below) m k
+    → G (at (in_cell base ps (after_part (open_cell_of (is_exotic kind) p bs cs))) below) m k (mark 41 ∷ []) (give_cell (tree_of kind bs cs) base ps below) m k
 body_end kind bs cs p base ps below m k h d f =
-    one (at (in_cell base ps (after_part (part_of (is_exotic kind) p bs cs))) below) m k (mark 41) (give_cell (tree_of kind bs cs) base ps below) m k
+    one (at (in_cell base ps (after_part (open_cell_of (is_exotic kind) p bs cs))) below) m k (mark 41) (give_cell (tree_of kind bs cs) base ps below) m k
     (λ x. ap (λ (r : Result Tree Cause). counted (give_closed r p base ps below) m k) (made kind p bs cs h d f))
 
-pub one_cell : (t : Tree) (k : ℕ) → k + unfolded t ≤ most_cells → k + 1 ≤ most_cells
-one_cell t k h = let e = one_le-unfolded t in omega (arith, e, h)
-
 -- the `(` and the bits, or a `!` before them
-head_goes : (exotic : Bool) (bs : List ℕ) (cs : List Tree) (o : Open) (x k : ℕ) (base : Option Slice) (ps : List Part) (below : List Frame) (m : ℕ) (q : Open)
+head_goes : (exotic : Bool) (bs : List ℕ) (cs : List Tree) (o : Open) (x k : ℕ) (base : Option Slice) (ps : List OpenCell) (below : List Frame) (m : ℕ) (q : Open)
     → Begins o x k base ps below m → k + 1 ≤ most_cells
-    → ((p : ℕ) → G (at (in_cell base ps (after_part (part_of exotic p bs []))) below) m (k + 1) (text.more (map cell cs) ++ mark 41 ∷ []) q m (k + 1 + total (map unfolded cs)))
+    → ((p : ℕ) → G (at (in_cell base ps (after_part (open_cell_of exotic p bs []))) below) m (k + 1) (text.more (map cell cs) ++ mark 41 ∷ []) q m (k + 1 + total (map unfolded cs)))
     → G o x k ((bang exotic ++ body_text bs cs) ++ mark 41 ∷ []) q m (k + 1 + total (map unfolded cs))
 head_goes false bs cs o x k base ps below m q b c f =
-    cons_at o x k (mark 40) (bits bs ∷ text.more (map cell cs) ++ mark 41 ∷ []) q m (k + 1 + total (map unfolded cs)) (λ p. at (in_cell base ps (bits_due false p)) below) m (k + 1) b.paren
+    cons_at o x k (mark 40) (bits bs ∷ text.more (map cell cs) ++ mark 41 ∷ []) q m (k + 1 + total (map unfolded cs)) (λ p. at (in_cell base ps (bits_due false p)) below) m (k + 1) (b.paren c)
     (λ p. cons (at (in_cell base ps (bits_due false p)) below) m (k + 1) (bits bs) (text.more (map cell cs) ++ mark 41 ∷ []) q m (k + 1 + total (map unfolded cs))
-    (at (in_cell base ps (after_part (part_of false p bs []))) below) m (k + 1) (λ y. refl) (f p))
+    (at (in_cell base ps (after_part (open_cell_of false p bs []))) below) m (k + 1) (λ y. refl) (f p))
 head_goes true bs cs o x k base ps below m q b c f =
     cons o x k (mark 33) (mark 40 ∷ bits bs ∷ text.more (map cell cs) ++ mark 41 ∷ []) q m (k + 1 + total (map unfolded cs)) (at (in_cell base ps paren_due) below) m k b.exotic
     (cons_at (at (in_cell base ps paren_due) below) m k (mark 40) (bits bs ∷ text.more (map cell cs) ++ mark 41 ∷ []) q m (k + 1 + total (map unfolded cs))
     (λ p. at (in_cell base ps (bits_due true p)) below) m (k + 1) (paren_step base ps below m k c)
     (λ p. cons (at (in_cell base ps (bits_due true p)) below) m (k + 1) (bits bs) (text.more (map cell cs) ++ mark 41 ∷ []) q m (k + 1 + total (map unfolded cs))
-    (at (in_cell base ps (after_part (part_of true p bs []))) below) m (k + 1) (λ y. refl) (f p)))
+    (at (in_cell base ps (after_part (open_cell_of true p bs []))) below) m (k + 1) (λ y. refl) (f p)))
 
 mutual
-  pub cell_goes : {t : Tree} → IsGood t → (o : Open) (x k : ℕ) (base : Option Slice) (ps : List Part) (below : List Frame) (m i : ℕ)
-      → Begins o x k base ps below m → length ps + 1 + depth t i ≤ most_cell_levels → k + unfolded t ≤ most_cells
+  pub cell_goes : {t : Tree} → IsGood t → (o : Open) (x k : ℕ) (base : Option Slice) (ps : List OpenCell) (below : List Frame) (m : ℕ)
+      → Begins o x k base ps below m → length ps + cell_levels t ≤ most_cell_levels → k + unfolded t ≤ most_cells
       → G o x k (cell t) (give_cell t base ps below) m (k + unfolded t)
-  cell_goes (good t sound all) o x k base ps below m i b h c =
+  cell_goes (good t sound all) o x k base ps below m b h c =
       let kind : Kind = (out-Tree t).kind in
       let bs : List ℕ = (out-Tree t).bits in
       let cs : List Tree = (out-Tree t).children in
       let e = tree_of-out t in
-      let D : Tree → Type 0 = λ y. length ps + 1 + depth y i ≤ most_cell_levels in
+      let D : Tree → Type 0 = λ y. length ps + cell_levels y ≤ most_cell_levels in
       let C : Tree → Type 0 = λ y. k + unfolded y ≤ most_cells in
       let S : Tree → Type 0 = λ y. deepest y ≤ 1024 in
       let P : Tree → Type 0 = λ y. G o x k (cell y) (give_cell y base ps below) m (k + unfolded y) in
-      let low = children_below kind bs cs i sound.layout in
+      let levels = cell_levels-tree_of kind bs cs in
+      let deep = subst D (sym e) h in
       let room : k + 1 + total (map unfolded cs) ≤ most_cells = some_cells bs kind cs k (subst C (sym e) c) in
-      let deep : length ps + 1 + depth (tree_of kind bs cs) i ≤ most_cell_levels = subst D (sym e) h in
       subst P e
       (to o x k (cell (tree_of kind bs cs)) (give_cell (tree_of kind bs cs) base ps below) (give_cell (tree_of kind bs cs) base ps below) m (k + 1 + total (map unfolded cs)) m
       (k + unfolded (tree_of kind bs cs)) refl refl (let u = unfolded-tree_of kind bs cs in omega (arith, u))
       (along o x k ((bang (is_exotic kind) ++ body_text bs cs) ++ mark 41 ∷ []) (cell (tree_of kind bs cs)) (give_cell (tree_of kind bs cs) base ps below) m (k + 1 + total (map unfolded cs))
       (sym (cell_text (is_exotic kind) kind bs cs refl))
       (head_goes (is_exotic kind) bs cs o x k base ps below m (give_cell (tree_of kind bs cs) base ps below) b (omega (arith, room))
-      (λ p. join (at (in_cell base ps (after_part (part_of (is_exotic kind) p bs []))) below) m (k + 1) (text.more (map cell cs))
-      (at (in_cell base ps (after_part (part_of (is_exotic kind) p bs cs))) below) m (k + 1 + total (map unfolded cs)) (mark 41 ∷ [])
+      (λ p. join (at (in_cell base ps (after_part (open_cell_of (is_exotic kind) p bs []))) below) m (k + 1) (text.more (map cell cs))
+      (at (in_cell base ps (after_part (open_cell_of (is_exotic kind) p bs cs))) below) m (k + 1 + total (map unfolded cs)) (mark 41 ∷ [])
       (give_cell (tree_of kind bs cs) base ps below) m (k + 1 + total (map unfolded cs))
-      (children_go all [] (is_exotic kind) p bs base ps below m (k + 1) low.0 (depth (tree_of kind bs cs) i) low.1 (omega (arith, deep)) room)
+      (children_go all [] (is_exotic kind) p bs base ps below m (k + 1) (omega (arith, levels, deep)) room)
       (body_end kind bs cs p base ps below m (k + 1 + total (map unfolded cs)) sound.layout (subst S (sym e) sound.shallow) sound.few)))))
 
-  children_go : {cs : List Tree} → AllGood cs → (done : List Tree) (exotic : Bool) (p : ℕ) (bs : List ℕ) (base : Option Slice) (ps : List Part) (below : List Frame) (m k j n : ℕ)
-      → Below cs j n → length ps + 1 + n ≤ most_cell_levels → k + total (map unfolded cs) ≤ most_cells
-      → G (at (in_cell base ps (after_part (part_of exotic p bs done))) below) m k (text.more (map cell cs))
-      (at (in_cell base ps (after_part (part_of exotic p bs (done ++ cs)))) below) m (k + total (map unfolded cs))
-  children_go none done exotic p bs base ps below m k j n l h c =
-      to (at (in_cell base ps (after_part (part_of exotic p bs done))) below) m k [] (at (in_cell base ps (after_part (part_of exotic p bs done))) below)
-      (at (in_cell base ps (after_part (part_of exotic p bs (done ++ [])))) below) m k m (k + 0)
-      (ap (λ (ts : List Tree). at (in_cell base ps (after_part (part_of exotic p bs ts))) below) (sym (append-nil done))) refl (omega arith)
-      (nothing (at (in_cell base ps (after_part (part_of exotic p bs done))) below) m k)
-  children_go (more t ts g gs) done exotic p bs base ps below m k j n l h c =
-      let q : Part = part_of exotic p bs done in
-      let lt = l.0 in
+  pub children_go : {cs : List Tree} → AllGood cs → (done : List Tree) (exotic : Bool) (p : ℕ) (bs : List ℕ) (base : Option Slice) (ps : List OpenCell) (below : List Frame) (m k : ℕ)
+      → length ps + 1 + greatest (map cell_levels cs) ≤ most_cell_levels → k + total (map unfolded cs) ≤ most_cells
+      → G (at (in_cell base ps (after_part (open_cell_of exotic p bs done))) below) m k (text.more (map cell cs))
+      (at (in_cell base ps (after_part (open_cell_of exotic p bs (done ++ cs)))) below) m (k + total (map unfolded cs))
+  children_go none done exotic p bs base ps below m k h c =
+      to (at (in_cell base ps (after_part (open_cell_of exotic p bs done))) below) m k [] (at (in_cell base ps (after_part (open_cell_of exotic p bs done))) below)
+      (at (in_cell base ps (after_part (open_cell_of exotic p bs (done ++ [])))) below) m k m (k + 0)
+      (ap (λ (ts : List Tree). at (in_cell base ps (after_part (open_cell_of exotic p bs ts))) below) (sym (append-nil done))) refl (omega arith)
+      (nothing (at (in_cell base ps (after_part (open_cell_of exotic p bs done))) below) m k)
+  children_go (more t ts g gs) done exotic p bs base ps below m k h c =
+      let q : OpenCell = open_cell_of exotic p bs done in
+      let l = one_le-levels t in
       to (at (in_cell base ps (after_part q)) below) m k (text.more (map cell (t ∷ ts)))
-      (at (in_cell base ps (after_part (part_of exotic p bs ((done ++ t ∷ []) ++ ts)))) below) (at (in_cell base ps (after_part (part_of exotic p bs (done ++ t ∷ ts)))) below)
+      (at (in_cell base ps (after_part (open_cell_of exotic p bs ((done ++ t ∷ []) ++ ts)))) below) (at (in_cell base ps (after_part (open_cell_of exotic p bs (done ++ t ∷ ts)))) below)
       m (k + unfolded t + total (map unfolded ts)) m (k + total (map unfolded (t ∷ ts)))
-      (ap (λ (us : List Tree). at (in_cell base ps (after_part (part_of exotic p bs us))) below) (append_assoc done (t ∷ []) ts)) refl (omega arith)
+      (ap (λ (us : List Tree). at (in_cell base ps (after_part (open_cell_of exotic p bs us))) below) (append_assoc done (t ∷ []) ts)) refl (omega arith)
       (cons (at (in_cell base ps (after_part q)) below) m k (mark 44) (cell t ++ text.more (map cell ts))
-      (at (in_cell base ps (after_part (part_of exotic p bs ((done ++ t ∷ []) ++ ts)))) below) m (k + unfolded t + total (map unfolded ts))
+      (at (in_cell base ps (after_part (open_cell_of exotic p bs ((done ++ t ∷ []) ++ ts)))) below) m (k + unfolded t + total (map unfolded ts))
       (at (in_cell base ps (child_due q)) below) m k (λ x. refl)
       (join (at (in_cell base ps (child_due q)) below) m k (cell t) (at (in_cell base ps (after_part (with_child q t))) below) m (k + unfolded t) (text.more (map cell ts))
-      (at (in_cell base ps (after_part (part_of exotic p bs ((done ++ t ∷ []) ++ ts)))) below) m (k + unfolded t + total (map unfolded ts))
-      (cell_goes g (at (in_cell base ps (child_due q)) below) m k base (q ∷ ps) below m j
-      (child_begins base ps q below m k (omega (arith, lt, h)) (one_cell t k (omega (arith, c)))) (omega (arith, lt, h)) (omega (arith, c)))
-      (children_go gs (done ++ t ∷ []) exotic p bs base ps below m (k + unfolded t) j n l.1 h (omega (arith, c)))))
+      (at (in_cell base ps (after_part (open_cell_of exotic p bs ((done ++ t ∷ []) ++ ts)))) below) m (k + unfolded t + total (map unfolded ts))
+      (cell_goes g (at (in_cell base ps (child_due q)) below) m k base (q ∷ ps) below m
+      (child_begins base ps q below m k (omega (arith, h, l))) (omega (arith, h)) (omega (arith, c)))
+      (children_go gs (done ++ t ∷ []) exotic p bs base ps below m (k + unfolded t) (omega (arith, h)) (omega (arith, c)))))

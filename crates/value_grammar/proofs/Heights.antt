@@ -1,9 +1,11 @@
--- Cells of a good tree stand in one another at most as deep as their depth says.
-use Rattle.std.proofs.Common.{◌≡◌, ℕ, zero, suc, ◌+◌, ◌/◌, ◌≤◌, ◌==◌, Bool, true, false, ◌&&◌, IsTrue, List, [], ◌∷◌, length, map, refl, sym, ap, ◌∙◌, subst, arith, ⊎_elim}
+-- Cells of a good tree stand in one another at most as deep as their depth says, and in at most 1025 levels.
+use Rattle.std.proofs.Common.{◌≡◌, ℕ, zero, suc, ◌+◌, ◌/◌, ◌≤◌, ◌==◌, Bool, true, false, ◌&&◌, IsTrue, List, [], ◌∷◌, ◌++◌, length, map, max, refl, sym, ap, ◌∙◌, subst, arith, ⊎_elim}
 use Rattle.std.proofs.lemmas.Bool.Decides.{nat_tests}
 use Rattle.std.proofs.lemmas.Nat.Bits.{bit_at_or, bit_at-suc}
 use Rattle.std.specs.Int.{bit_at}
-use Rattle.cell_nodes.specs.Equations.{depth-tree_of, mask-tree_of}
+use Rattle.cell_nodes.specs.Equations.{depth-tree_of, mask-tree_of, tree_of-out}
+use Rattle.cell_nodes.specs.Good.{AllGood, IsGood, good, more, none}
+use Rattle.cell_nodes.specs.GoodParts.{good-depth}
 use Rattle.cell_nodes.specs.Layout.{byte_of, has_layout}
 use Rattle.cell_nodes.specs.LevelsLaws.{bit_cases}
 use Rattle.cell_nodes.specs.MarksLaws.{depth-lowest, depth-set, depth-unset}
@@ -11,7 +13,8 @@ use Rattle.cell_nodes.specs.PrunesGoodLaws.{depth-ordinary, depth-proof}
 use Rattle.cell_nodes.specs.Tree.{depth, depth_over, greatest, mask, marks, tree_of, union_of}
 use Rattle.cell_nodes.specs.declared.tree.Kind.{Kind}
 use Rattle.cell_nodes.specs.declared.tree.Kind.TheVariants.{Ordinary, Pruned, Library, Proof, Update}
-use Rattle.cell_nodes.specs.declared.tree.Tree.{Tree}
+use Rattle.cell_nodes.specs.declared.tree.Tree.{Tree, fold-roll-Tree, out-Tree}
+use Rattle.value_grammar.specs.Within.{cell_levels, cell_levels_step, most_cell_levels}
 
 greatest-unset : (ts : List Tree) (i : ℕ) → bit_at (union_of (map marks ts)) i ≡ 0
     → greatest (map (λ m. m.depth (suc i)) (map marks ts)) ≡ greatest (map (λ m. m.depth i) (map marks ts))
@@ -40,7 +43,7 @@ depth-update b ts (suc i) =
     (bit_cases (u / 2) i)
 
 -- each child is less deep
-abbrev pub Below : List Tree → ℕ → ℕ → Type 0
+abbrev Below : List Tree → ℕ → ℕ → Type 0
 Below [] i n = Unit {0}
 Below (c ∷ cs) i n = (depth c i + 1 ≤ n) × Below cs i n
 
@@ -64,7 +67,7 @@ no_refs [] i n e = tt
 no_refs (c ∷ cs) i n e = absurd (let f : length (c ∷ cs) ≡ 0 = grind (arith, nat_tests) in omega arith)
 
 -- at some level the children are less deep than the tree
-pub children_below : (kind : Kind) (b : List ℕ) (ts : List Tree) (i : ℕ) → IsTrue (has_layout kind b (length ts))
+children_below : (kind : Kind) (b : List ℕ) (ts : List Tree) (i : ℕ) → IsTrue (has_layout kind b (length ts))
     → (j : ℕ) × Below ts j (depth (tree_of kind b ts) i)
 children_below Ordinary b ts i h = (i, below_at ts i (depth_over i (map marks ts)) (depth (tree_of Ordinary b ts) i) (sym (depth-ordinary b ts i)) (over_below ts i))
 children_below Proof b ts i h =
@@ -83,3 +86,45 @@ children_below Library b ts i h = (i, no_refs ts i (depth (tree_of Library b ts)
     middle true true d g = refl
     middle true false d g = g
     middle false c d g = absurd (cc)
+
+-- ---- levels of cells
+
+pub cell_levels-tree_of : (k : Kind) (b : List ℕ) (cs : List Tree) → cell_levels (tree_of k b cs) ≡ 1 + greatest (map cell_levels cs)
+unfolding cell_levels
+cell_levels-tree_of k b cs = fold-roll-Tree ℕ cell_levels_step (record { kind = k; bits = b; children = cs })
+
+pub one_le-levels : (t : Tree) → 1 ≤ cell_levels t
+one_le-levels t =
+    let P : Tree → Type 0 = λ x. 1 ≤ cell_levels x in
+    let whole = cell_levels-tree_of (out-Tree t).kind (out-Tree t).bits (out-Tree t).children in
+    subst P (tree_of-out t) (omega (arith, whole))
+
+mutual
+  good_levels : {t : Tree} → IsGood t → (i : ℕ) → cell_levels t ≤ depth t i + 1
+  good_levels (good t sound all) i =
+      let kind : Kind = (out-Tree t).kind in
+      let bs : List ℕ = (out-Tree t).bits in
+      let cs : List Tree = (out-Tree t).children in
+      let P : Tree → Type 0 = λ x. cell_levels x ≤ depth x i + 1 in
+      let low = children_below kind bs cs i sound.layout in
+      let most = all_levels all low.0 (depth (tree_of kind bs cs) i) low.1 in
+      let whole = cell_levels-tree_of kind bs cs in
+      subst P (tree_of-out t) (omega (arith, whole, most))
+
+  all_levels : {ts : List Tree} → AllGood ts → (i n : ℕ) → Below ts i n → greatest (map cell_levels ts) ≤ n
+  all_levels none i n b = omega arith
+  all_levels (more t ts g gs) i n b =
+      let first = good_levels g i in
+      let rest = all_levels gs i n b.1 in
+      let low = b.0 in
+      omega (arith, first, rest, low)
+
+pub shallow_levels : {t : Tree} → IsGood t → cell_levels t ≤ most_cell_levels
+shallow_levels {t} g =
+    let d = good-depth t 0 g (omega arith) in
+    let l = good_levels g 0 in
+    omega (arith, d, l)
+
+pub levels_push : (ts : List Tree) (t : Tree) → greatest (map cell_levels (ts ++ t ∷ [])) ≡ max (greatest (map cell_levels ts)) (cell_levels t)
+levels_push [] t = omega arith
+levels_push (c ∷ ts) t = let e = levels_push ts t in omega (arith, e)

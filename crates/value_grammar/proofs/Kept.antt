@@ -133,8 +133,8 @@ sign_keeps Tilde p below f d = give_keeps absent below f tt (one_level (length b
 sign_keeps OpenBracket p below f d = (f, room (length below) true refl d, tt)
 sign_keeps Caret p below f d = ((room (length below) true refl d, f), tt, tt)
 sign_keeps Less p below f d = (f, room (length below) true refl d, tt)
-sign_keeps OpenParen p below f d = (f, (tt, tt, tt, omega arith, room (length below) true refl d), tt)
-sign_keeps Bang p below f d = (f, (tt, tt, tt, omega arith, room (length below) true refl d), tt)
+sign_keeps OpenParen p below f d = (f, (tt, tt, omega arith, room (length below) true refl d), tt)
+sign_keeps Bang p below f d = (f, (tt, tt, omega arith, room (length below) true refl d), tt)
 sign_keeps Percent p below f d = (f, room (length below) true refl d, tt)
 sign_keeps s p below f d = tt
 

@@ -20,3 +20,7 @@ mod Maps
 mod Apart
 mod Complete
 mod Determined
+mod Leads
+mod Opens
+mod OpenSpots
+mod Stopped

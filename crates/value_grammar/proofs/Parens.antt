@@ -12,9 +12,9 @@ use Rattle.value_text.specs.Division.{Placed, lexeme_of, lexemes}
 use Rattle.value_text.specs.Text.{cell, more}
 use Rattle.value_text.specs.Tokens.{Token, bits, mark}
 use Rattle.value_grammar.specs.declared.cause.Cause.{Cause}
-use Rattle.value_grammar.specs.Open.{CellSpot, Frame, Open, Part, Spot, after_entry, after_field, after_item, after_part, after_rest, at, bang, base_text, bits_due, child_due, done, due, entry_due, entry_or_end, field, field_due, field_or_end, frames_text, in_cell, item, item_or_end, keyed, labelled, named, pair, paren_due, parts_text, reference, rest_bits, rest_child, rest_paren, so_far}
+use Rattle.value_grammar.specs.Open.{CellSpot, Frame, Open, OpenCell, Spot, after_entry, after_field, after_item, after_part, after_rest, at, bang, base_text, bits_due, child_due, done, due, entry_due, entry_or_end, field, field_due, field_or_end, frames_text, in_cell, item, item_or_end, keyed, labelled, named, pair, paren_due, around_text, reference, rest_bits, rest_child, rest_paren, so_far}
 use Rattle.value_grammar.specs.Within.{closed}
-use Rattle.value_grammar.specs.Steps.{Outcome, begin, begin_cell, begin_part, begin_sign, give, give_cell, give_closed, in_part, list_or_end, move, move_cell, no_go, open_exotic, open_record, open_rest, begin_rest, in_rest, in_list, in_map, in_record, key, key_or_end, label, label_or_end, colon, entry, the_map, the_record}
+use Rattle.value_grammar.specs.Steps.{Outcome, begin, begin_cell, begin_body, begin_sign, give, give_cell, give_closed, in_body, list_or_end, move, move_cell, no_go, open_exotic, open_record, open_rest, begin_rest, in_rest, in_list, in_map, in_record, key, key_or_end, label, label_or_end, colon, entry, the_map, the_record}
 use Rattle.value_grammar.proofs.Adds.{OkThen}
 
 abbrev pub place_at : List Placed → ℕ → Option ℕ
@@ -34,16 +34,16 @@ place_last (m ∷ ls) l zero e = absurd (omega arith)
 place_last (m ∷ ls) l (suc i) e = place_last ls l i (omega arith)
 
 -- the tokens before a cell
-abbrev outside : Option Slice → List Part → List Frame → List Token
-outside base ps below = frames_text below ++ (base_text base ++ parts_text ps)
+abbrev outside : Option Slice → List OpenCell → List Frame → List Token
+outside base ps below = frames_text below ++ (base_text base ++ around_text ps)
 
 -- a `(` after these tokens, and a `!` where the cell is exotic, has that place
 abbrev ParenAt : List Placed → List Token → Bool → ℕ → Type 0
 ParenAt before out exotic place = place_at before (length (out ++ bang exotic)) ≡ Some place
 
-abbrev PartsAt : List Placed → Option Slice → List Part → List Frame → Type 0
-PartsAt before base [] below = Unit {0}
-PartsAt before base (p ∷ ps) below = ParenAt before (outside base ps below) p.exotic p.place × PartsAt before base ps below
+abbrev AroundAt : List Placed → Option Slice → List OpenCell → List Frame → Type 0
+AroundAt before base [] below = Unit {0}
+AroundAt before base (p ∷ ps) below = ParenAt before (outside base ps below) p.exotic p.place × AroundAt before base ps below
 
 abbrev CellAt : List Placed → List Token → CellSpot → Type 0
 CellAt before out paren_due = Unit {0}
@@ -52,12 +52,12 @@ CellAt before out (after_part p) = ParenAt before out p.exotic p.place
 CellAt before out (child_due p) = ParenAt before out p.exotic p.place
 
 abbrev pub Parens : List Placed → Open → Type 0
-Parens before (at (in_cell base ps c) below) = PartsAt before base ps below × CellAt before (outside base ps below) c
+Parens before (at (in_cell base ps c) below) = AroundAt before base ps below × CellAt before (outside base ps below) c
 Parens before (at spot below) = Unit {0}
 
-parts_stay : (before ms : List Placed) (base : Option Slice) (ps : List Part) (below : List Frame) → PartsAt before base ps below → PartsAt (before ++ ms) base ps below
-parts_stay before ms base [] below h = tt
-parts_stay before ms base (p ∷ ps) below h = (place_stays before ms (length (outside base ps below ++ bang p.exotic)) p.place h.0, parts_stay before ms base ps below h.1)
+around_stays : (before ms : List Placed) (base : Option Slice) (ps : List OpenCell) (below : List Frame) → AroundAt before base ps below → AroundAt (before ++ ms) base ps below
+around_stays before ms base [] below h = tt
+around_stays before ms base (p ∷ ps) below h = (place_stays before ms (length (outside base ps below ++ bang p.exotic)) p.place h.0, around_stays before ms base ps below h.1)
 
 -- ---- a whole value is in no cell
 
@@ -128,66 +128,66 @@ list_parens before (Beyond form) p below e = tt
 
 -- ---- in cells
 
-begin_cell_parens : (before : List Placed) (base : Option Slice) (ps : List Part) (l : Lexeme) (p : ℕ) (below : List Frame)
-    → length before ≡ length (outside base ps below) → PartsAt before base ps below → Kept (before ++ (p, l) ∷ []) (begin_cell base ps l p below)
+begin_cell_parens : (before : List Placed) (base : Option Slice) (ps : List OpenCell) (l : Lexeme) (p : ℕ) (below : List Frame)
+    → length before ≡ length (outside base ps below) → AroundAt before base ps below → Kept (before ++ (p, l) ∷ []) (begin_cell base ps l p below)
 begin_cell_parens before base ps (ASign OpenParen) p below e h = (
-  parts_stay before ((p, ASign OpenParen) ∷ []) base ps below h,
+  around_stays before ((p, ASign OpenParen) ∷ []) base ps below h,
   last_paren before (p, ASign OpenParen) (outside base ps below) false (e ∙ ap length (sym (append-nil (outside base ps below)))),
 )
-begin_cell_parens before base ps (ASign Bang) p below e h = (parts_stay before ((p, ASign Bang) ∷ []) base ps below h, tt)
+begin_cell_parens before base ps (ASign Bang) p below e h = (around_stays before ((p, ASign Bang) ∷ []) base ps below h, tt)
 begin_cell_parens before base ps l p below e h = tt
 
-open_exotic_parens : (before : List Placed) (base : Option Slice) (ps : List Part) (l : Lexeme) (p : ℕ) (below : List Frame)
-    → length before ≡ length (outside base ps below ++ mark 33 ∷ []) → PartsAt before base ps below → Kept (before ++ (p, l) ∷ []) (open_exotic base ps l p below)
+open_exotic_parens : (before : List Placed) (base : Option Slice) (ps : List OpenCell) (l : Lexeme) (p : ℕ) (below : List Frame)
+    → length before ≡ length (outside base ps below ++ mark 33 ∷ []) → AroundAt before base ps below → Kept (before ++ (p, l) ∷ []) (open_exotic base ps l p below)
 open_exotic_parens before base ps (ASign OpenParen) p below e h =
-    (parts_stay before ((p, ASign OpenParen) ∷ []) base ps below h, last_paren before (p, ASign OpenParen) (outside base ps below) true e)
+    (around_stays before ((p, ASign OpenParen) ∷ []) base ps below h, last_paren before (p, ASign OpenParen) (outside base ps below) true e)
 open_exotic_parens before base ps l p below e h = tt
 
-begin_part_parens : (before : List Placed) (base : Option Slice) (ps : List Part) (exotic : Bool) (paren : ℕ) (l : Lexeme) (p : ℕ) (below : List Frame)
-    → Parens before (at (in_cell base ps (bits_due exotic paren)) below) → Kept (before ++ (p, l) ∷ []) (begin_part base ps exotic paren l p below)
-begin_part_parens before base ps exotic paren (Bits bs) p below h = (
-  parts_stay before ((p, Bits bs) ∷ []) base ps below h.0,
+begin_body_parens : (before : List Placed) (base : Option Slice) (ps : List OpenCell) (exotic : Bool) (paren : ℕ) (l : Lexeme) (p : ℕ) (below : List Frame)
+    → Parens before (at (in_cell base ps (bits_due exotic paren)) below) → Kept (before ++ (p, l) ∷ []) (begin_body base ps exotic paren l p below)
+begin_body_parens before base ps exotic paren (Bits bs) p below h = (
+  around_stays before ((p, Bits bs) ∷ []) base ps below h.0,
   place_stays before ((p, Bits bs) ∷ []) (length (outside base ps below ++ bang exotic)) paren h.1,
 )
-begin_part_parens before base ps exotic paren l p below h = tt
+begin_body_parens before base ps exotic paren l p below h = tt
 
-give_cell_parens : (before : List Placed) (t : Tree) (base : Option Slice) (ps : List Part) (below : List Frame) → PartsAt before base ps below
+give_cell_parens : (before : List Placed) (t : Tree) (base : Option Slice) (ps : List OpenCell) (below : List Frame) → AroundAt before base ps below
     → Parens before (give_cell t base ps below)
 give_cell_parens before t base (q ∷ qs) below h = (h.1, h.0)
 give_cell_parens before t None [] below h = give_parens before (raw t) below
 give_cell_parens before t (Some r) [] below h = tt
 
-give_closed_parens : (before : List Placed) (r : Result Tree Cause) (paren : ℕ) (base : Option Slice) (ps : List Part) (below : List Frame) → PartsAt before base ps below
+give_closed_parens : (before : List Placed) (r : Result Tree Cause) (paren : ℕ) (base : Option Slice) (ps : List OpenCell) (below : List Frame) → AroundAt before base ps below
     → Kept before (give_closed r paren base ps below)
 give_closed_parens before (Ok t) paren base ps below h = give_cell_parens before t base ps below h
 give_closed_parens before (Err cause) paren base ps below h = tt
 
-in_part_parens : (before : List Placed) (base : Option Slice) (ps : List Part) (q : Part) (l : Lexeme) (p : ℕ) (below : List Frame)
-    → Parens before (at (in_cell base ps (after_part q)) below) → Kept (before ++ (p, l) ∷ []) (in_part base ps q l p below)
-in_part_parens before base ps q (ASign Comma) p below h = (
-  parts_stay before ((p, ASign Comma) ∷ []) base ps below h.0,
+in_body_parens : (before : List Placed) (base : Option Slice) (ps : List OpenCell) (q : OpenCell) (l : Lexeme) (p : ℕ) (below : List Frame)
+    → Parens before (at (in_cell base ps (after_part q)) below) → Kept (before ++ (p, l) ∷ []) (in_body base ps q l p below)
+in_body_parens before base ps q (ASign Comma) p below h = (
+  around_stays before ((p, ASign Comma) ∷ []) base ps below h.0,
   place_stays before ((p, ASign Comma) ∷ []) (length (outside base ps below ++ bang q.exotic)) q.place h.1,
 )
-in_part_parens before base ps q (ASign CloseParen) p below h =
-    give_closed_parens (before ++ (p, ASign CloseParen) ∷ []) (closed q) q.place base ps below (parts_stay before ((p, ASign CloseParen) ∷ []) base ps below h.0)
-in_part_parens before base ps q l p below h = tt
+in_body_parens before base ps q (ASign CloseParen) p below h =
+    give_closed_parens (before ++ (p, ASign CloseParen) ∷ []) (closed q) q.place base ps below (around_stays before ((p, ASign CloseParen) ∷ []) base ps below h.0)
+in_body_parens before base ps q l p below h = tt
 
-outside_child : (base : Option Slice) (ps : List Part) (q : Part) (below : List Frame)
+outside_child : (base : Option Slice) (ps : List OpenCell) (q : OpenCell) (below : List Frame)
     → so_far (at (in_cell base ps (child_due q)) below) ≡ outside base (q ∷ ps) below
 outside_child base ps q below = simp append_assoc refl
 
-outside_bang : (base : Option Slice) (ps : List Part) (below : List Frame) → so_far (at (in_cell base ps paren_due) below) ≡ outside base ps below ++ mark 33 ∷ []
+outside_bang : (base : Option Slice) (ps : List OpenCell) (below : List Frame) → so_far (at (in_cell base ps paren_due) below) ≡ outside base ps below ++ mark 33 ∷ []
 outside_bang base ps below = simp append_assoc refl
 
 outside_rest : (r : Slice) (below : List Frame) → so_far (at (rest_child r) below) ≡ outside (Some r) [] below
 outside_rest r below = ap (λ (ts : List Token). frames_text below ++ ts) (sym (append-nil (base_text (Some r))))
 
-cell_parens : (before : List Placed) (base : Option Slice) (ps : List Part) (c : CellSpot) (l : Lexeme) (p : ℕ) (below : List Frame)
+cell_parens : (before : List Placed) (base : Option Slice) (ps : List OpenCell) (c : CellSpot) (l : Lexeme) (p : ℕ) (below : List Frame)
     → length before ≡ length (so_far (at (in_cell base ps c) below)) → Parens before (at (in_cell base ps c) below)
     → Kept (before ++ (p, l) ∷ []) (move_cell base ps c l p below)
 cell_parens before base ps paren_due l p below e h = open_exotic_parens before base ps l p below (e ∙ ap length (outside_bang base ps below)) h.0
-cell_parens before base ps (bits_due exotic paren) l p below e h = begin_part_parens before base ps exotic paren l p below h
-cell_parens before base ps (after_part q) l p below e h = in_part_parens before base ps q l p below h
+cell_parens before base ps (bits_due exotic paren) l p below e h = begin_body_parens before base ps exotic paren l p below h
+cell_parens before base ps (after_part q) l p below e h = in_body_parens before base ps q l p below h
 cell_parens before base ps (child_due q) l p below e h =
     begin_cell_parens before base (q ∷ ps) l p below (e ∙ ap length (outside_child base ps q below)) (h.1, h.0)
 
@@ -307,13 +307,13 @@ split_at (m ∷ ls) (t ∷ out) body byte e p =
     let s = split_at ls out body byte after p in
     record { earlier = m ∷ s.earlier; inner = s.inner; split = ap (λ (ms : List Placed). m ∷ ms) s.split; written = s.written }
 
-part_text_is : (base : Option Slice) (ps : List Part) (q : Part) (below : List Frame)
+open_cell_text_is : (base : Option Slice) (ps : List OpenCell) (q : OpenCell) (below : List Frame)
     → so_far (at (in_cell base ps (after_part q)) below) ≡ (outside base ps below ++ bang q.exotic) ++ mark 40 ∷ bits q.bits ∷ more (map cell q.refs)
-part_text_is base ps q below = simp append_assoc refl
+open_cell_text_is base ps q below = simp append_assoc refl
 
-pub paren_of : (before : List Placed) (base : Option Slice) (ps : List Part) (q : Part) (below : List Frame)
+pub paren_of : (before : List Placed) (base : Option Slice) (ps : List OpenCell) (q : OpenCell) (below : List Frame)
     → lexemes before ≡ map lexeme_of (so_far (at (in_cell base ps (after_part q)) below)) → Parens before (at (in_cell base ps (after_part q)) below)
     → ParenOf before q.place (bits q.bits ∷ more (map cell q.refs))
 paren_of before base ps q below e h =
     split_at before (outside base ps below ++ bang q.exotic) (bits q.bits ∷ more (map cell q.refs)) q.place
-    (e ∙ ap (map lexeme_of) (part_text_is base ps q below)) h.1
+    (e ∙ ap (map lexeme_of) (open_cell_text_is base ps q below)) h.1

@@ -140,14 +140,14 @@ abbrev pub open_exotic : Bool → ℕ → Shape → List Around → Option State
 open_exotic base n (sign OpenParen) b = Some (at (bits_due base n) b)
 open_exotic base n c b = None
 
-abbrev pub begin_part : Bool → ℕ → Shape → List Around → Option State
-begin_part base n bits b = Some (at (after_part base n) b)
-begin_part base n c b = None
+abbrev pub begin_body : Bool → ℕ → Shape → List Around → Option State
+begin_body base n bits b = Some (at (after_part base n) b)
+begin_body base n c b = None
 
-abbrev pub in_part : Bool → ℕ → Shape → List Around → Option State
-in_part base n (sign Comma) b = Some (at (child_due base n) b)
-in_part base n (sign CloseParen) b = Some (cell_given base n b)
-in_part base n c b = None
+abbrev pub in_body : Bool → ℕ → Shape → List Around → Option State
+in_body base n (sign Comma) b = Some (at (child_due base n) b)
+in_body base n (sign CloseParen) b = Some (cell_given base n b)
+in_body base n c b = None
 
 abbrev pub move : Where → Shape → List Around → Option State
 move due c b = begin c b
@@ -167,8 +167,8 @@ move rest_bits c b = begin_rest c b
 move after_rest c b = in_rest c b
 move rest_child c b = begin_cell true 0 c b
 move (paren_due base n) c b = open_exotic base n c b
-move (bits_due base n) c b = begin_part base n c b
-move (after_part base n) c b = in_part base n c b
+move (bits_due base n) c b = begin_body base n c b
+move (after_part base n) c b = in_body base n c b
 move (child_due base n) c b = begin_cell base (suc n) c b
 move done c b = None
 

@@ -53,7 +53,7 @@ some_entry [] (u ∷ us) h = tt
 some_entry (p ∷ ps) us h =
     has_some (map hidden_entry (take (count_before p.0 us) us)) (bits p.0 ∷ mark 58 ∷ tokens p.1) (entry_tokens ps (drop (count_before p.0 us) us))
 
-entries_there : (ps : List (List ℕ × Plain)) (us : List (List ℕ × Hidden)) (last : List ℕ) → Ascends ps us last → HasSome (entry_tokens ps us)
+pub entries_there : (ps : List (List ℕ × Plain)) (us : List (List ℕ × Hidden)) (last : List ℕ) → Ascends ps us last → HasSome (entry_tokens ps us)
 entries_there ps us last a =
     let P : List (List ℕ) → Type 0 = λ ks. HasKey ks in
     some_entry ps us (subst P (sym a.ends) (has_key a.earlier last))

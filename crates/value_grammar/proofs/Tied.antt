@@ -12,9 +12,9 @@ use Rattle.value_text.specs.declared.lexeme.Lexeme.TheVariants.{Sign as ASign, N
 use Rattle.value_grammar.specs.declared.cause.Cause.{Cause}
 use Rattle.value_grammar.specs.declared.cause.Cause.TheVariants.{Syntax}
 use Rattle.value_grammar.specs.Shapes.{Shape, name, shape, sign, x_name}
-use Rattle.value_grammar.specs.Open.{CellSpot, Frame, Open, Part, Spot, after_entry, after_field, after_item, after_part, after_rest, at, bits_due, child_due, done, due, entry_due, entry_or_end, field, field_due, field_or_end, in_cell, item, item_or_end, keyed, labelled, named, pair, paren_due, reference, rest_bits, rest_child, rest_paren}
+use Rattle.value_grammar.specs.Open.{CellSpot, Frame, Open, OpenCell, Spot, after_entry, after_field, after_item, after_part, after_rest, at, bits_due, child_due, done, due, entry_due, entry_or_end, field, field_due, field_or_end, in_cell, item, item_or_end, keyed, labelled, named, pair, paren_due, reference, rest_bits, rest_child, rest_paren}
 use Rattle.value_grammar.specs.Within.{closed, is_beyond}
-use Rattle.value_grammar.specs.Steps.{Outcome, begin, begin_cell, begin_part, begin_rest, begin_sign, colon, entry, give, give_cell, give_closed, in_list, in_map, in_part, in_record, in_rest, key, key_or_end, label, label_or_end, list_or_end, move, move_cell, no_go, open_exotic, open_record, open_rest, the_map, the_record}
+use Rattle.value_grammar.specs.Steps.{Outcome, begin, begin_cell, begin_body, begin_rest, begin_sign, colon, entry, give, give_cell, give_closed, in_list, in_map, in_body, in_record, in_rest, key, key_or_end, label, label_or_end, list_or_end, move, move_cell, no_go, open_exotic, open_record, open_rest, the_map, the_record}
 use Rattle.value_grammar.specs.Refused.{Closes}
 use Rattle.value_grammar.proofs.ShapeSteps as shapes
 
@@ -67,7 +67,7 @@ state_of (at spot below) = shapes.at (where_of spot) (arounds below)
 
 pub data Fails (o : Open) (l : Lexeme) (place : ℕ) (s : Option shapes.State) : Cause → ℕ → Type 0 where
   no_step : s ≡ None → Fails o l place s Syntax place
-  no_cell : {cause : Cause} (q : Part) → l ≡ ASign CloseParen → Closes o q → closed q ≡ Err cause → Fails o l place s cause q.place
+  no_cell : {cause : Cause} (q : OpenCell) → l ≡ ASign CloseParen → Closes o q → closed q ≡ Err cause → Fails o l place s cause q.place
 
 abbrev pub Tied : Outcome → Open → Lexeme → ℕ → Option shapes.State → Type 0
 Tied (Ok next) o l place s = s ≡ Some (state_of next)
@@ -251,7 +251,7 @@ in_rest_tied o r (Name x) p below b = no_step (no_name (λ c. shapes.in_rest c (
 in_rest_tied o r (Beyond form) p below b = absurd (cc)
 in_rest_tied o r l p below b = no_step refl
 
-begin_cell_tied : (o : Open) (base : Option Slice) (ps : List Part) (l : Lexeme) (p : ℕ) (below : List Frame) → is_beyond l ≡ false
+begin_cell_tied : (o : Open) (base : Option Slice) (ps : List OpenCell) (l : Lexeme) (p : ℕ) (below : List Frame) → is_beyond l ≡ false
     → Tied (begin_cell base ps l p below) o l p (shapes.begin_cell (is_based base) (length ps) (shape l) (arounds below))
 begin_cell_tied o base ps (ASign OpenParen) p below b = refl
 begin_cell_tied o base ps (ASign Bang) p below b = refl
@@ -259,47 +259,47 @@ begin_cell_tied o base ps (Name x) p below b = no_step (no_name (λ c. shapes.be
 begin_cell_tied o base ps (Beyond form) p below b = absurd (cc)
 begin_cell_tied o base ps l p below b = no_step refl
 
-open_exotic_tied : (o : Open) (base : Option Slice) (ps : List Part) (l : Lexeme) (p : ℕ) (below : List Frame) → is_beyond l ≡ false
+open_exotic_tied : (o : Open) (base : Option Slice) (ps : List OpenCell) (l : Lexeme) (p : ℕ) (below : List Frame) → is_beyond l ≡ false
     → Tied (open_exotic base ps l p below) o l p (shapes.open_exotic (is_based base) (length ps) (shape l) (arounds below))
 open_exotic_tied o base ps (ASign OpenParen) p below b = refl
 open_exotic_tied o base ps (Name x) p below b = no_step (no_name (λ c. shapes.open_exotic (is_based base) (length ps) c (arounds below)) x refl refl)
 open_exotic_tied o base ps (Beyond form) p below b = absurd (cc)
 open_exotic_tied o base ps l p below b = no_step refl
 
-begin_part_tied : (o : Open) (base : Option Slice) (ps : List Part) (exotic : Bool) (paren : ℕ) (l : Lexeme) (p : ℕ) (below : List Frame) → is_beyond l ≡ false
-    → Tied (begin_part base ps exotic paren l p below) o l p (shapes.begin_part (is_based base) (length ps) (shape l) (arounds below))
-begin_part_tied o base ps exotic paren (Bits bs) p below b = refl
-begin_part_tied o base ps exotic paren (Name x) p below b =
-    no_step (no_name (λ c. shapes.begin_part (is_based base) (length ps) c (arounds below)) x refl refl)
-begin_part_tied o base ps exotic paren (Beyond form) p below b = absurd (cc)
-begin_part_tied o base ps exotic paren l p below b = no_step refl
+begin_body_tied : (o : Open) (base : Option Slice) (ps : List OpenCell) (exotic : Bool) (paren : ℕ) (l : Lexeme) (p : ℕ) (below : List Frame) → is_beyond l ≡ false
+    → Tied (begin_body base ps exotic paren l p below) o l p (shapes.begin_body (is_based base) (length ps) (shape l) (arounds below))
+begin_body_tied o base ps exotic paren (Bits bs) p below b = refl
+begin_body_tied o base ps exotic paren (Name x) p below b =
+    no_step (no_name (λ c. shapes.begin_body (is_based base) (length ps) c (arounds below)) x refl refl)
+begin_body_tied o base ps exotic paren (Beyond form) p below b = absurd (cc)
+begin_body_tied o base ps exotic paren l p below b = no_step refl
 
-give_cell_shape : (t : Tree) (base : Option Slice) (ps : List Part) (below : List Frame)
+give_cell_shape : (t : Tree) (base : Option Slice) (ps : List OpenCell) (below : List Frame)
     → shapes.cell_given (is_based base) (length ps) (arounds below) ≡ state_of (give_cell t base ps below)
 give_cell_shape t None [] below = give_shape (raw t) below
 give_cell_shape t (Some r) [] below = refl
 give_cell_shape t None (q ∷ qs) below = refl
 give_cell_shape t (Some r) (q ∷ qs) below = refl
 
-closed_tied : (base : Option Slice) (ps : List Part) (q : Part) (p : ℕ) (below : List Frame) (r : Result Tree Cause) → closed q ≡ r
+closed_tied : (base : Option Slice) (ps : List OpenCell) (q : OpenCell) (p : ℕ) (below : List Frame) (r : Result Tree Cause) → closed q ≡ r
     → Tied (give_closed r q.place base ps below) (at (in_cell base ps (after_part q)) below) (ASign CloseParen) p
     (Some (shapes.cell_given (is_based base) (length ps) (arounds below)))
 closed_tied base ps q p below (Ok t) e = ap (λ (s : shapes.State). Some s) (give_cell_shape t base ps below)
 closed_tied base ps q p below (Err cause) e = no_cell q refl refl e
 
-in_part_tied : (base : Option Slice) (ps : List Part) (q : Part) (l : Lexeme) (p : ℕ) (below : List Frame) → is_beyond l ≡ false
-    → Tied (in_part base ps q l p below) (at (in_cell base ps (after_part q)) below) l p (shapes.in_part (is_based base) (length ps) (shape l) (arounds below))
-in_part_tied base ps q (ASign Comma) p below b = refl
-in_part_tied base ps q (ASign CloseParen) p below b = closed_tied base ps q p below (closed q) refl
-in_part_tied base ps q (Name x) p below b = no_step (no_name (λ c. shapes.in_part (is_based base) (length ps) c (arounds below)) x refl refl)
-in_part_tied base ps q (Beyond form) p below b = absurd (cc)
-in_part_tied base ps q l p below b = no_step refl
+in_body_tied : (base : Option Slice) (ps : List OpenCell) (q : OpenCell) (l : Lexeme) (p : ℕ) (below : List Frame) → is_beyond l ≡ false
+    → Tied (in_body base ps q l p below) (at (in_cell base ps (after_part q)) below) l p (shapes.in_body (is_based base) (length ps) (shape l) (arounds below))
+in_body_tied base ps q (ASign Comma) p below b = refl
+in_body_tied base ps q (ASign CloseParen) p below b = closed_tied base ps q p below (closed q) refl
+in_body_tied base ps q (Name x) p below b = no_step (no_name (λ c. shapes.in_body (is_based base) (length ps) c (arounds below)) x refl refl)
+in_body_tied base ps q (Beyond form) p below b = absurd (cc)
+in_body_tied base ps q l p below b = no_step refl
 
-cell_tied : (base : Option Slice) (ps : List Part) (c : CellSpot) (l : Lexeme) (p : ℕ) (below : List Frame) → is_beyond l ≡ false
+cell_tied : (base : Option Slice) (ps : List OpenCell) (c : CellSpot) (l : Lexeme) (p : ℕ) (below : List Frame) → is_beyond l ≡ false
     → Tied (move_cell base ps c l p below) (at (in_cell base ps c) below) l p (shapes.move (cell_where (is_based base) (length ps) c) (shape l) (arounds below))
 cell_tied base ps paren_due l p below b = open_exotic_tied (at (in_cell base ps paren_due) below) base ps l p below b
-cell_tied base ps (bits_due exotic paren) l p below b = begin_part_tied (at (in_cell base ps (bits_due exotic paren)) below) base ps exotic paren l p below b
-cell_tied base ps (after_part q) l p below b = in_part_tied base ps q l p below b
+cell_tied base ps (bits_due exotic paren) l p below b = begin_body_tied (at (in_cell base ps (bits_due exotic paren)) below) base ps exotic paren l p below b
+cell_tied base ps (after_part q) l p below b = in_body_tied base ps q l p below b
 cell_tied base ps (child_due q) l p below b = begin_cell_tied (at (in_cell base ps (child_due q)) below) base (q ∷ ps) l p below b
 
 -- ---- every step

@@ -15,11 +15,11 @@ use Rattle.value_text.specs.Text as text
 use Rattle.value_text.specs.Tokens.{Token, mark, bits, name, hidden}
 use Rattle.value_text.specs.Tokens as token
 use Rattle.value_text.specs.Writes.{AreFields, IsRecordName, cells_in, cells_of, most_cells}
-use Rattle.value_grammar.specs.Open.{Frame, Open, after_field, after_item, at, bang, body_text, due, field, field_due, field_or_end, item, item_or_end, labelled, named}
+use Rattle.value_grammar.specs.Open.{Frame, Open, Spot, after_field, after_item, at, bang, body_text, due, field, field_due, field_or_end, item, item_or_end, labelled, named}
 use Rattle.value_grammar.specs.Within.{begins_value, is_beyond, is_paren, limit_of}
 use Rattle.value_grammar.specs.Steps.{Outcome, Stepped, and_then, begin, counted, give, held_of, no_go, run, step, the_record, unless_limit}
 use Rattle.value_grammar.proofs.Texts.{cell_text}
-use Rattle.value_grammar.proofs.Goes.{G, free, along, cons, due_step, join, one, to}
+use Rattle.value_grammar.proofs.Goes.{G, free, along, cons, due_step, head_is, join, nothing, one, to}
 
 -- inside any values, where there is room
 abbrev pub AnyValue : Plain → Type 0
@@ -80,74 +80,95 @@ field_goes o n fs x v below m k a f l p c =
 
 more_fields : (names : List (List ℕ)) (vs : Plains) (n : Option (List ℕ)) (fs : List (List ℕ × Plain)) (below : List Frame) (m k : ℕ) → AnyValues vs → AreFields names vs
     → length below + 1 + levels_in vs ≤ most_levels → m + parts_in vs ≤ most_parts → k + cells_of vs ≤ most_cells
-    → G (at (after_field n fs) below) m k (text.more (fields names vs) ++ mark 125 ∷ []) (give (the_record n (fs ++ zipped names vs)) below) (m + parts_in vs) (k + cells_of vs)
+    → G (at (after_field n fs) below) m k (text.more (fields names vs)) (at (after_field n (fs ++ zipped names vs)) below) (m + parts_in vs) (k + cells_of vs)
 more_fields names no_vals n fs below m k a h l p c =
-    to (at (after_field n fs) below) m k (mark 125 ∷ []) (give (the_record n fs) below) (give (the_record n (fs ++ [])) below) m k (m + 0) (k + 0)
-    (ap (λ (gs : List (List ℕ × Plain)). give (the_record n gs) below) (sym (append-nil fs))) (omega arith) (omega arith)
-    (one (at (after_field n fs) below) m k (mark 125) (give (the_record n fs) below) m k (λ x. refl))
+    to (at (after_field n fs) below) m k [] (at (after_field n fs) below) (at (after_field n (fs ++ [])) below) m k (m + 0) (k + 0)
+    (ap (λ (gs : List (List ℕ × Plain)). at (after_field n gs) below) (sym (append-nil fs))) (omega arith) (omega arith)
+    (nothing (at (after_field n fs) below) m k)
 more_fields [] (a_val v vs) n fs below m k a h l p c = absurd h
 more_fields (x ∷ names) (a_val v vs) n fs below m k a h l p c =
     let e : List Token = name x ∷ mark 58 ∷ tokens v in
     let es : List Token = text.more (fields names vs) in
-    let q : Open = give (the_record n ((fs ++ (x, v) ∷ []) ++ zipped names vs)) below in
-    to (at (after_field n fs) below) m k ((mark 44 ∷ e ++ es) ++ mark 125 ∷ []) q (give (the_record n (fs ++ (x, v) ∷ zipped names vs)) below)
+    let q : Open = at (after_field n ((fs ++ (x, v) ∷ []) ++ zipped names vs)) below in
+    to (at (after_field n fs) below) m k (mark 44 ∷ (e ++ es)) q (at (after_field n (fs ++ (x, v) ∷ zipped names vs)) below)
     (m + parts v + parts_in vs) (k + cells_in v + cells_of vs) (m + (parts v + parts_in vs)) (k + (cells_in v + cells_of vs))
-    (ap (λ (gs : List (List ℕ × Plain)). give (the_record n gs) below) (append_assoc fs ((x, v) ∷ []) (zipped names vs))) (omega arith) (omega arith)
-    (along (at (after_field n fs) below) m k (mark 44 ∷ (e ++ (es ++ mark 125 ∷ []))) ((mark 44 ∷ e ++ es) ++ mark 125 ∷ []) q (m + parts v + parts_in vs) (k + cells_in v + cells_of vs)
-    (ap (λ (ts : List Token). mark 44 ∷ ts) (sym (append_assoc e es (mark 125 ∷ []))))
-    (cons (at (after_field n fs) below) m k (mark 44) (e ++ (es ++ mark 125 ∷ [])) q (m + parts v + parts_in vs) (k + cells_in v + cells_of vs) (at (field_due n fs) below) m k (λ y. refl)
-    (join (at (field_due n fs) below) m k e (at (after_field n (fs ++ (x, v) ∷ [])) below) (m + parts v) (k + cells_in v) (es ++ mark 125 ∷ []) q (m + parts v + parts_in vs) (k + cells_in v + cells_of vs)
+    (ap (λ (gs : List (List ℕ × Plain)). at (after_field n gs) below) (append_assoc fs ((x, v) ∷ []) (zipped names vs))) (omega arith) (omega arith)
+    (cons (at (after_field n fs) below) m k (mark 44) (e ++ es) q (m + parts v + parts_in vs) (k + cells_in v + cells_of vs) (at (field_due n fs) below) m k (λ y. refl)
+    (join (at (field_due n fs) below) m k e (at (after_field n (fs ++ (x, v) ∷ [])) below) (m + parts v) (k + cells_in v) es q (m + parts v + parts_in vs) (k + cells_in v + cells_of vs)
     (field_goes (at (field_due n fs) below) n fs x v below m k a.0 (λ y. refl) (omega (arith, l)) (omega (arith, p)) (omega (arith, c)))
-    (more_fields names vs n (fs ++ (x, v) ∷ []) below (m + parts v) (k + cells_in v) a.1 h.2 (omega (arith, l)) (omega (arith, p)) (omega (arith, c))))))
+    (more_fields names vs n (fs ++ (x, v) ∷ []) below (m + parts v) (k + cells_in v) a.1 h.2 (omega (arith, l)) (omega (arith, p)) (omega (arith, c)))))
 
-fields_go : (names : List (List ℕ)) (vs : Plains) (n : Option (List ℕ)) (below : List Frame) (m k : ℕ) → AnyValues vs → AreFields names vs
+-- after these fields, which may be none
+abbrev pub after_fields : Option (List ℕ) → List (List ℕ × Plain) → Spot
+after_fields n [] = field_or_end n
+after_fields n (f ∷ fs) = after_field n (f ∷ fs)
+
+pub fields_go : (names : List (List ℕ)) (vs : Plains) (n : Option (List ℕ)) (below : List Frame) (m k : ℕ) → AnyValues vs → AreFields names vs
     → length below + 1 + levels_in vs ≤ most_levels → m + parts_in vs ≤ most_parts → k + cells_of vs ≤ most_cells
-    → G (at (field_or_end n) below) m k (separated (fields names vs) ++ mark 125 ∷ []) (give (the_record n (zipped names vs)) below) (m + parts_in vs) (k + cells_of vs)
+    → G (at (field_or_end n) below) m k (separated (fields names vs)) (at (after_fields n (zipped names vs)) below) (m + parts_in vs) (k + cells_of vs)
 fields_go names no_vals n below m k a h l p c =
-    to (at (field_or_end n) below) m k (mark 125 ∷ []) (give (the_record n []) below) (give (the_record n []) below) m k (m + 0) (k + 0) refl (omega arith) (omega arith)
-    (one (at (field_or_end n) below) m k (mark 125) (give (the_record n []) below) m k (λ x. refl))
+    to (at (field_or_end n) below) m k [] (at (field_or_end n) below) (at (field_or_end n) below) m k (m + 0) (k + 0) refl (omega arith) (omega arith)
+    (nothing (at (field_or_end n) below) m k)
 fields_go [] (a_val v vs) n below m k a h l p c = absurd h
 fields_go (x ∷ names) (a_val v vs) n below m k a h l p c =
     let e : List Token = name x ∷ mark 58 ∷ tokens v in
     let es : List Token = text.more (fields names vs) in
-    let q : Open = give (the_record n ((x, v) ∷ zipped names vs)) below in
-    to (at (field_or_end n) below) m k ((e ++ es) ++ mark 125 ∷ []) q q (m + parts v + parts_in vs) (k + cells_in v + cells_of vs) (m + (parts v + parts_in vs)) (k + (cells_in v + cells_of vs))
+    let q : Open = at (after_field n ((x, v) ∷ zipped names vs)) below in
+    to (at (field_or_end n) below) m k (e ++ es) q q (m + parts v + parts_in vs) (k + cells_in v + cells_of vs) (m + (parts v + parts_in vs)) (k + (cells_in v + cells_of vs))
     refl (omega arith) (omega arith)
-    (along (at (field_or_end n) below) m k (e ++ (es ++ mark 125 ∷ [])) ((e ++ es) ++ mark 125 ∷ []) q (m + parts v + parts_in vs) (k + cells_in v + cells_of vs)
-    (sym (append_assoc e es (mark 125 ∷ [])))
-    (join (at (field_or_end n) below) m k e (at (after_field n ((x, v) ∷ [])) below) (m + parts v) (k + cells_in v) (es ++ mark 125 ∷ []) q (m + parts v + parts_in vs) (k + cells_in v + cells_of vs)
+    (join (at (field_or_end n) below) m k e (at (after_field n ((x, v) ∷ [])) below) (m + parts v) (k + cells_in v) es q (m + parts v + parts_in vs) (k + cells_in v + cells_of vs)
     (field_goes (at (field_or_end n) below) n [] x v below m k a.0 (λ y. refl) (omega (arith, l)) (omega (arith, p)) (omega (arith, c)))
-    (more_fields names vs n ((x, v) ∷ []) below (m + parts v) (k + cells_in v) a.1 h.2 (omega (arith, l)) (omega (arith, p)) (omega (arith, c)))))
+    (more_fields names vs n ((x, v) ∷ []) below (m + parts v) (k + cells_in v) a.1 h.2 (omega (arith, l)) (omega (arith, p)) (omega (arith, c))))
 
-brace_goes : (names : List (List ℕ)) (vs : Plains) (n : Option (List ℕ)) (o : Open) (below : List Frame) (m i k : ℕ) → AnyValues vs → AreFields names vs
-    → ((p : ℕ) → step (held_of o m k) (p, ASign OpenBrace) ≡ Ok (held_of (at (field_or_end n) below) i k))
-    → length below + 1 + levels_in vs ≤ most_levels → i + parts_in vs ≤ most_parts → k + cells_of vs ≤ most_cells
-    → G o m k (mark 123 ∷ (separated (fields names vs) ++ mark 125 ∷ [])) (give (record_of n names vs) below) (i + parts_in vs) (k + cells_of vs)
-brace_goes names vs n o below m i k a h f l p c =
-    cons o m k (mark 123) (separated (fields names vs) ++ mark 125 ∷ []) (give (record_of n names vs) below) (i + parts_in vs) (k + cells_of vs) (at (field_or_end n) below) i k f
-    (to (at (field_or_end n) below) i k (separated (fields names vs) ++ mark 125 ∷ []) (give (the_record n (zipped names vs)) below) (give (record_of n names vs) below)
-    (i + parts_in vs) (k + cells_of vs) (i + parts_in vs) (k + cells_of vs) (ap (λ (v : Plain). give v below) (same_record n names vs h)) refl refl
-    (fields_go names vs n below i k a h l p c))
+record_ends : (n : Option (List ℕ)) (fs : List (List ℕ × Plain)) (below : List Frame) (m k : ℕ)
+    → G (at (after_fields n fs) below) m k (mark 125 ∷ []) (give (the_record n fs) below) m k
+record_ends n [] below m k = one (at (field_or_end n) below) m k (mark 125) (give (the_record n []) below) m k (λ x. refl)
+record_ends n (f ∷ fs) below m k = one (at (after_field n (f ∷ fs)) below) m k (mark 125) (give (the_record n (f ∷ fs)) below) m k (λ x. refl)
+
+brace_goes : (names : List (List ℕ)) (vs : Plains) (n : Option (List ℕ)) (below : List Frame) (m k : ℕ) → AnyValues vs → AreFields names vs
+    → length below + 1 + levels_in vs ≤ most_levels → m + parts_in vs ≤ most_parts → k + cells_of vs ≤ most_cells
+    → G (at (field_or_end n) below) m k (separated (fields names vs) ++ mark 125 ∷ []) (give (record_of n names vs) below) (m + parts_in vs) (k + cells_of vs)
+brace_goes names vs n below m k a h l p c =
+    let i : ℕ = m + parts_in vs in
+    let j : ℕ = k + cells_of vs in
+    to (at (field_or_end n) below) m k (separated (fields names vs) ++ mark 125 ∷ []) (give (the_record n (zipped names vs)) below) (give (record_of n names vs) below)
+    i j i j (ap (λ (v : Plain). give v below) (same_record n names vs h)) refl refl
+    (join (at (field_or_end n) below) m k (separated (fields names vs)) (at (after_fields n (zipped names vs)) below) i j (mark 125 ∷ []) (give (the_record n (zipped names vs)) below) i j
+    (fields_go names vs n below m k a h l p c) (record_ends n (zipped names vs) below i j))
 
 not_x : (b : Bool) → IsTrue (not b) → b ≡ false
 not_x true h = absurd (cc)
 not_x false h = refl
 
-pub record_goes : (n : Option (List ℕ)) (names : List (List ℕ)) (vs : Plains) → IsRecordName n → AreFields names vs → AnyValues vs → AnyValue (record_of n names vs)
-record_goes None names vs r h a below m k l p c =
-    to (at due below) m k (tokens (record_of None names vs)) (give (record_of None names vs) below) (give (record_of None names vs) below) (m + 1 + parts_in vs) (k + cells_of vs)
-    (m + (1 + parts_in vs)) (k + cells_of vs) refl (omega arith) refl
-    (brace_goes names vs None (at due below) below m (m + 1) k a h
-    (λ x. due_step (ASign OpenBrace) x below m k false refl refl refl (λ e. absurd (cc)) (omega (arith, l)) (omega (arith, p))) (omega (arith, l)) (omega (arith, p)) (omega (arith, c)))
-record_goes (Some x) names vs r h a below m k l p c =
+pub name_opens : (x : List ℕ) (below : List Frame) (m k : ℕ) → IsRecordName (Some x) → length below + 1 ≤ most_levels → m + 1 ≤ most_parts
+    → G (at due below) m k (name x ∷ []) (at (named x) below) (m + 1) k
+name_opens x below m k r l p =
     let no : bytes_eq x (codes "x") ≡ false = not_x (bytes_eq x (codes "x")) r.1 in
-    to (at due below) m k (tokens (record_of (Some x) names vs)) (give (record_of (Some x) names vs) below) (give (record_of (Some x) names vs) below) (m + 1 + parts_in vs) (k + cells_of vs)
-    (m + (1 + parts_in vs)) (k + cells_of vs) refl (omega arith) refl
-    (cons (at due below) m k (name x) (mark 123 ∷ (separated (fields names vs) ++ mark 125 ∷ [])) (give (record_of (Some x) names vs) below) (m + 1 + parts_in vs) (k + cells_of vs)
-    (at (named x) below) (m + 1) k
-    (λ y. due_step (Name x) y below m k false (ap not no) refl refl (λ e. absurd (cc)) (omega (arith, l)) (omega (arith, p))
+    one (at due below) m k (name x) (at (named x) below) (m + 1) k
+    (λ y. due_step (Name x) y below m k false (ap not no) refl refl (λ e. absurd (cc)) l p
     ∙ ap (λ (b : Bool). counted (if b then no_go y else Ok (at (named x) below)) (m + 1) k) no)
-    (brace_goes names vs (Some x) (at (named x) below) below (m + 1) (m + 1) k a h (λ y. refl) (omega (arith, l)) (omega (arith, p)) (omega (arith, c))))
+
+pub record_opens : (n : Option (List ℕ)) (below : List Frame) (m k : ℕ) → IsRecordName n → length below + 1 ≤ most_levels → m + 1 ≤ most_parts
+    → G (at due below) m k (name_of n ++ mark 123 ∷ []) (at (field_or_end n) below) (m + 1) k
+record_opens None below m k r l p =
+    one (at due below) m k (mark 123) (at (field_or_end None) below) (m + 1) k (λ x. due_step (ASign OpenBrace) x below m k false refl refl refl (λ e. absurd (cc)) l p)
+record_opens (Some x) below m k r l p =
+    join (at due below) m k (name x ∷ []) (at (named x) below) (m + 1) k (mark 123 ∷ []) (at (field_or_end (Some x)) below) (m + 1) k (name_opens x below m k r l p)
+    (one (at (named x) below) (m + 1) k (mark 123) (at (field_or_end (Some x)) below) (m + 1) k (λ y. refl))
+
+record_text : (n : Option (List ℕ)) (ts : List Token) → (name_of n ++ mark 123 ∷ []) ++ (ts ++ mark 125 ∷ []) ≡ name_of n ++ mark 123 ∷ ts ++ mark 125 ∷ []
+record_text None ts = refl
+record_text (Some x) ts = refl
+
+pub record_goes : (n : Option (List ℕ)) (names : List (List ℕ)) (vs : Plains) → IsRecordName n → AreFields names vs → AnyValues vs → AnyValue (record_of n names vs)
+record_goes n names vs r h a below m k l p c =
+    let ts : List Token = separated (fields names vs) in
+    let q : Open = give (record_of n names vs) below in
+    to (at due below) m k (tokens (record_of n names vs)) q q (m + 1 + parts_in vs) (k + cells_of vs) (m + (1 + parts_in vs)) (k + cells_of vs) refl (omega arith) refl
+    (along (at due below) m k ((name_of n ++ mark 123 ∷ []) ++ (ts ++ mark 125 ∷ [])) (tokens (record_of n names vs)) q (m + 1 + parts_in vs) (k + cells_of vs) (record_text n ts)
+    (join (at due below) m k (name_of n ++ mark 123 ∷ []) (at (field_or_end n) below) (m + 1) k (ts ++ mark 125 ∷ []) q (m + 1 + parts_in vs) (k + cells_of vs)
+    (record_opens n below m k r (omega (arith, l)) (omega (arith, p)))
+    (brace_goes names vs n below (m + 1) k a h (omega (arith, l)) (omega (arith, p)) (omega (arith, c)))))
 
 -- ---- lists
 
@@ -161,35 +182,30 @@ listed_vals (a_val v vs) = ap (λ (l : Plains). a_val v l) (listed_vals vs)
 
 more_items : (vs : Plains) (is : List Plain) (below : List Frame) (m k : ℕ) → AnyValues vs → length below + 1 + levels_in vs ≤ most_levels → m + parts_in vs ≤ most_parts
     → k + cells_of vs ≤ most_cells
-    → G (at (after_item is) below) m k (text.more (items vs) ++ mark 93 ∷ []) (give (list_of (vals_of (is ++ listed vs))) below) (m + parts_in vs) (k + cells_of vs)
+    → G (at (after_item is) below) m k (text.more (items vs)) (at (after_item (is ++ listed vs)) below) (m + parts_in vs) (k + cells_of vs)
 more_items no_vals is below m k a l p c =
-    to (at (after_item is) below) m k (mark 93 ∷ []) (give (list_of (vals_of is)) below) (give (list_of (vals_of (is ++ []))) below) m k (m + 0) (k + 0)
-    (ap (λ (js : List Plain). give (list_of (vals_of js)) below) (sym (append-nil is))) (omega arith) (omega arith)
-    (one (at (after_item is) below) m k (mark 93) (give (list_of (vals_of is)) below) m k (λ x. refl))
+    to (at (after_item is) below) m k [] (at (after_item is) below) (at (after_item (is ++ [])) below) m k (m + 0) (k + 0)
+    (ap (λ (js : List Plain). at (after_item js) below) (sym (append-nil is))) (omega arith) (omega arith)
+    (nothing (at (after_item is) below) m k)
 more_items (a_val v vs) is below m k a l p c =
     let e : List Token = tokens v in
     let es : List Token = text.more (items vs) in
-    let q : Open = give (list_of (vals_of ((is ++ v ∷ []) ++ listed vs))) below in
-    to (at (after_item is) below) m k ((mark 44 ∷ e ++ es) ++ mark 93 ∷ []) q (give (list_of (vals_of (is ++ v ∷ listed vs))) below)
+    let q : Open = at (after_item ((is ++ v ∷ []) ++ listed vs)) below in
+    to (at (after_item is) below) m k (mark 44 ∷ (e ++ es)) q (at (after_item (is ++ v ∷ listed vs)) below)
     (m + parts v + parts_in vs) (k + cells_in v + cells_of vs) (m + (parts v + parts_in vs)) (k + (cells_in v + cells_of vs))
-    (ap (λ (js : List Plain). give (list_of (vals_of js)) below) (append_assoc is (v ∷ []) (listed vs))) (omega arith) (omega arith)
-    (along (at (after_item is) below) m k (mark 44 ∷ (e ++ (es ++ mark 93 ∷ []))) ((mark 44 ∷ e ++ es) ++ mark 93 ∷ []) q (m + parts v + parts_in vs) (k + cells_in v + cells_of vs)
-    (ap (λ (ts : List Token). mark 44 ∷ ts) (sym (append_assoc e es (mark 93 ∷ []))))
-    (cons (at (after_item is) below) m k (mark 44) (e ++ (es ++ mark 93 ∷ [])) q (m + parts v + parts_in vs) (k + cells_in v + cells_of vs) (at due (item is ∷ below)) m k (λ y. refl)
-    (join (at due (item is ∷ below)) m k e (at (after_item (is ++ v ∷ [])) below) (m + parts v) (k + cells_in v) (es ++ mark 93 ∷ []) q (m + parts v + parts_in vs) (k + cells_in v + cells_of vs)
+    (ap (λ (js : List Plain). at (after_item js) below) (append_assoc is (v ∷ []) (listed vs))) (omega arith) (omega arith)
+    (cons (at (after_item is) below) m k (mark 44) (e ++ es) q (m + parts v + parts_in vs) (k + cells_in v + cells_of vs) (at due (item is ∷ below)) m k (λ y. refl)
+    (join (at due (item is ∷ below)) m k e (at (after_item (is ++ v ∷ [])) below) (m + parts v) (k + cells_in v) es q (m + parts v + parts_in vs) (k + cells_in v + cells_of vs)
     (a.0 (item is ∷ below) m k (omega (arith, l)) (omega (arith, p)) (omega (arith, c)))
-    (more_items vs (is ++ v ∷ []) below (m + parts v) (k + cells_in v) a.1 (omega (arith, l)) (omega (arith, p)) (omega (arith, c))))))
-
-first_is : (l m : Lexeme) (ls ms : List Lexeme) → l ∷ ls ≡ m ∷ ms → l ≡ m
-first_is l m ls ms e = cc
+    (more_items vs (is ++ v ∷ []) below (m + parts v) (k + cells_in v) a.1 (omega (arith, l)) (omega (arith, p)) (omega (arith, c)))))
 
 -- after a `[` a value begins as it does where one is due
-begins_so : (t : Token) (ts : List Token) (below : List Frame) (m k : ℕ) (q : Open) (i j : ℕ)
+pub begins_so : (t : Token) (ts : List Token) (below : List Frame) (m k : ℕ) (q : Open) (i j : ℕ)
     → ((p : ℕ) → step (held_of (at item_or_end below) m k) (p, lexeme_of t) ≡ step (held_of (at due (item [] ∷ below)) m k) (p, lexeme_of t))
     → G (at due (item [] ∷ below)) m k (t ∷ ts) q i j → G (at item_or_end below) m k (t ∷ ts) q i j
 begins_so t ts below m k q i j f g [] after e = absurd (cc)
 begins_so t ts below m k q i j f g (l ∷ ls) after e =
-    let same = first_is l.1 (lexeme_of t) (lexemes ls) (map lexeme_of ts) e in
+    let same = head_is l.1 (lexeme_of t) (lexemes ls) (map lexeme_of ts) e in
     let further : Stepped → Stepped = λ r. and_then r (λ next. run next (ls ++ after)) in
     ap (λ (x : Lexeme). further (step (held_of (at item_or_end below) m k) (l.0, x))) same
     ∙ ap further (f l.0)
@@ -236,27 +252,38 @@ end_step below m k x =
     free m k item_or_end below (ASign CloseBracket) (and_false (nat_le most_levels (suc (length below)))) refl refl refl in
     (λ i. counted (unless_limit (lim i) x (Ok (give (list_of no_vals) below))) m k)
 
-items_go : (vs : Plains) (below : List Frame) (m k : ℕ) → AnyValues vs → length below + 1 + levels_in vs ≤ most_levels → m + parts_in vs ≤ most_parts → k + cells_of vs ≤ most_cells
-    → G (at item_or_end below) m k (separated (items vs) ++ mark 93 ∷ []) (give (list_of (vals_of (listed vs))) below) (m + parts_in vs) (k + cells_of vs)
+-- after these items, which may be none
+abbrev pub after_items : List Plain → Spot
+after_items [] = item_or_end
+after_items (v ∷ vs) = after_item (v ∷ vs)
+
+pub items_go : (vs : Plains) (below : List Frame) (m k : ℕ) → AnyValues vs → length below + 1 + levels_in vs ≤ most_levels → m + parts_in vs ≤ most_parts → k + cells_of vs ≤ most_cells
+    → G (at item_or_end below) m k (separated (items vs)) (at (after_items (listed vs)) below) (m + parts_in vs) (k + cells_of vs)
 items_go no_vals below m k a l p c =
-    to (at item_or_end below) m k (mark 93 ∷ []) (give (list_of no_vals) below) (give (list_of no_vals) below) m k (m + 0) (k + 0) refl (omega arith) (omega arith)
-    (one (at item_or_end below) m k (mark 93) (give (list_of no_vals) below) m k (end_step below m k))
+    to (at item_or_end below) m k [] (at item_or_end below) (at item_or_end below) m k (m + 0) (k + 0) refl (omega arith) (omega arith) (nothing (at item_or_end below) m k)
 items_go (a_val v vs) below m k a l p c =
     let e : List Token = tokens v in
     let es : List Token = text.more (items vs) in
-    let q : Open = give (list_of (vals_of (v ∷ listed vs))) below in
-    to (at item_or_end below) m k ((e ++ es) ++ mark 93 ∷ []) q q (m + parts v + parts_in vs) (k + cells_in v + cells_of vs) (m + (parts v + parts_in vs)) (k + (cells_in v + cells_of vs))
+    let q : Open = at (after_item (v ∷ listed vs)) below in
+    to (at item_or_end below) m k (e ++ es) q q (m + parts v + parts_in vs) (k + cells_in v + cells_of vs) (m + (parts v + parts_in vs)) (k + (cells_in v + cells_of vs))
     refl (omega arith) (omega arith)
-    (along (at item_or_end below) m k (e ++ (es ++ mark 93 ∷ [])) ((e ++ es) ++ mark 93 ∷ []) q (m + parts v + parts_in vs) (k + cells_in v + cells_of vs)
-    (sym (append_assoc e es (mark 93 ∷ [])))
-    (join (at item_or_end below) m k e (at (after_item (v ∷ [])) below) (m + parts v) (k + cells_in v) (es ++ mark 93 ∷ []) q (m + parts v + parts_in vs) (k + cells_in v + cells_of vs)
+    (join (at item_or_end below) m k e (at (after_item (v ∷ [])) below) (m + parts v) (k + cells_in v) es q (m + parts v + parts_in vs) (k + cells_in v + cells_of vs)
     (value_first v below m k (at (after_item (v ∷ [])) below) (m + parts v) (k + cells_in v) (a.0 (item [] ∷ below) m k (omega (arith, l)) (omega (arith, p)) (omega (arith, c))))
-    (more_items vs (v ∷ []) below (m + parts v) (k + cells_in v) a.1 (omega (arith, l)) (omega (arith, p)) (omega (arith, c)))))
+    (more_items vs (v ∷ []) below (m + parts v) (k + cells_in v) a.1 (omega (arith, l)) (omega (arith, p)) (omega (arith, c))))
+
+list_ends : (vs : List Plain) (below : List Frame) (m k : ℕ) → G (at (after_items vs) below) m k (mark 93 ∷ []) (give (list_of (vals_of vs)) below) m k
+list_ends [] below m k = one (at item_or_end below) m k (mark 93) (give (list_of no_vals) below) m k (end_step below m k)
+list_ends (v ∷ vs) below m k = one (at (after_item (v ∷ vs)) below) m k (mark 93) (give (list_of (vals_of (v ∷ vs))) below) m k (λ x. refl)
 
 pub list_goes : (vs : Plains) → AnyValues vs → AnyValue (list_of vs)
 list_goes vs a below m k l p c =
-    to (at due below) m k (tokens (list_of vs)) (give (list_of (vals_of (listed vs))) below) (give (list_of vs) below) (m + 1 + parts_in vs) (k + cells_of vs) (m + (1 + parts_in vs)) (k + cells_of vs)
+    let i : ℕ = m + 1 + parts_in vs in
+    let j : ℕ = k + cells_of vs in
+    let q : Open = give (list_of (vals_of (listed vs))) below in
+    to (at due below) m k (tokens (list_of vs)) q (give (list_of vs) below) i j (m + (1 + parts_in vs)) j
     (ap (λ (us : Plains). give (list_of us) below) (listed_vals vs)) (omega arith) refl
-    (cons (at due below) m k (mark 91) (separated (items vs) ++ mark 93 ∷ []) (give (list_of (vals_of (listed vs))) below) (m + 1 + parts_in vs) (k + cells_of vs) (at item_or_end below) (m + 1) k
+    (cons (at due below) m k (mark 91) (separated (items vs) ++ mark 93 ∷ []) q i j (at item_or_end below) (m + 1) k
     (λ x. due_step (ASign OpenBracket) x below m k false refl refl refl (λ e. absurd (cc)) (omega (arith, l)) (omega (arith, p)))
-    (items_go vs below (m + 1) k a (omega (arith, l)) (omega (arith, p)) (omega (arith, c))))
+    (join (at item_or_end below) (m + 1) k (separated (items vs)) (at (after_items (listed vs)) below) i j (mark 93 ∷ []) q i j
+    (items_go vs below (m + 1) k a (omega (arith, l)) (omega (arith, p)) (omega (arith, c)))
+    (list_ends (listed vs) below i j)))

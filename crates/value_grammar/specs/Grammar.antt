@@ -1,7 +1,9 @@
 -- The productions of a value's text, as relations between the shapes of lexemes and those that are left. They speak of
 -- no limit and of no order. This project's own.
 use Rattle.std.specs.Prelude.{List, [], ◌∷◌, ◌++◌}
-use Rattle.value_text.specs.declared.lexeme.Sign.TheVariants.{OpenBrace, CloseBrace, OpenBracket, CloseBracket, OpenParen, CloseParen, Less, Greater, Comma, Colon, Tilde, Caret, Bang, Percent}
+use Rattle.value_text.specs.declared.lexeme.Sign.TheVariants.{OpenBrace, CloseBrace, OpenBracket, CloseBracket}
+use Rattle.value_text.specs.declared.lexeme.Sign.TheVariants.{OpenParen, CloseParen, Less, Greater, Comma, Colon, Tilde}
+use Rattle.value_text.specs.declared.lexeme.Sign.TheVariants.{Caret, Bang, Percent}
 use Rattle.value_grammar.specs.Shapes.{Shape, sign, number, bits, name, x_name, hidden}
 
 -- cell = ["!"] body; body = "(" bits {"," cell} ")"

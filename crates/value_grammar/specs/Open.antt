@@ -21,7 +21,7 @@ pub data Frame : Type 0 where
   pair : List (List ℕ × Plain) → List (List ℕ × Hidden) → List ℕ → Frame
 
 -- a cell: whether it is exotic, the place of its `(`, its bits and its whole references
-pub record Part : Type 0 where
+pub record OpenCell : Type 0 where
   pub exotic : Bool
   pub place : ℕ
   pub bits : List ℕ
@@ -33,9 +33,9 @@ pub data CellSpot : Type 0 where
   -- after a `(`
   bits_due : Bool → ℕ → CellSpot
   -- after the bits or a reference
-  after_part : Part → CellSpot
+  after_part : OpenCell → CellSpot
   -- after a comma
-  child_due : Part → CellSpot
+  child_due : OpenCell → CellSpot
 
 -- where the text stands within the frames
 pub data Spot : Type 0 where
@@ -72,7 +72,7 @@ pub data Spot : Type 0 where
   -- after a comma in it
   rest_child : Slice → Spot
   -- in a cell: the `%` around it, if there is one, and the cells around it
-  in_cell : Option Slice → List Part → CellSpot → Spot
+  in_cell : Option Slice → List OpenCell → CellSpot → Spot
   -- after the whole value
   done : Plain → Spot
 
@@ -112,12 +112,12 @@ body_text bs refs = mark 40 ∷ bits bs ∷ more (map cell refs)
 abbrev pub bang : Bool → List Token
 bang exotic = if exotic then mark 33 ∷ [] else []
 
-abbrev pub part_text : Part → List Token
-part_text p = bang p.exotic ++ body_text p.bits p.refs ++ mark 44 ∷ []
+abbrev pub open_cell_text : OpenCell → List Token
+open_cell_text p = bang p.exotic ++ body_text p.bits p.refs ++ mark 44 ∷ []
 
-abbrev pub parts_text : List Part → List Token
-parts_text [] = []
-parts_text (p ∷ ps) = parts_text ps ++ part_text p
+abbrev pub around_text : List OpenCell → List Token
+around_text [] = []
+around_text (p ∷ ps) = around_text ps ++ open_cell_text p
 
 abbrev pub base_text : Option Slice → List Token
 base_text None = []
@@ -127,7 +127,7 @@ abbrev pub cell_spot_text : CellSpot → List Token
 cell_spot_text paren_due = mark 33 ∷ []
 cell_spot_text (bits_due exotic place) = bang exotic ++ mark 40 ∷ []
 cell_spot_text (after_part p) = bang p.exotic ++ body_text p.bits p.refs
-cell_spot_text (child_due p) = part_text p
+cell_spot_text (child_due p) = open_cell_text p
 
 abbrev pub spot_text : Spot → List Token
 spot_text due = []
@@ -146,7 +146,7 @@ spot_text rest_paren = mark 37 ∷ []
 spot_text rest_bits = mark 37 ∷ mark 40 ∷ []
 spot_text (after_rest r) = mark 37 ∷ body_text r.bits r.refs
 spot_text (rest_child r) = mark 37 ∷ body_text r.bits r.refs ++ mark 44 ∷ []
-spot_text (in_cell base ps c) = base_text base ++ parts_text ps ++ cell_spot_text c
+spot_text (in_cell base ps c) = base_text base ++ around_text ps ++ cell_spot_text c
 spot_text (done v) = tokens v
 
 abbrev pub so_far : Open → List Token
@@ -194,9 +194,9 @@ frames_cells (f ∷ fs) = frames_cells fs + frame_cells f
 abbrev pub refs_cells : List Tree → ℕ
 refs_cells refs = total (map unfolded refs)
 
-abbrev pub parts_cells : List Part → ℕ
-parts_cells [] = 0
-parts_cells (p ∷ ps) = parts_cells ps + (1 + refs_cells p.refs)
+abbrev pub around_cells : List OpenCell → ℕ
+around_cells [] = 0
+around_cells (p ∷ ps) = around_cells ps + (1 + refs_cells p.refs)
 
 abbrev pub base_cells : Option Slice → ℕ
 base_cells None = 0
@@ -218,7 +218,7 @@ spot_cells (keyed ps us k) = cells_by (pairs_of ps)
 spot_cells (after_entry ps us last) = cells_by (pairs_of ps)
 spot_cells (after_rest r) = refs_cells r.refs
 spot_cells (rest_child r) = refs_cells r.refs
-spot_cells (in_cell base ps c) = base_cells base + parts_cells ps + cell_spot_cells c
+spot_cells (in_cell base ps c) = base_cells base + around_cells ps + cell_spot_cells c
 spot_cells (done v) = cells_in v
 spot_cells spot = 0
 

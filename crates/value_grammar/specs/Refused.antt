@@ -12,14 +12,14 @@ use Rattle.value_text.specs.Lexemes.{NothingStands, Stands}
 use Rattle.value_text.specs.Text.{cell, more}
 use Rattle.value_text.specs.Tokens.{bits}
 use Rattle.value_grammar.specs.Grammar.{CanGoOn, IsWhole}
-use Rattle.value_grammar.specs.Open.{Frame, Open, Part, Spot, after_part, at, in_cell, so_far}
+use Rattle.value_grammar.specs.Open.{Frame, Open, OpenCell, Spot, after_part, at, in_cell, so_far}
 use Rattle.value_grammar.specs.Shapes.{shape, shapes}
 use Rattle.value_grammar.specs.declared.cause.Cause.{Cause}
 use Rattle.value_grammar.specs.declared.cause.Cause.TheVariants.{Syntax}
 use Rattle.value_grammar.specs.Within.{IsWithin, closed, limit}
 
 -- the cell that a `)` closes there
-abbrev pub Closes : Open → Part → Type 0
+abbrev pub Closes : Open → OpenCell → Type 0
 Closes (at (in_cell base ps (after_part p)) below) q = p ≡ q
 Closes held q = ⊥
 
@@ -29,8 +29,9 @@ pub data RefusedAt (held : Open) (before : List Placed) (place : ℕ) (text : Li
   at_limit : {l : Lexeme} {n : ℕ} {cause : Cause} → Stands l n text → limit held l ≡ Some cause
       → RefusedAt held before place text cause place
   -- a cell is closed that there is none of; the place is that of its `(`, after which its bits and references stand
-  at_cell : {n byte : ℕ} {cause : Cause} → Stands (ASign CloseParen) n text → (p : Part) (earlier inner : List Placed)
-      → Closes held p → closed p ≡ Err cause → before ≡ earlier ++ (byte, ASign OpenParen) ∷ inner
+  at_cell : {n byte : ℕ} {cause : Cause} → Stands (ASign CloseParen) n text
+      → (p : OpenCell) (earlier inner : List Placed) → Closes held p → closed p ≡ Err cause
+      → before ≡ earlier ++ (byte, ASign OpenParen) ∷ inner
       → lexemes inner ≡ map lexeme_of (bits p.bits ∷ more (map cell p.refs))
       → RefusedAt held before place text cause byte
   -- no value can go on with the lexeme

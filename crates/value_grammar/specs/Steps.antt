@@ -1,16 +1,23 @@
 -- The steps by which a value is read, one for each lexeme. The contract of the public call speaks of texts and of
 -- what is open in them; proofs/ ties the steps to these.
-use Rattle.std.specs.Prelude.{ℕ, Bool, true, false, bytes_eq, codes, if◌then◌else◌, List, [], ◌∷◌, ◌++◌, ◌+◌, ◌&&◌, Option, Some, None, Result, Ok, Err}
+use Rattle.std.specs.Prelude.{ℕ, Bool, true, false, bytes_eq, codes, if◌then◌else◌, List, [], ◌∷◌, ◌++◌, ◌+◌, ◌&&◌}
+use Rattle.std.specs.Prelude.{Option, Some, None, Result, Ok, Err}
 use Rattle.cell_nodes.specs.declared.tree.Hidden.{Hidden as AHidden}
 use Rattle.cell_nodes.specs.declared.tree.Tree.{Tree}
-use Rattle.typed_value.specs.Values.{Plain, Slice, absent, bit_string, list_of, map_of, number, raw, record_of, ref_to, rest, unknown}
+use Rattle.typed_value.specs.Values.{Plain, Slice, absent, bit_string, list_of, map_of, number, raw, record_of, ref_to}
+use Rattle.typed_value.specs.Values.{rest, unknown}
 use Rattle.typed_value.specs.View.{names_in, pairs_of, vals_in, vals_of}
 use Rattle.value_text.specs.declared.lexeme.Sign.{Sign}
-use Rattle.value_text.specs.declared.lexeme.Sign.TheVariants.{OpenBrace, CloseBrace, OpenBracket, CloseBracket, OpenParen, CloseParen, Less, Greater, Comma, Colon, Tilde, Caret, Bang, Percent}
+use Rattle.value_text.specs.declared.lexeme.Sign.TheVariants.{OpenBrace, CloseBrace, OpenBracket, CloseBracket}
+use Rattle.value_text.specs.declared.lexeme.Sign.TheVariants.{OpenParen, CloseParen, Less, Greater, Comma, Colon, Tilde}
+use Rattle.value_text.specs.declared.lexeme.Sign.TheVariants.{Caret, Bang, Percent}
 use Rattle.value_text.specs.declared.lexeme.Lexeme.{Lexeme}
 use Rattle.value_text.specs.declared.lexeme.Lexeme.TheVariants.{Sign as ASign, Number, Bits, Name, Hidden, Beyond}
 use Rattle.value_text.specs.Division.{Placed}
-use Rattle.value_grammar.specs.Open.{CellSpot, Frame, Open, Part, Spot, after_entry, after_field, after_item, after_part, after_rest, at, bits_due, child_due, done, due, entry_due, entry_or_end, field, field_due, field_or_end, in_cell, item, item_or_end, keyed, labelled, named, pair, paren_due, reference, rest_bits, rest_child, rest_paren}
+use Rattle.value_grammar.specs.Open.{CellSpot, Frame, Open, OpenCell, Spot, after_entry, after_field, after_item}
+use Rattle.value_grammar.specs.Open.{after_part, after_rest, at, bits_due, child_due, done, due, entry_due}
+use Rattle.value_grammar.specs.Open.{entry_or_end, field, field_due, field_or_end, in_cell, item, item_or_end, keyed}
+use Rattle.value_grammar.specs.Open.{labelled, named, pair, paren_due, reference, rest_bits, rest_child, rest_paren}
 use Rattle.value_grammar.specs.declared.cause.Cause.{Cause}
 use Rattle.value_grammar.specs.declared.cause.Cause.TheVariants.{Syntax}
 use Rattle.value_grammar.specs.Within.{begins_value, closed, is_cell_due, is_paren, is_value_due, limit_of}
@@ -126,45 +133,45 @@ in_rest r (ASign Comma) place below = Ok (at (rest_child r) below)
 in_rest r (ASign CloseParen) place below = Ok (give (rest r) below)
 in_rest r l place below = no_go place
 
-abbrev pub begin_cell : Option Slice → List Part → Lexeme → ℕ → List Frame → Outcome
+abbrev pub begin_cell : Option Slice → List OpenCell → Lexeme → ℕ → List Frame → Outcome
 begin_cell base ps (ASign OpenParen) place below = Ok (at (in_cell base ps (bits_due false place)) below)
 begin_cell base ps (ASign Bang) place below = Ok (at (in_cell base ps paren_due) below)
 begin_cell base ps l place below = no_go place
 
-abbrev pub open_exotic : Option Slice → List Part → Lexeme → ℕ → List Frame → Outcome
+abbrev pub open_exotic : Option Slice → List OpenCell → Lexeme → ℕ → List Frame → Outcome
 open_exotic base ps (ASign OpenParen) place below = Ok (at (in_cell base ps (bits_due true place)) below)
 open_exotic base ps l place below = no_go place
 
-abbrev pub part_of : Bool → ℕ → List ℕ → List Tree → Part
-part_of exotic place bs refs = record { exotic = exotic; place = place; bits = bs; refs = refs }
+abbrev pub open_cell_of : Bool → ℕ → List ℕ → List Tree → OpenCell
+open_cell_of exotic place bs refs = record { exotic = exotic; place = place; bits = bs; refs = refs }
 
-abbrev pub begin_part : Option Slice → List Part → Bool → ℕ → Lexeme → ℕ → List Frame → Outcome
-begin_part base ps exotic paren (Bits bs) place below =
-    Ok (at (in_cell base ps (after_part (part_of exotic paren bs []))) below)
-begin_part base ps exotic paren l place below = no_go place
+abbrev pub begin_body : Option Slice → List OpenCell → Bool → ℕ → Lexeme → ℕ → List Frame → Outcome
+begin_body base ps exotic paren (Bits bs) place below =
+    Ok (at (in_cell base ps (after_part (open_cell_of exotic paren bs []))) below)
+begin_body base ps exotic paren l place below = no_go place
 
-abbrev pub with_child : Part → Tree → Part
-with_child p t = part_of p.exotic p.place p.bits (p.refs ++ t ∷ [])
+abbrev pub with_child : OpenCell → Tree → OpenCell
+with_child p t = open_cell_of p.exotic p.place p.bits (p.refs ++ t ∷ [])
 
 -- a whole cell: a value, or a reference of what is around it
-abbrev pub give_cell : Tree → Option Slice → List Part → List Frame → Open
+abbrev pub give_cell : Tree → Option Slice → List OpenCell → List Frame → Open
 give_cell t base (p ∷ ps) below = at (in_cell base ps (after_part (with_child p t))) below
 give_cell t None [] below = give (raw t) below
 give_cell t (Some r) [] below = at (after_rest (rest_of r.bits (r.refs ++ t ∷ []))) below
 
-abbrev pub give_closed : Result Tree Cause → ℕ → Option Slice → List Part → List Frame → Outcome
+abbrev pub give_closed : Result Tree Cause → ℕ → Option Slice → List OpenCell → List Frame → Outcome
 give_closed (Ok t) paren base ps below = Ok (give_cell t base ps below)
 give_closed (Err cause) paren base ps below = Err (cause, paren)
 
-abbrev pub in_part : Option Slice → List Part → Part → Lexeme → ℕ → List Frame → Outcome
-in_part base ps p (ASign Comma) place below = Ok (at (in_cell base ps (child_due p)) below)
-in_part base ps p (ASign CloseParen) place below = give_closed (closed p) p.place base ps below
-in_part base ps p l place below = no_go place
+abbrev pub in_body : Option Slice → List OpenCell → OpenCell → Lexeme → ℕ → List Frame → Outcome
+in_body base ps p (ASign Comma) place below = Ok (at (in_cell base ps (child_due p)) below)
+in_body base ps p (ASign CloseParen) place below = give_closed (closed p) p.place base ps below
+in_body base ps p l place below = no_go place
 
-abbrev pub move_cell : Option Slice → List Part → CellSpot → Lexeme → ℕ → List Frame → Outcome
+abbrev pub move_cell : Option Slice → List OpenCell → CellSpot → Lexeme → ℕ → List Frame → Outcome
 move_cell base ps paren_due l place below = open_exotic base ps l place below
-move_cell base ps (bits_due exotic paren) l place below = begin_part base ps exotic paren l place below
-move_cell base ps (after_part p) l place below = in_part base ps p l place below
+move_cell base ps (bits_due exotic paren) l place below = begin_body base ps exotic paren l place below
+move_cell base ps (after_part p) l place below = in_body base ps p l place below
 move_cell base ps (child_due p) l place below = begin_cell base (p ∷ ps) l place below
 
 -- ---- a step

@@ -1,24 +1,34 @@
 -- What is open is within the limits, and its maps are in order. This project's own; the bounds of cells are those of
 -- the TON documentation, "Cells as data storage".
-use Rattle.std.specs.Prelude.{◌≡◌, ℕ, suc, ◌+◌, ◌≤◌, Bool, true, false, ◌&&◌, ◌||◌, not, nat_le, nat_lt, bytes_eq, codes, if◌then◌else◌, IsTrue, List, [], ◌∷◌, ◌++◌, length, Option, Some, None, Result, Ok, Err}
+use Rattle.std.specs.Prelude.{◌≡◌, ℕ, suc, ◌+◌, ◌≤◌, Bool, true, false, ◌&&◌, ◌||◌, not, nat_le, nat_lt, bytes_eq}
+use Rattle.std.specs.Prelude.{codes, if◌then◌else◌, IsTrue, List, [], ◌∷◌, ◌++◌, length, map, Option, Some, None}
+use Rattle.std.specs.Prelude.{Result, Ok, Err}
 use Rattle.cell_nodes.specs.Good.{AllGood}
 use Rattle.cell_nodes.specs.Layout.{exotic_kind}
-use Rattle.cell_nodes.specs.Tree.{deepest, tree_of}
+use Rattle.cell_nodes.specs.Tree.{deepest, greatest, tree_of}
 use Rattle.cell_nodes.specs.declared.tree.Hidden.{Hidden}
 use Rattle.cell_nodes.specs.declared.tree.Kind.{Kind}
 use Rattle.cell_nodes.specs.declared.tree.Kind.TheVariants.{Ordinary}
-use Rattle.cell_nodes.specs.declared.tree.Tree.{Tree}
+use Rattle.cell_nodes.specs.declared.tree.Tree.{Tree, fold-Tree}
+use Rattle.cell_nodes.specs.declared.tree.Tree.TheOpen.{Tree-F}
 use Rattle.bit_slice.specs.Names.{IsName}
 use Rattle.typed_value.specs.Values.{Plain, Slice, levels, levels_by, levels_in, most_levels, most_parts}
 use Rattle.typed_value.specs.View.{names_in, pairs_of, vals_in, vals_of}
 use Rattle.value_text.specs.declared.lexeme.Sign.{Sign}
-use Rattle.value_text.specs.declared.lexeme.Sign.TheVariants.{OpenBrace, OpenBracket, OpenParen, Less, Tilde, Caret, Bang, Percent}
+use Rattle.value_text.specs.declared.lexeme.Sign.TheVariants.{OpenBrace, OpenBracket, OpenParen, Less, Tilde, Caret}
+use Rattle.value_text.specs.declared.lexeme.Sign.TheVariants.{Bang, Percent}
 use Rattle.value_text.specs.declared.lexeme.Lexeme.{Lexeme}
-use Rattle.value_text.specs.declared.lexeme.Lexeme.TheVariants.{Sign as ASign, Number, Bits, Name, Hidden as AHidden, Beyond}
-use Rattle.value_text.specs.Writes.{AreEntries, AreFew, AreFields, AreFormed, AreHidden, IsFormed, IsRecordName, comes_after, in_order, keys_of, most_cells}
+use Rattle.value_text.specs.declared.lexeme.Lexeme.TheVariants.{Sign as ASign, Number, Bits, Name, Hidden as AHidden}
+use Rattle.value_text.specs.declared.lexeme.Lexeme.TheVariants.{Beyond}
+use Rattle.value_text.specs.Writes.{AreEntries, AreFew, AreFields, AreFormed, AreHidden, IsFormed, IsRecordName}
+use Rattle.value_text.specs.Writes.{comes_after, in_order, keys_of, most_cells}
 use Rattle.value_grammar.specs.declared.cause.Cause.{Cause}
 use Rattle.value_grammar.specs.declared.cause.Cause.TheVariants.{BulkText, DeepText, KeyOrder, Range}
-use Rattle.value_grammar.specs.Open.{CellSpot, Frame, Open, Part, Spot, after_entry, after_field, after_item, after_part, after_rest, at, bits_due, cells_begun, child_due, done, due, entry_due, entry_or_end, field, field_due, field_or_end, in_cell, item, item_or_end, keyed, labelled, named, pair, paren_due, parts_begun, reference, rest_bits, rest_child, rest_paren}
+use Rattle.value_grammar.specs.Open.{CellSpot, Frame, Open, OpenCell, Spot, after_entry, after_field, after_item}
+use Rattle.value_grammar.specs.Open.{after_part, after_rest, at, bits_due, cells_begun, child_due, done, due, entry_due}
+use Rattle.value_grammar.specs.Open.{entry_or_end, field, field_due, field_or_end, in_cell, item, item_or_end, keyed}
+use Rattle.value_grammar.specs.Open.{labelled, named, pair, paren_due, parts_begun, reference, rest_bits, rest_child}
+use Rattle.value_grammar.specs.Open.{rest_paren}
 
 -- ---- limits at a lexeme
 
@@ -55,6 +65,13 @@ is_paren l = false
 abbrev pub is_deep_value : ℕ → Lexeme → Bool
 is_deep_value around l = nat_le most_levels around && begins_value l
 
+-- how many cells stand in one another
+abbrev pub cell_levels_step : Tree-F ℕ → ℕ
+cell_levels_step n = 1 + greatest n.children
+
+unfoldable pub cell_levels : Tree → ℕ
+cell_levels = fold-Tree ℕ cell_levels_step
+
 -- the most levels of cells in one another
 abbrev pub most_cell_levels : ℕ
 most_cell_levels = 1025
@@ -63,7 +80,7 @@ most_cell_levels = 1025
 abbrev pub is_deep_cell : ℕ → Lexeme → Bool
 is_deep_cell around l = nat_le most_cell_levels around && begins_cell l
 
-abbrev pub is_deep_child : List Part → CellSpot → Lexeme → Bool
+abbrev pub is_deep_child : List OpenCell → CellSpot → Lexeme → Bool
 is_deep_child ps (child_due p) l = is_deep_cell (suc (length ps)) l
 is_deep_child ps c l = false
 
@@ -80,16 +97,16 @@ is_value_due item_or_end = true
 is_value_due spot = false
 
 -- a cell's `(` may come
-abbrev pub is_part_due : CellSpot → Bool
-is_part_due paren_due = true
-is_part_due (child_due p) = true
-is_part_due c = false
+abbrev pub is_paren_due : CellSpot → Bool
+is_paren_due paren_due = true
+is_paren_due (child_due p) = true
+is_paren_due c = false
 
 abbrev pub is_cell_due : Spot → Bool
 is_cell_due due = true
 is_cell_due item_or_end = true
 is_cell_due (rest_child r) = true
-is_cell_due (in_cell base ps c) = is_part_due c
+is_cell_due (in_cell base ps c) = is_paren_due c
 is_cell_due spot = false
 
 -- the 1,048,577th value begins, or the 262,145th cell, where so many have begun
@@ -130,7 +147,7 @@ closed_exotic (Some kind) bs refs =
 
 -- the cell, or why there is none: an exotic one has no layout; it is deeper than 1024 at some level; it has more than 4
 -- references
-abbrev pub closed : Part → Result Tree Cause
+abbrev pub closed : OpenCell → Result Tree Cause
 closed p =
     if p.exotic then closed_exotic (exotic_kind p.bits (length p.refs)) p.bits p.refs else closed_ordinary p.bits p.refs
 
@@ -159,22 +176,24 @@ abbrev pub FramesWithin : List Frame → Type 0
 FramesWithin [] = Unit {0}
 FramesWithin (f ∷ fs) = FrameWithin (length fs) f × FramesWithin fs
 
-abbrev pub PartWithin : Part → Type 0
-PartWithin p = AreFew p.bits × AllGood p.refs
+-- inside so many cells, with its whole references
+abbrev pub OpenCellWithin : ℕ → OpenCell → Type 0
+OpenCellWithin d p =
+    AreFew p.bits × AllGood p.refs × (d + 1 + greatest (map cell_levels p.refs) ≤ most_cell_levels)
 
-abbrev pub PartsWithin : List Part → Type 0
-PartsWithin [] = Unit {0}
-PartsWithin (p ∷ ps) = PartWithin p × PartsWithin ps
+abbrev pub AroundWithin : List OpenCell → Type 0
+AroundWithin [] = Unit {0}
+AroundWithin (p ∷ ps) = OpenCellWithin (length ps) p × AroundWithin ps
 
 abbrev pub BaseWithin : Option Slice → Type 0
 BaseWithin None = Unit {0}
 BaseWithin (Some r) = AreFew r.bits × AllGood r.refs
 
-abbrev pub CellSpotWithin : CellSpot → Type 0
-CellSpotWithin paren_due = Unit {0}
-CellSpotWithin (bits_due exotic place) = Unit {0}
-CellSpotWithin (after_part p) = PartWithin p
-CellSpotWithin (child_due p) = PartWithin p
+abbrev pub CellSpotWithin : ℕ → CellSpot → Type 0
+CellSpotWithin d paren_due = d + 1 ≤ most_cell_levels
+CellSpotWithin d (bits_due exotic place) = d + 1 ≤ most_cell_levels
+CellSpotWithin d (after_part p) = OpenCellWithin d p
+CellSpotWithin d (child_due p) = OpenCellWithin d p
 
 abbrev pub IsSome : {A : Type 0} → List A → Type 0
 IsSome [] = ⊥
@@ -205,7 +224,7 @@ SpotWithin d rest_bits = FitsIn d 0
 SpotWithin d (after_rest r) = BaseWithin (Some r) × FitsIn d 0
 SpotWithin d (rest_child r) = BaseWithin (Some r) × FitsIn d 0
 SpotWithin d (in_cell base ps c) =
-    BaseWithin base × PartsWithin ps × CellSpotWithin c × (suc (length ps) ≤ most_cell_levels) × FitsIn d 0
+    BaseWithin base × AroundWithin ps × CellSpotWithin (length ps) c × FitsIn d 0
 SpotWithin d (done v) = IsFormed v × (levels v ≤ most_levels) × (d ≡ 0)
 
 -- a value that is due in a list is not its first

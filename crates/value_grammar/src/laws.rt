@@ -16,6 +16,11 @@ pub fn stop_is_refusal()
     ensures { (file : List ℕ) (cause : Cause) (byte : ℕ) → Stops file cause byte → TextRefused file cause byte }
 {}
 
+/// Where a text has its first refusal, the steps stop with it.
+pub fn refused_is_stopped()
+    ensures { (file : List ℕ) (cause : Cause) (byte : ℕ) → TextRefused file cause byte → Stops file cause byte }
+{}
+
 /// The steps lead through a text that writes a value to that value.
 pub fn written_is_finished()
     ensures { (file : List ℕ) (v : Plain) → TextWrites file v → Finishes file v }
@@ -24,6 +29,18 @@ pub fn written_is_finished()
 /// A text writes at most one value.
 pub fn at_most_one_value()
     ensures { (file : List ℕ) (v w : Plain) → TextWrites file v → TextWrites file w → v ≡ w }
+{}
+
+/// A text has at most one first refusal.
+pub fn at_most_one_refusal()
+    ensures { (file : List ℕ) (cause other : Cause) (byte further : ℕ) → TextRefused file cause byte
+        → TextRefused file other further → (cause ≡ other) × (byte ≡ further) }
+{}
+
+/// A text that writes a value has no refusal.
+pub fn value_or_refusal()
+    ensures { (file : List ℕ) (v : Plain) (cause : Cause) (byte : ℕ) → TextWrites file v
+        → TextRefused file cause byte → ⊥ }
 {}
 
 /// The steps don't both lead through a text to a value and stop in it.

@@ -10,7 +10,8 @@ use Rattle.value_grammar.specs.Steps.{Outcome, Stepped}
 use Rattle.value_grammar.specs.Reading.{Reaches}
 use Rattle.value_grammar.specs.Within.{limit_of}
 use Rattle.value_parse.specs.declared.error.TextError.{TextError}
-use Rattle.value_parse.specs.declared.error.TextError.TheVariants.{Syntax, Range, KeyOrder, DeepText, BulkText, NoMemory}
+use Rattle.value_parse.specs.declared.error.TextError.TheVariants.{Syntax, Range, KeyOrder, DeepText, BulkText}
+use Rattle.value_parse.specs.declared.error.TextError.TheVariants.{NoMemory}
 use Rattle.value_parse.specs.declared.state.Open.{Open}
 use Rattle.value_parse.specs.declared.state.State.{State}
 use Rattle.value_parse.specs.View.{frames, held, open_of, spot}
@@ -53,7 +54,7 @@ IsCounted s = (s.values ≤ most_parts) × (s.cells ≤ most_cells)
 abbrev pub IsAllowed : State → Lexeme → Type 0
 IsAllowed s l = limit_of s.values s.cells (spot s.begun.spot) (frames s.begun.below.items) l ≡ None
 
--- what is answered for a text, unless memory runs out
+-- what is answered for a text, unless out of memory
 abbrev pub IfParsed : {A : Type 0} → Result A TextError → (A → Type 0) → (Cause → ℕ → Type 0) → Type 0
 IfParsed (Ok v) P Q = P v
 IfParsed (Err e) P Q = IfRefused e Q

@@ -4,14 +4,17 @@ use Rattle.typed_value.specs.Values.{Slice}
 use Rattle.typed_value.specs.View.{dict_parts, record_parts, slice_of, value}
 use Rattle.typed_value.specs.declared.value.RestPart.{RestPart}
 use Rattle.value_grammar.specs.Open as opened
-use Rattle.value_grammar.specs.Steps.{Held, held_of, part_of}
+use Rattle.value_grammar.specs.Steps.{Held, held_of, open_cell_of}
 use Rattle.value_parse.specs.declared.state.Frame.{Frame}
 use Rattle.value_parse.specs.declared.state.Frame.TheVariants.{Field, Item, Reference, Pair}
-use Rattle.value_parse.specs.declared.state.Part.{Part}
+use Rattle.value_parse.specs.declared.state.OpenCell.{OpenCell}
 use Rattle.value_parse.specs.declared.state.CellSpot.{CellSpot}
 use Rattle.value_parse.specs.declared.state.CellSpot.TheVariants.{ParenDue, BitsDue, AfterPart, ChildDue}
 use Rattle.value_parse.specs.declared.state.Spot.{Spot}
-use Rattle.value_parse.specs.declared.state.Spot.TheVariants.{Due, ItemOrEnd, AfterItem, Named, FieldOrEnd, FieldDue, Labelled, AfterField, EntryOrEnd, EntryDue, Keyed, AfterEntry, RestParen, RestBits, AfterRest, RestChild, InCell, Done}
+use Rattle.value_parse.specs.declared.state.Spot.TheVariants.{Due, ItemOrEnd, AfterItem, Named, FieldOrEnd, FieldDue}
+use Rattle.value_parse.specs.declared.state.Spot.TheVariants.{Labelled, AfterField, EntryOrEnd, EntryDue, Keyed}
+use Rattle.value_parse.specs.declared.state.Spot.TheVariants.{AfterEntry, RestParen, RestBits, AfterRest, RestChild}
+use Rattle.value_parse.specs.declared.state.Spot.TheVariants.{InCell, Done}
 use Rattle.value_parse.specs.declared.state.Open.{Open}
 use Rattle.value_parse.specs.declared.state.State.{State}
 
@@ -25,17 +28,17 @@ frame (Pair d k) = opened.pair (dict_parts d).0 (dict_parts d).1 k
 abbrev pub frames : List Frame → List opened.Frame
 frames fs = reverse (map frame fs)
 
-abbrev pub part : Part → opened.Part
-part p = part_of p.exotic p.place p.bits p.refs
+abbrev pub open_cell : OpenCell → opened.OpenCell
+open_cell p = open_cell_of p.exotic p.place p.bits p.refs
 
-abbrev pub parts : List Part → List opened.Part
-parts ps = reverse (map part ps)
+abbrev pub around : List OpenCell → List opened.OpenCell
+around ps = reverse (map open_cell ps)
 
 abbrev pub cell_spot : CellSpot → opened.CellSpot
 cell_spot ParenDue = opened.paren_due
 cell_spot (BitsDue exotic place) = opened.bits_due exotic place
-cell_spot (AfterPart p) = opened.after_part (part p)
-cell_spot (ChildDue p) = opened.child_due (part p)
+cell_spot (AfterPart p) = opened.after_part (open_cell p)
+cell_spot (ChildDue p) = opened.child_due (open_cell p)
 
 abbrev pub base : Option RestPart → Option Slice
 base None = None
@@ -58,7 +61,7 @@ spot RestParen = opened.rest_paren
 spot RestBits = opened.rest_bits
 spot (AfterRest r) = opened.after_rest (slice_of r)
 spot (RestChild r) = opened.rest_child (slice_of r)
-spot (InCell b ps c) = opened.in_cell (base b) (parts ps.items) (cell_spot c)
+spot (InCell b ps c) = opened.in_cell (base b) (around ps.items) (cell_spot c)
 spot (Done v) = opened.done (value v)
 
 abbrev pub open_of : Open → opened.Open

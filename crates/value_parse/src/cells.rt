@@ -13,7 +13,7 @@ ghost use Rattle.value_parse.specs.View as view;
 
 use crate::error::{TextError, no_go};
 use crate::give::give;
-use crate::state::{CellSpot, Frame, Open, Part, Spot};
+use crate::state::{CellSpot, Frame, Open, OpenCell, Spot};
 use bit_slice::BitSlice;
 use cell_nodes::{Cell, CellError, Kind};
 use sqlite_items::Items;
@@ -60,29 +60,30 @@ fn deepest(bits: BitSlice<'_>, refs: &[Cell]) -> u16
     lowest.max(first).max(second).max(third)
 }
 
-fn closed_ordinary(alloc: Global, part: Part) -> Result<Cell, TextError>
-    ensures { Closes result (within.closed_ordinary part.bits part.refs) part.place }
+fn closed_ordinary(alloc: Global, begun: OpenCell) -> Result<Cell, TextError>
+    ensures { Closes result (within.closed_ordinary begun.bits begun.refs) begun.place }
 {
-    let place = part.place;
-    if part.refs.len() <= 4 {
-        match Cell::ordinary(alloc, part.bits, part.refs.as_slice()) {
+    let place = begun.place;
+    if begun.refs.len() <= 4 {
+        match Cell::ordinary(alloc, begun.bits, begun.refs.as_slice()) {
             Ok(cell) => Ok(cell),
             Err(CellError::TooDeep) => Err(TextError::DeepText(place)),
-            Err(_) => Err(TextError::NoMemory),
+            Err(CellError::NoMemory) => Err(TextError::NoMemory),
+            Err(CellError::BadExotic) => unreachable!(),
         }
-    } else if deepest(part.bits.slice(), part.refs.as_slice()) > 1024 {
+    } else if deepest(begun.bits.slice(), begun.refs.as_slice()) > 1024 {
         Err(TextError::DeepText(place))
     } else {
         Err(TextError::Range(place))
     }
 }
 
-fn closed_exotic(alloc: Global, part: Part) -> Result<Cell, TextError>
+fn closed_exotic(alloc: Global, begun: OpenCell) -> Result<Cell, TextError>
     ensures { Closes result
-        (within.closed_exotic (exotic_kind part.bits (length part.refs)) part.bits part.refs) part.place }
+        (within.closed_exotic (exotic_kind begun.bits (length begun.refs)) begun.bits begun.refs) begun.place }
 {
-    let place = part.place;
-    match Cell::exotic(alloc, part.bits, part.refs.as_slice()) {
+    let place = begun.place;
+    match Cell::exotic(alloc, begun.bits, begun.refs.as_slice()) {
         Ok(cell) => Ok(cell),
         Err(CellError::TooDeep) => Err(TextError::DeepText(place)),
         Err(CellError::BadExotic) => Err(TextError::Range(place)),
@@ -90,21 +91,21 @@ fn closed_exotic(alloc: Global, part: Part) -> Result<Cell, TextError>
     }
 }
 
-fn closed(alloc: Global, part: Part) -> Result<Cell, TextError>
-    ensures { Closes result (within.closed (view.part part)) part.place }
+fn closed(alloc: Global, begun: OpenCell) -> Result<Cell, TextError>
+    ensures { Closes result (within.closed (view.open_cell begun)) begun.place }
 {
-    if part.exotic {
-        closed_exotic(alloc, part)
+    if begun.exotic {
+        closed_exotic(alloc, begun)
     } else {
-        closed_ordinary(alloc, part)
+        closed_ordinary(alloc, begun)
     }
 }
 
-fn with_child(mut part: Part, child: Cell) -> Result<Part, NoMemory>
-    ensures { IfOk result (λ p. view.part p ≡ steps.with_child (view.part part) child) }
+fn with_child(mut begun: OpenCell, child: Cell) -> Result<OpenCell, NoMemory>
+    ensures { IfOk result (λ p. view.open_cell p ≡ steps.with_child (view.open_cell begun) child) }
 {
-    part.refs.push(child)?;
-    Ok(part)
+    begun.refs.push(child)?;
+    Ok(begun)
 }
 
 fn with_ref(mut rest: RestPart, child: Cell) -> Result<RestPart, NoMemory>
@@ -119,16 +120,16 @@ fn give_cell(
     alloc: Global,
     cell: Cell,
     base: Option<RestPart>,
-    mut around: Vec<Part>,
+    mut around: Vec<OpenCell>,
     below: Vec<Frame>,
 ) -> Result<Open, TextError>
     ensures { Moves result
-        (Ok (steps.give_cell cell (view.base base) (view.parts around.items) (view.frames below.items))) }
+        (Ok (steps.give_cell cell (view.base base) (view.around around.items) (view.frames below.items))) }
 {
     match around.pop() {
-        Some(part) => {
-            let part = with_child(part, cell)?;
-            let spot = Spot::InCell(base, around, CellSpot::AfterPart(part));
+        Some(begun) => {
+            let begun = with_child(begun, cell)?;
+            let spot = Spot::InCell(base, around, CellSpot::AfterPart(begun));
             Ok(Open { spot, below })
         }
         None => match base {
@@ -144,13 +145,13 @@ fn give_cell(
 /// Where a cell may begin.
 pub(crate) fn begin_cell(
     base: Option<RestPart>,
-    around: Vec<Part>,
+    around: Vec<OpenCell>,
     lexeme: Lexeme,
     place: u64,
     below: Vec<Frame>,
 ) -> Result<Open, TextError>
     ensures { Moves result
-        (steps.begin_cell (view.base base) (view.parts around.items) lexeme place (view.frames below.items)) }
+        (steps.begin_cell (view.base base) (view.around around.items) lexeme place (view.frames below.items)) }
 {
     let cell = match lexeme {
         Lexeme::Sign(Sign::OpenParen) => CellSpot::BitsDue(false, place),
@@ -164,13 +165,13 @@ pub(crate) fn begin_cell(
 // After a `!`.
 fn open_exotic(
     base: Option<RestPart>,
-    around: Vec<Part>,
+    around: Vec<OpenCell>,
     lexeme: Lexeme,
     place: u64,
     below: Vec<Frame>,
 ) -> Result<Open, TextError>
     ensures { Moves result
-        (steps.open_exotic (view.base base) (view.parts around.items) lexeme place (view.frames below.items)) }
+        (steps.open_exotic (view.base base) (view.around around.items) lexeme place (view.frames below.items)) }
 {
     match lexeme {
         Lexeme::Sign(Sign::OpenParen) => {
@@ -182,28 +183,28 @@ fn open_exotic(
 }
 
 // After a cell's `(`.
-fn begin_part(
+fn begin_body(
     alloc: Global,
     base: Option<RestPart>,
-    around: Vec<Part>,
+    around: Vec<OpenCell>,
     head: (bool, u64),
     lexeme: Lexeme,
     place: u64,
     below: Vec<Frame>,
 ) -> Result<Open, TextError>
     ensures { Moves result
-        (steps.begin_part (view.base base) (view.parts around.items) head.0 head.1 lexeme place
+        (steps.begin_body (view.base base) (view.around around.items) head.0 head.1 lexeme place
         (view.frames below.items)) }
 {
     match lexeme {
         Lexeme::Bits(bits) => {
-            let part = Part {
+            let begun = OpenCell {
                 exotic: head.0,
                 place: head.1,
                 bits,
                 refs: Items::new(alloc),
             };
-            let spot = Spot::InCell(base, around, CellSpot::AfterPart(part));
+            let spot = Spot::InCell(base, around, CellSpot::AfterPart(begun));
             Ok(Open { spot, below })
         }
         _ => no_go(place),
@@ -211,26 +212,26 @@ fn begin_part(
 }
 
 // After a cell's bits or a reference.
-fn in_part(
+fn in_body(
     alloc: Global,
     base: Option<RestPart>,
-    around: Vec<Part>,
-    part: Part,
+    around: Vec<OpenCell>,
+    begun: OpenCell,
     lexeme: Lexeme,
     place: u64,
     below: Vec<Frame>,
 ) -> Result<Open, TextError>
     ensures { Moves result
-        (steps.in_part (view.base base) (view.parts around.items) (view.part part) lexeme place
+        (steps.in_body (view.base base) (view.around around.items) (view.open_cell begun) lexeme place
         (view.frames below.items)) }
 {
     match lexeme {
         Lexeme::Sign(Sign::Comma) => {
-            let spot = Spot::InCell(base, around, CellSpot::ChildDue(part));
+            let spot = Spot::InCell(base, around, CellSpot::ChildDue(begun));
             Ok(Open { spot, below })
         }
         Lexeme::Sign(Sign::CloseParen) => {
-            let cell = closed(alloc, part)?;
+            let cell = closed(alloc, begun)?;
             give_cell(alloc, cell, base, around, below)
         }
         _ => no_go(place),
@@ -238,10 +239,10 @@ fn in_part(
 }
 
 // One more cell that is begun.
-fn inside(mut around: Vec<Part>, part: Part) -> Result<Vec<Part>, NoMemory>
-    ensures { IfOk result (λ now. view.parts now.items ≡ view.part part ∷ view.parts around.items) }
+fn inside(mut around: Vec<OpenCell>, begun: OpenCell) -> Result<Vec<OpenCell>, NoMemory>
+    ensures { IfOk result (λ now. view.around now.items ≡ view.open_cell begun ∷ view.around around.items) }
 {
-    match around.push(part) {
+    match around.push(begun) {
         Ok(()) => Ok(around),
         Err(_) => Err(NoMemory),
     }
@@ -250,17 +251,17 @@ fn inside(mut around: Vec<Part>, part: Part) -> Result<Vec<Part>, NoMemory>
 // A cell that begins inside another.
 fn begin_child(
     base: Option<RestPart>,
-    around: Vec<Part>,
-    part: Part,
+    around: Vec<OpenCell>,
+    begun: OpenCell,
     lexeme: Lexeme,
     place: u64,
     below: Vec<Frame>,
 ) -> Result<Open, TextError>
     ensures { Moves result
-        (steps.begin_cell (view.base base) (view.part part ∷ view.parts around.items)
+        (steps.begin_cell (view.base base) (view.open_cell begun ∷ view.around around.items)
         lexeme place (view.frames below.items)) }
 {
-    let around = inside(around, part)?;
+    let around = inside(around, begun)?;
     begin_cell(base, around, lexeme, place, below)
 }
 
@@ -268,23 +269,23 @@ fn begin_child(
 pub(crate) fn move_cell(
     alloc: Global,
     base: Option<RestPart>,
-    around: Vec<Part>,
+    around: Vec<OpenCell>,
     cell: CellSpot,
     lexeme: Lexeme,
     place: u64,
     below: Vec<Frame>,
 ) -> Result<Open, TextError>
     ensures { Moves result
-        (steps.move_cell (view.base base) (view.parts around.items) (view.cell_spot cell) lexeme place
+        (steps.move_cell (view.base base) (view.around around.items) (view.cell_spot cell) lexeme place
         (view.frames below.items)) }
 {
     match cell {
         CellSpot::ParenDue => open_exotic(base, around, lexeme, place, below),
         CellSpot::BitsDue(exotic, paren) => {
-            begin_part(alloc, base, around, (exotic, paren), lexeme, place, below)
+            begin_body(alloc, base, around, (exotic, paren), lexeme, place, below)
         }
-        CellSpot::AfterPart(part) => in_part(alloc, base, around, part, lexeme, place, below),
-        CellSpot::ChildDue(part) => begin_child(base, around, part, lexeme, place, below),
+        CellSpot::AfterPart(begun) => in_body(alloc, base, around, begun, lexeme, place, below),
+        CellSpot::ChildDue(begun) => begin_child(base, around, begun, lexeme, place, below),
     }
 }
 

@@ -27,6 +27,7 @@ pub enum TextError {
     /// The 1,048,577th value, or the 262,145th cell.
     #[error("one value or cell too many at byte {0}")]
     BulkText(u64),
+    /// Out of memory; the text may write a value or not.
     #[error("no memory")]
     NoMemory,
 }

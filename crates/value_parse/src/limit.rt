@@ -4,7 +4,7 @@ ghost use Rattle.value_text.specs.Writes.{comes_after};
 ghost use Rattle.value_grammar.specs.Within as within;
 ghost use Rattle.value_parse.specs.View as view;
 
-use crate::state::{CellSpot, Frame, Open, Part, Spot};
+use crate::state::{CellSpot, Frame, Open, OpenCell, Spot};
 use bit_slice::{BitSlice, Name};
 use value_grammar::Cause;
 use value_text::{Lexeme, Sign};
@@ -97,8 +97,8 @@ fn is_value_due(spot: &Spot) -> bool
     }
 }
 
-fn is_part_due(spot: &CellSpot) -> bool
-    ensures { result ≡ within.is_part_due (view.cell_spot spot.now) }
+fn is_paren_due(spot: &CellSpot) -> bool
+    ensures { result ≡ within.is_paren_due (view.cell_spot spot.now) }
 {
     match spot {
         CellSpot::ParenDue | CellSpot::ChildDue(_) => true,
@@ -112,14 +112,14 @@ fn is_cell_due(spot: &Spot) -> bool
 {
     match spot {
         Spot::Due | Spot::ItemOrEnd | Spot::RestChild(_) => true,
-        Spot::InCell(_, _, cell) => is_part_due(cell),
+        Spot::InCell(_, _, cell) => is_paren_due(cell),
         _ => false,
     }
 }
 
 // Whether a cell would begin inside too many.
-fn is_deep_child(around: &[Part], spot: &CellSpot, lexeme: &Lexeme) -> bool
-    ensures { result ≡ within.is_deep_child (view.parts around.now) (view.cell_spot spot.now) lexeme.now }
+fn is_deep_child(around: &[OpenCell], spot: &CellSpot, lexeme: &Lexeme) -> bool
+    ensures { result ≡ within.is_deep_child (view.around around.now) (view.cell_spot spot.now) lexeme.now }
 {
     match spot {
         CellSpot::ChildDue(_) => around.len() >= MOST_CELL_LEVELS - 1 && begins_cell(lexeme),

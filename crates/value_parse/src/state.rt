@@ -18,7 +18,7 @@ pub(crate) enum Frame {
 
 /// A cell that is begun.
 #[derive(Drop)]
-pub(crate) struct Part {
+pub(crate) struct OpenCell {
     pub(crate) exotic: bool,
     /// The place of its `(`.
     pub(crate) place: u64,
@@ -34,9 +34,9 @@ pub(crate) enum CellSpot {
     /// After a `(`: whether the cell is exotic, and the place.
     BitsDue(bool, u64),
     /// After the bits or a reference.
-    AfterPart(Part),
+    AfterPart(OpenCell),
     /// After a comma.
-    ChildDue(Part),
+    ChildDue(OpenCell),
 }
 
 /// Where the text stands within the frames.
@@ -73,7 +73,7 @@ pub(crate) enum Spot {
     /// After a comma in it.
     RestChild(RestPart),
     /// In a cell: the `%` around it, if there is one, and the cells around it.
-    InCell(Option<RestPart>, Vec<Part>, CellSpot),
+    InCell(Option<RestPart>, Vec<OpenCell>, CellSpot),
     /// After the whole value.
     Done(Value),
 }

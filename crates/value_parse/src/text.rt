@@ -1,11 +1,12 @@
 //! The value that a text writes.
-ghost use Rattle.std.specs.Prelude.{◌≡◌, ◌<◌, ◌≤◌, drop, length, MatchOption};
+ghost use Rattle.std.specs.Prelude.{◌≡◌, ◌<◌, ◌≤◌, ℕ, drop, length, MatchOption};
 ghost use Rattle.typed_value.specs.Values.{Plain};
 ghost use Rattle.typed_value.specs.View.{value};
 ghost use Rattle.value_text.specs.Division.{space_before};
 ghost use Rattle.value_grammar.specs.Reading.{Finishes, IsUnfinished, Reaches, Stops};
 ghost use Rattle.value_text.specs.Writes.{TextWrites, is_space};
 ghost use Rattle.value_grammar.specs.Open as opened;
+ghost use Rattle.value_grammar.specs.declared.cause.Cause.{Cause};
 ghost use Rattle.value_grammar.specs.Refused.{TextRefused};
 ghost use Rattle.value_grammar.specs.Steps as steps;
 ghost use Rattle.value_parse.specs.Answer.{IfParsed, IsCounted, IsFurther};
@@ -17,7 +18,8 @@ use crate::steps::step;
 use std::alloc::Global;
 use typed_value::Value;
 use value_grammar::laws::{
-    at_most_one_value, finish_or_stop, finished_is_written, stop_is_refusal, written_is_finished,
+    at_most_one_refusal, at_most_one_value, finish_or_stop, finished_is_written, stop_is_refusal,
+    value_or_refusal, written_is_finished,
 };
 use value_text::lexeme_at;
 
@@ -135,13 +137,18 @@ pub fn parse(alloc: Global, text: &[u8]) -> Result<Value, TextError>
     // What is answered holds of the text.
     ensures holds { IfParsed result (λ v. TextWrites text.now (value v))
         (λ cause byte. TextRefused text.now cause byte) }
-    // The value that the text writes is answered, unless memory runs out.
+    // The value that the text writes is answered, unless out of memory.
     ensures written { (v : Plain) → TextWrites text.now v → IfParsed result (λ found. value found ≡ v) (λ _ _. ⊥) }
+    // The refusal of the text is answered, unless out of memory.
+    ensures refused { (cause : Cause) (byte : ℕ) → TextRefused text.now cause byte
+        → IfParsed result (λ _. ⊥) (λ found place. (found ≡ cause) × (place ≡ byte)) }
 {
     finished_is_written();
     stop_is_refusal();
     written_is_finished();
     at_most_one_value();
     finish_or_stop();
+    at_most_one_refusal();
+    value_or_refusal();
     read(alloc, text)
 }

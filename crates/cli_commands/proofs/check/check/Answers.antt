@@ -1,19 +1,8 @@
 use Rattle.cli_stages.specs.StageLaws.{given, passed, stopped}
 use Rattle.cli_commands.proofs.check.check.Goals as goal
 
-pub returns-in_err-tree : goal.returns-in_err-tree
-returns-in_err-tree c = stopped c.in_err-tree.ensures.given c.from_residual.ensures.1
-
-pub returns-in_err-kinded : goal.returns-in_err-kinded
-returns-in_err-kinded c =
-    passed c.in_ok-tree.ensures.given (stopped c.in_err-kinded.ensures c.from_residual-in_err-kinded.ensures.1)
-
 pub returns-in_err-accepted : goal.returns-in_err-accepted
-returns-in_err-accepted c =
-    passed c.in_ok-tree.ensures.given (passed c.in_ok-kinded.ensures
-    (stopped c.in_err-accepted.ensures c.from_residual-in_err-accepted.ensures.1))
+returns-in_err-accepted c = stopped c.in_err-accepted.ensures c.from_residual.ensures.1
 
 pub returns : goal.returns
-returns c =
-    passed c.in_ok-tree.ensures.given (passed c.in_ok-kinded.ensures (passed c.in_ok-accepted.ensures
-    (given c.in_ok-text.ensures)))
+returns c = passed c.in_ok-accepted.ensures (given c.in_ok-text.ensures)

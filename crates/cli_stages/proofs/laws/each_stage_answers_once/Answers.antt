@@ -1,5 +1,6 @@
-use Rattle.cli_stages.proofs.Layers.{Bags, Forms, Readings, Texts}
-use Rattle.cli_stages.proofs.StageFacts.{bag-stage, cell-stage, form-stage, kinds-stage, tags-stage, text-stage, word-stage}
+use Rattle.cli_stages.proofs.Layers.{Bags, Forms, Readings, Schemas, Texts}
+use Rattle.cli_stages.proofs.StageFacts.{bag-stage, cell-stage, form-stage, schema-stage, word-stage}
+use Rattle.cli_stages.proofs.Whole.{is-whole}
 use Rattle.cli_stages.proofs.laws.each_stage_answers_once.Goals as goal
 
 pub returns : goal.returns
@@ -9,6 +10,14 @@ returns c =
       refused = c.at_most_one_answer.ensures.refused;
       not_both = c.at_most_one_answer.ensures.not_both;
       some = c.written_or_refused.ensures.schema;
+    } in
+    let schemas : Schemas = record {
+      within = c.written_within_limits.ensures;
+      stays_within = c.kept_stays_within.ensures;
+      stays_kinded = c.kinded_stays.ensures;
+      passed_over = c.passed_over.ensures;
+      accepted_or_refused = c.accepted_or_refused.ensures;
+      has_no_refusal = c.accepted_has_no_refusal.ensures;
     } in
     let forms : Forms = record {
       tokenized = c.at_most_one.ensures.tokenized;
@@ -31,9 +40,8 @@ returns c =
       some = c.reading_or_stop.ensures;
     } in
     record {
-      schema_text = text-stage texts;
-      kinds = kinds-stage;
-      tags = tags-stage;
+      schema = schema-stage texts schemas;
+      whole = is-whole schemas c.accepted_stays.ensures;
       flat_form = form-stage forms;
       type_word = word-stage;
       bag = bag-stage bags;

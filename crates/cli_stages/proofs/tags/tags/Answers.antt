@@ -2,7 +2,7 @@ use Rattle.std.proofs.Common.{refl}
 use Rattle.cli_stages.proofs.tags.tags.Goals as goal
 
 pub returns-in-Ok : goal.returns-in-Ok
-returns-in-Ok c = record { answer = (c.in-Ok.ensures.judged.1, c.in-Ok.ensures.judged.2) }
+returns-in-Ok c = record { answer = (c.in-Ok.ensures.judged.0, c.in-Ok.ensures.judged.2) }
 
 pub returns-else-is_no_memory : goal.returns-else-is_no_memory
 returns-else-is_no_memory c =

@@ -1,0 +1,10 @@
+pub mod CellLaws
+pub mod LaidReadsLaws
+pub mod Laws
+pub mod Nodes
+pub mod OneLaidLaws
+pub mod Proving
+pub mod ProvingLaws
+pub mod ThenViewLaws
+pub mod Viewing
+pub mod ViewingLaws

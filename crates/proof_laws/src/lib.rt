@@ -1,0 +1,4 @@
+//! What holds of proofs.
+#![tactic(auto)]
+
+pub mod laws;
