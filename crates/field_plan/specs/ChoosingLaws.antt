@@ -15,7 +15,8 @@ only_one : (a : Bool) → (a || false) ≡ true → a ≡ true
 only_one true h = refl
 only_one false h = h
 
-tag_within : (tag : List ℕ) (ls : Leads) (bits : List ℕ) → some_begins (by_tag tag ls) bits ≡ true → length tag ≤ length bits
+tag_within : (tag : List ℕ) (ls : Leads) (bits : List ℕ) → some_begins (by_tag tag ls) bits ≡ true
+    → length tag ≤ length bits
 tag_within [] ls bits h = omega arith
 tag_within (b ∷ tag) ls bits h = begins_within (b ∷ tag) bits (only_one (begins (b ∷ tag) bits) h)
 

@@ -23,9 +23,9 @@ fn meets(input: &PlanInput, arg: &ClosedArg) -> bool
     ensures small { IsTrue result → IsSmall (closed_arg arg.now) }
 {
     match (input, arg) {
-        (PlanInput::Nat(pattern), ClosedArg::Nat(number)) => pattern_fit(
-            pattern, *number,
-        ).is_some(),
+        (PlanInput::Nat(pattern), ClosedArg::Nat(number)) => {
+            pattern_fit(pattern, *number).is_some()
+        }
         (PlanInput::Ty(_), ClosedArg::Ty(_)) => true,
         (PlanInput::Nat(_), ClosedArg::Ty(_)) | (PlanInput::Ty(_), ClosedArg::Nat(_)) => false,
     }
@@ -63,8 +63,8 @@ fn some_begins(leads: &[BitString], bits: &BitSlice<'_>) -> bool
 }
 
 impl Plan {
-    /// The constructor that fits and of which a lead begins the bits that are left: of an accepted schema there is at most
-    /// one. It goes through the constructors of the type, and compares the bits with the leads of those that fit.
+    /// The constructor that fits and of which a lead begins the bits that are left: of an accepted schema there is at
+    /// most one. It goes through the constructors of the type, and compares the bits with the leads of those that fit.
     pub fn choose(&self, type_name: &Name, args: &[ClosedArg], prefix: BitSlice<'_>) -> Option<u32>
         ensures there { IfSome result (λ c. c < length (cores (schema_view self.now.0))) }
         ensures enters { (c : ℕ) (d : Declaration) → slice_get (cores (schema_view self.now.0)) c ≡ Some d
@@ -82,8 +82,8 @@ impl Plan {
         None
     }
 
-    /// The constructor that fits and is shown by this name: of an accepted schema there is at most one. It goes through the
-    /// constructors of the type.
+    /// The constructor that fits and is shown by this name: of an accepted schema there is at most one. It goes through
+    /// the constructors of the type.
     pub fn named(&self, type_name: &Name, args: &[ClosedArg], shown: &Name) -> Option<u32>
         ensures there { IfSome result (λ c. c < length (cores (schema_view self.now.0))) }
         ensures named { (c : ℕ) (d : Declaration) → slice_get (cores (schema_view self.now.0)) c ≡ Some d
