@@ -1,0 +1,6 @@
+pub mod Choices
+pub mod Dicts
+pub mod Levels
+pub mod Refs
+pub mod Roots
+pub mod Steps
