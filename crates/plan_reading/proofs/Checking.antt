@@ -1,8 +1,8 @@
 -- A check by the values of its sides.
-use Rattle.std.proofs.Common.{◌≡◌, ℕ, Bool, true, false, cond, if◌then◌else◌, [], Option, Some, None, Result, Ok, Err, refl, ap}
+use Rattle.std.proofs.Common.{◌≡◌, ℕ, Bool, true, false, cond, if◌then◌else◌, Option, Some, None, Result, Ok, Err, refl, ap}
 use Rattle.hashmap_labels.specs.Steps.{same_ok}
 use Rattle.hashmap_tree.specs.Entries.{Slice}
-use Rattle.nat_solver.specs.Number.{Expr, Numbers, answer, comparison, first_lacking, holding, number_or, parts, refusal, value}
+use Rattle.nat_solver.specs.Number.{Expr, answer, comparison, holding, number_or, value}
 use Rattle.nat_solver.specs.declared.compare.Op.{Op}
 use Rattle.nat_solver.specs.declared.evaluate.NatError.{NatError}
 use Rattle.core_form.specs.Core as core

@@ -1,5 +1,5 @@
 -- The plain reader at a row of the table of basic types.
-use Rattle.std.proofs.Common.{◌≡◌, ℕ, ◌+◌, ◌^◌, ◌<◌, ◌≤◌, Bool, true, false, cond, List, [], ◌∷◌, length, take, drop, Result, Ok, Err, refl, sym, ap, ◌∙◌, nat_lt, subst, arith}
+use Rattle.std.proofs.Common.{◌≡◌, ℕ, ◌^◌, ◌<◌, ◌≤◌, Bool, false, List, [], length, take, drop, Ok, Err, ap, ◌∙◌, nat_lt, subst}
 use Rattle.std.proofs.lemmas.Bool.{lt-ltb, le-ltb}
 use Rattle.std.proofs.lemmas.List.{length-take-le}
 use Rattle.bit_slice.specs.Bits.{AreBits, number_of, signed_number_of}
@@ -8,9 +8,9 @@ use Rattle.cell_nodes.specs.declared.tree.Tree.{Tree}
 use Rattle.hashmap_labels.specs.LengthLaws.{are_bits-AreBits}
 use Rattle.hashmap_labels.specs.Reading.{are_bits}
 use Rattle.hashmap_labels.specs.Steps.{when_true, when_false}
-use Rattle.spelling.specs.Goals.{natural, integer, string}
-use Rattle.spelling.specs.Places.{Spot, Place, stuck}
-use Rattle.spelling.specs.PlainReader.{◌>>=◌, Found, integer_of, natural_of, number_value, read_row, take_bits}
+use Rattle.spelling.specs.Goals.{natural, integer}
+use Rattle.spelling.specs.Places.{Spot, stuck}
+use Rattle.spelling.specs.PlainReader.{◌>>=◌, integer_of, natural_of, number_value, read_row, take_bits}
 use Rattle.spelling.specs.Spells.{own}
 use Rattle.spelling.specs.declared.Cause.TheVariants.{OutOfRange, ShortBits}
 use Rattle.typed_value.specs.Values as values

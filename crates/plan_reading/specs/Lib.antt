@@ -2,4 +2,5 @@ pub mod Edges
 pub mod Gives
 pub mod Shaped
 pub mod Slots
+pub mod StopLaws
 pub mod Stops

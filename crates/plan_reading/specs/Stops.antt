@@ -1,7 +1,7 @@
 -- Places as they are seen from the spot that a call began at.
-use Rattle.std.specs.Prelude.{ℕ, ◌≡◌, List, [], ◌++◌, reverse, Option, Some, None, Result, Ok, Err}
+use Rattle.std.specs.Prelude.{◌≡◌, List, [], ◌++◌, reverse, Option, Some, None, Result, Ok, Err}
 use Rattle.field_path.specs.declared.part.Part.{Part}
-use Rattle.spelling.specs.Places.{Holder, Spot, Place, constructor_of, stuck}
+use Rattle.spelling.specs.Places.{Spot, Place, constructor_of, stuck}
 use Rattle.plan_reading.specs.declared.stop.Entered.{Entered}
 use Rattle.plan_reading.specs.declared.stop.Stop.{Stop}
 use Rattle.plan_reading.specs.declared.stop.StopError.{StopError}

@@ -1,9 +1,10 @@
 //! The first edge of a dictionary, and the cell of its root, as the plain reader has them.
-ghost use Rattle.std.specs.Prelude.{◌≡◌, ◌≤◌, ◌∷◌, [], IfOk, Ok};
+ghost use Rattle.std.specs.Prelude.{◌≡◌, ◌≤◌, ◌∷◌, [], IfOk, Err, Ok};
 ghost use Rattle.hashmap_tree.specs.Adds.{OnlyMemory, slice_of};
 ghost use Rattle.hashmap_tree.specs.Entries as entries;
 ghost use Rattle.hashmap_tree.specs.Dict as dict;
 ghost use Rattle.hashmap_tree.specs.First as edges;
+ghost use Rattle.hashmap_tree.specs.Walk as plain_walk;
 ghost use Rattle.spelling.specs.PlainReader as plain;
 ghost use Rattle.plan_reading.specs.Edges.{GivesCell, GivesFirst};
 
@@ -38,6 +39,7 @@ pub fn walk_cause(cause: WalkCause) -> Cause
 }
 
 /// The first edge of a dictionary in place.
+#[tactic(auto, using(crate::proofs::Walking::first_given))]
 pub fn first_edge<'a>(
     alloc: Global,
     s: CellSlice<'a>,
@@ -51,6 +53,7 @@ pub fn first_edge<'a>(
 }
 
 /// The entries of the cell of an edge, or the hidden part in its place. Nothing is left after them.
+#[tactic(auto, using(crate::proofs::Walking::hidden_cell, crate::proofs::Walking::exotic_cell))]
 pub fn walk_root<'a>(
     alloc: Global,
     cell: &'a Cell,
@@ -60,16 +63,24 @@ pub fn walk_root<'a>(
     requires { n ≤ 1023 }
     ensures { GivesCell result (plain.walk_cell mode n cell.now) }
 {
-    if let Some(hidden) = unseen(cell, mode) {
-        return hidden_root(alloc, cell, hidden);
+    match unseen(cell, mode) {
+        Some(hidden) => return hidden_root(alloc, cell, hidden),
+        None => {}
     }
-    if cell.kind() != Kind::Ordinary {
-        return match empty(alloc) {
-            Ok(prefix) => Err(WalkError::Stuck(prefix, WalkCause::Exotic)),
-            Err(error) => Err(error),
-        };
+    match cell.kind() {
+        Kind::Ordinary => walk(alloc, cell.content(), n, mode, true),
+        Kind::Pruned | Kind::Library | Kind::Proof | Kind::Update => exotic_root(alloc),
     }
-    walk(alloc, cell.content(), n, mode, true)
+}
+
+// A walk that meets an exotic cell at once.
+fn exotic_root<'a>(alloc: Global) -> Result<Walk<'a>, WalkError>
+    ensures { GivesCell result (Err (plain_walk.here WalkCause.Exotic)) }
+{
+    match empty(alloc) {
+        Ok(prefix) => Err(WalkError::Stuck(prefix, WalkCause::Exotic)),
+        Err(error) => Err(error),
+    }
 }
 
 // No bits.

@@ -27,27 +27,37 @@ impl Slots {
     {
         let numbers = Env::new(alloc, count)?;
         let mut types = Vec::new(alloc);
-        for _ in 0..count {
+        for _slot in 0..count {
             types.push(None).map_err(AllocError::from)?;
         }
         Ok(Slots { numbers, types })
     }
 
-    // Sets what the pattern binds, where the number meets it.
-    fn meet(&mut self, pattern: &Pattern, number: u32) -> bool
-        ensures { option_if result (slots_view self.new) ≡ fits.meet pattern.now number (slots_view self.old) }
+    // Sets the variable of the pattern, if it has one.
+    fn set_variable(&mut self, pattern: &Pattern, number: u32)
+        ensures { slots_view self.new ≡ fits.with_pattern pattern.now number (slots_view self.old) }
     {
-        match (pattern_fit(pattern, number), pattern) {
-            (None, _) => false,
-            (Some(_), Pattern::Lit(_)) => true,
-            (Some(rest), Pattern::Var(slot)) | (Some(rest), Pattern::Plus(slot, _)) => {
-                set(&mut self.numbers, *slot, rest);
-                true
-            }
+        match pattern {
+            Pattern::Lit(_) => {}
+            Pattern::Var(slot) => set(&mut self.numbers, *slot, number),
+            Pattern::Plus(slot, _) => set(&mut self.numbers, *slot, number),
         }
     }
 
+    // Sets what the pattern binds, where the number meets it.
+    #[tactic(auto, using(crate::proofs::Fitting::pattern_met, crate::proofs::Fitting::pattern_unmet))]
+    fn meet(&mut self, pattern: &Pattern, number: u32) -> bool
+        ensures { option_if result (slots_view self.new) ≡ fits.meet pattern.now number (slots_view self.old) }
+    {
+        let Some(rest) = pattern_fit(pattern, number) else {
+            return false;
+        };
+        self.set_variable(pattern, rest);
+        true
+    }
+
     // Sets a slot to a copy of a closed type, if there is one of that number.
+    #[tactic(auto, using(crate::proofs::Fitting::type_set))]
     fn set_type(&mut self, alloc: Global, slot: u32, t: &ClosedType) -> Result<(), NoMemory>
         ensures { OnOk result (slots_view self.new ≡ with_type slot (type_view t.now) (slots_view self.old)) }
     {

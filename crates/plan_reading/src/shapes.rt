@@ -1,5 +1,6 @@
 //! What is left of a field's type when its numbers are put in.
-ghost use Rattle.std.specs.Prelude.{◌≡◌, ◌<◌, ℕ, IfNone, IfOk, IfSome, length};
+ghost use Rattle.std.specs.Prelude.{◌≡◌, ◌<◌, ℕ, IfNone, IfOk, IfSome, Ok, length};
+ghost use Rattle.core_form.specs.Closing.{close};
 ghost use Rattle.core_form.specs.Core as core;
 ghost use Rattle.core_form.specs.Scope.{Scope};
 ghost use Rattle.flat_form.specs.Sound.{IsFlat};
@@ -60,7 +61,26 @@ fn group(flat: &Flat, ty: u32) -> Option<(u32, u32)>
     }
 }
 
-// The type without its condition; a record in a record is closed at its own fields.
+// A record in a record, in place or under `^`, which is closed at its own fields.
+fn inner_record(flat: &Flat, ty: u32) -> Option<FlatShape>
+    requires flat { IsFlat flat.now }
+    requires there { ty < length flat.now.types }
+    ensures is { (scope : Scope) → IfSome result (λ x. goals.laid (type_at flat.now ty) scope ≡ Ok (shape_view flat.now scope x)) }
+    ensures sound { IfSome result (LaidIsSound flat.now ty) }
+    ensures none { (scope : Scope) → IfNone result (goals.laid (type_at flat.now ty) scope
+        ≡ goals.typed_or (close (type_at flat.now ty) scope)) }
+{
+    match flat.node(ty) {
+        TypeNode::Group(first, count) => Some(FlatShape::Here(first, count)),
+        TypeNode::Ref(inner) => {
+            let (first, count) = group(flat, inner)?;
+            Some(FlatShape::Under(first, count))
+        }
+        _ => None,
+    }
+}
+
+// The type without its condition.
 fn laid(
     alloc: Global,
     flat: &Flat,
@@ -74,13 +94,8 @@ fn laid(
         (goals.laid (type_at flat.now ty) (scope_of env.now types.now)) }
     ensures sound { IfOk result (LaidIsSound flat.now ty) }
 {
-    match flat.node(ty) {
-        TypeNode::Group(first, count) => return Ok(FlatShape::Here(first, count)),
-        TypeNode::Ref(inner) => match group(flat, inner) {
-            Some((first, count)) => return Ok(FlatShape::Under(first, count)),
-            None => {}
-        },
-        _ => {}
+    if let Some(shape) = inner_record(flat, ty) {
+        return Ok(shape);
     }
     match close_type(alloc, flat, ty, env, types) {
         Ok(closed) => Ok(FlatShape::Typed(closed)),

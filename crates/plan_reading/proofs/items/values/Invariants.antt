@@ -1,4 +1,4 @@
-use Rattle.std.proofs.Common.{◌≡◌, List, Option, Some, None, All, drop, map}
+use Rattle.std.proofs.Common.{◌≡◌, List, Option, All, drop, map}
 use Rattle.closed_type.specs.declared.tree.ClosedType.{ClosedType}
 use Rattle.core_form.specs.Scope.{values_in}
 use Rattle.flat_form.specs.Sound.{IsPlainNumber}
