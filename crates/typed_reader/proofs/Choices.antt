@@ -20,7 +20,7 @@ module _ (schema : CoreSchema) (x : Word) (args : ClosedArgs) (bits : List ℕ) 
       ∙ fits
 
   candidate_none : (c : Declaration) → (Enters schema x args bits c → ⊥) → candidate schema x args bits c ≡ None
-  candidate_none c no = go (bytes_eq c.of_type x && some_begins (leads schema c) bits) (fit c.core args) refl refl
+  candidate_none c out = go (bytes_eq c.of_type x && some_begins (leads schema c) bits) (fit c.core args) refl refl
     where
       go : (b : Bool) (o : Option Scope) → (bytes_eq c.of_type x && some_begins (leads schema c) bits) ≡ b
           → fit c.core args ≡ o → cond b o None ≡ None
@@ -29,7 +29,7 @@ module _ (schema : CoreSchema) (x : Word) (args : ClosedArgs) (bits : List ℕ) 
       go true (Some scope) h f =
           let b = both (bytes_eq c.of_type x) (some_begins (leads schema c) bits) h in
           let P : Option Scope → Type 0 = λ z. IsSome z in
-          absurd (no (record {
+          absurd (out (record {
             of_type = (bytes_eq-Decides c.of_type x).0 b.0;
             fits = subst P (sym f) tt;
             begins = b.1;
@@ -37,10 +37,10 @@ module _ (schema : CoreSchema) (x : Word) (args : ClosedArgs) (bits : List ℕ) 
 
   pub none_chosen : (cs : CoreSchema) → ((i : ℕ) (d : Declaration) → slice_get cs i ≡ Some d → Enters schema x args bits d → ⊥)
       → choose schema cs x args bits ≡ None
-  none_chosen [] no = refl
-  none_chosen (c ∷ cs) no =
-      ap (λ o. first c o (choose schema cs x args bits)) (candidate_none c (no zero c refl))
-      ∙ none_chosen cs (λ i. no (suc i))
+  none_chosen [] out = refl
+  none_chosen (c ∷ cs) out =
+      ap (λ o. first c o (choose schema cs x args bits)) (candidate_none c (out zero c refl))
+      ∙ none_chosen cs (λ i. out (suc i))
 
   some_same : (c d : Declaration) → (◌≡◌ {A = Option Declaration} (Some c) (Some d)) → c ≡ d
   some_same c d e = cc

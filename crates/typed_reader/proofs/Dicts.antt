@@ -1,5 +1,6 @@
 -- A dictionary: its tree is walked, and then its values are read.
-use Rattle.std.proofs.Common.{◌≡◌, ℕ, zero, suc, Bool, true, false, List, [], ◌∷◌, ◌++◌, map, length, take, drop, slice_index, Option, Some, None, Result, Ok, Err, refl, ap, sym, ◌∙◌, subst}
+use Rattle.std.proofs.Common.{◌≡◌, ℕ, ◌≤◌, get_or, nat_le, arith, Bool, true, false, List, [], ◌∷◌, ◌++◌, map, length, take, drop, slice_index, Option, Some, None, Result, Ok, Err, refl, ap, sym, ◌∙◌, subst}
+use Rattle.std.proofs.lemmas.Bool.{le-leb}
 use Rattle.bit_slice.specs.Bits.{bit_number, taken}
 use Rattle.cell_nodes.specs.declared.slice.CellSlice.{CellSlice}
 use Rattle.cell_nodes.specs.declared.tree.Hidden.{Hidden}
@@ -23,9 +24,11 @@ use Rattle.spelling.specs.Places.{Place, Spot, stuck}
 use Rattle.spelling.specs.PlainReader.{◌>>=◌, Found, Reader, at_edge, by_bit, leaf_values, read_dict, walk_cell, walked, why_of}
 use Rattle.spelling.specs.Spells.{next_bit}
 use Rattle.spelling.specs.declared.Cause.TheVariants.{ShortBits, ShortRefs}
+use Rattle.spelling_laws.specs.StepLaws.{when_true}
 use Rattle.typed_value.specs.Values.{PlainPairs, a_pair, map_of, no_pairs}
 use Rattle.typed_reader.specs.Begun.{WalkStops}
-use Rattle.typed_reader.proofs.Steps.{stops_on, stops_same, stops_where}
+use Rattle.plan_reading.specs.StopLaws.{stops_at, stops_then}
+use Rattle.typed_reader.proofs.Steps.{stops_same}
 
 -- what is made of the values of leaves
 abbrev pub as_map : List (List ℕ × Hidden) → Slice → PlainPairs → Result Found Place
@@ -40,7 +43,8 @@ out_of_memory h e r is = let P : StopError → Type 0 = λ z. Stops h z r in sub
 
 fault_stops : {A : Type 0} (h : Spot) (q : List ℕ) (c : WalkCause) (e : StopError) (f : Fault) (k : A → Result Found Place)
     → c ≡ f.cause → WalkStops (errors.Stuck q c) e → Stops h e (walked h (Err f) >>= k)
-fault_stops h q c e f k same stop = stops_where h e (stuck h (why_of c)) (Err (stuck h (why_of f.cause))) (ap (λ z. Err (stuck h (why_of z))) (sym same)) (stop h)
+fault_stops h q c e f k same stop =
+    stops_at h e (stuck h (why_of c)) (Err (stuck h (why_of f.cause))) (stop h) (ap (λ z. Err (stuck h (why_of z))) (sym same))
 
 -- ---- the first edge, in place
 
@@ -65,9 +69,13 @@ pub dict_fork : (mode : Mode) (R : Reader) (h : Spot) (n : ℕ) (t : Closed) (q 
     → read_dict mode R h n t q s ≡ (leaf_values R h t q (map pair_of w.pairs.items) >>= as_map w.unknown.items (slice_of w.rest))
 dict_fork mode R h n t q s w gives out = fork_of R h t q w (first_edge mode n s) gives out
 
+pair_key : (last : List ℕ × CellSlice) (k : List ℕ) (c : Slice) (xs ys : List (List ℕ × Slice))
+    → pair_of last ∷ xs ≡ (k, c) ∷ ys → k ≡ last.0
+pair_key last k c xs ys e = sym (ap (λ z. (get_or z 0 (k, c)).0) e)
+
 only_key : (before : List (List ℕ × CellSlice)) (last : List ℕ × CellSlice) (k : List ℕ) (c : Slice)
     → map pair_of (before ++ last ∷ []) ≡ (k, c) ∷ [] → k ≡ last.0
-only_key [] last k c e = cc
+only_key [] last k c e = pair_key last k c [] [] e
 only_key (b ∷ []) last k c e = cc
 only_key (b ∷ d ∷ bs) last k c e = cc
 
@@ -97,19 +105,31 @@ leaf_there mode n s w gives inside none = leaf_in w (first_edge mode n s) gives 
 
 -- ---- a bit, and the cell of the first edge
 
+has_one : (b : ℕ) (bits : List ℕ) → taken 1 (b ∷ bits) ≡ Some (b ∷ [], bits)
+has_one b bits =
+    let some : 1 ≤ length (b ∷ bits) = omega arith in
+    when_true {A = Option (List ℕ × List ℕ)} (nat_le 1 (length (b ∷ bits))) (Some (take 1 (b ∷ bits), drop 1 (b ∷ bits))) None
+    (le-leb 1 (length (b ∷ bits)) some)
+
 pub next_none : (bits : List ℕ) → taken 1 bits ≡ None → next_bit bits ≡ None
 next_none [] e = refl
-next_none (b ∷ bits) e = cc
+next_none (b ∷ bits) e = let some = has_one b bits in cc
+
+same_taken : (first rest before after : List ℕ) → (◌≡◌ {A = Option (List ℕ × List ℕ)} (Some (before, after)) (Some (first, rest)))
+    → (before ≡ first) × (after ≡ rest)
+same_taken first rest before after e = (cc, cc)
+
+bit_next : (n : ℕ) (bits : List ℕ) (b : Bool) → bit_number b ≡ n → next_bit (n ∷ bits) ≡ Some (b, bits)
+bit_next n bits true e = let P : ℕ → Type 0 = λ z. next_bit (z ∷ bits) ≡ Some (true, bits) in subst P e refl
+bit_next n bits false e = let P : ℕ → Type 0 = λ z. next_bit (z ∷ bits) ≡ Some (false, bits) in subst P e refl
 
 pub next_is : (bits first rest : List ℕ) (b : Bool) → taken 1 bits ≡ Some (first, rest) → bit_number b ≡ slice_index first 0
     → next_bit bits ≡ Some (b, rest)
 next_is [] first rest b e is = cc
-next_is (zero ∷ bits) first rest true e is = cc
-next_is (zero ∷ bits) first rest false e is = cc
-next_is (suc zero ∷ bits) first rest true e is = cc
-next_is (suc zero ∷ bits) first rest false e is = cc
-next_is (suc (suc n) ∷ bits) first rest true e is = cc
-next_is (suc (suc n) ∷ bits) first rest false e is = cc
+next_is (n ∷ bits) first rest b e is =
+    let same = same_taken first rest (n ∷ []) bits (sym (has_one n bits) ∙ e) in
+    let at : slice_index (n ∷ []) 0 ≡ slice_index first 0 = ap (λ z. slice_index z 0) same.0 in
+    bit_next n bits b (is ∙ sym at) ∙ ap (λ z. Some (b, z)) same.1
 
 pub bit_short : (mode : Mode) (R : Reader) (h : Spot) (n : ℕ) (t : Closed) (q : ℕ) (bits : List ℕ) (refs : List Tree)
     → taken 1 bits ≡ None → by_bit mode R h n t q (next_bit bits) refs ≡ Err (stuck h ShortBits)

@@ -1,5 +1,6 @@
 -- A value takes a level and a part before its goal is looked at.
-use Rattle.std.proofs.Common.{◌≡◌, ℕ, zero, suc, ◌+◌, ◌-◌, ◌<◌, Bool, true, false, cond, nat_lt, Result, Ok, Err, refl, ap, sym, ◌∙◌, arith}
+use Rattle.std.proofs.Common.{◌≡◌, ℕ, zero, suc, ◌+◌, ◌-◌, ◌<◌, ◌≤◌, Bool, true, false, cond, nat_lt, Result, Ok, Err, refl, ap, sym, ◌∙◌, arith}
+use Rattle.std.proofs.lemmas.Bool.{le-ltb}
 use Rattle.cell_nodes.specs.declared.tree.Mode.{Mode}
 use Rattle.core_form.specs.Closed.{Closed}
 use Rattle.core_form.specs.Core.{CoreSchema}
@@ -8,7 +9,7 @@ use Rattle.spelling.specs.Goals.{Goal, Shape, at_type, in_table, shape_of, typed
 use Rattle.spelling.specs.Places.{Place, Spot, stuck}
 use Rattle.spelling.specs.PlainReader.{◌>>=◌, Found, Reader, read_goal, read_shape, read_type, reading, reported}
 use Rattle.spelling.specs.declared.Cause.{Cause}
-use Rattle.spelling.specs.declared.Cause.TheVariants.{Bulk, Width}
+use Rattle.spelling.specs.declared.Cause.TheVariants.{Bulk, Nesting, Width}
 use Rattle.spelling_laws.specs.StepLaws.{bind_on, reported_on, when_true, when_false}
 use Rattle.typed_value.specs.Values.{most_parts}
 use Rattle.typed_reader.specs.Begun.{starting}
@@ -63,3 +64,13 @@ pub reading_too_wide : (n : ℕ) (mode : Mode) (schema : CoreSchema) (h : Spot) 
 reading_too_wide n mode schema h t q k s begun wide =
     reading_refused n mode schema h (at_type t) q k s Width begun
     (when_false {A = Result Shape Cause} (in_table t) (Ok (typed t)) (Err Width) wide)
+
+-- ---- where none begins
+
+pub starting_none : (n q : ℕ) (h : Spot) → n ≡ 0 → starting n q h ≡ Err (stuck h Nesting)
+starting_none n q h e = ap (λ z. starting z q h) e
+
+pub starting_many : (n q : ℕ) (h : Spot) → 0 < n → most_parts ≤ q → starting n q h ≡ Err (stuck h Bulk)
+starting_many zero q h some many = absurd (omega arith)
+starting_many (suc n) q h some many =
+    when_false {A = Result ℕ Place} (nat_lt q most_parts) (Ok (q + 1)) (Err (stuck h Bulk)) (le-ltb q most_parts many)

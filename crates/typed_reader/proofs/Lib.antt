@@ -3,4 +3,5 @@ pub mod Dicts
 pub mod Levels
 pub mod Refs
 pub mod Roots
+pub mod Rows
 pub mod Steps

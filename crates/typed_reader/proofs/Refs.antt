@@ -22,7 +22,8 @@ use Rattle.spelling_laws.specs.StepLaws.{when_true, when_false}
 use Rattle.typed_value.specs.Values.{Plain, most_parts, raw, record_of, ref_to, unknown}
 use Rattle.typed_reader.specs.Begun.{is_whole, starting}
 use Rattle.typed_reader.proofs.Levels.{reading_begins, reading_shaped, within}
-use Rattle.typed_reader.proofs.Steps.{stops_on, stops_same}
+use Rattle.plan_reading.specs.StopLaws.{stops_then}
+use Rattle.typed_reader.proofs.Steps.{stops_same}
 
 -- ---- the whole of a slice
 
@@ -72,11 +73,11 @@ under_whole (closed.named x args) e = cc
 
 not_ordinary : (R : Reader) (h : Spot) (g : Goal) (q : ℕ) (k : Kind) (s : Slice) → (k ≡ kinds.Ordinary → ⊥)
     → ordinary_of R h g q k s ≡ Err (stuck h Exotic)
-not_ordinary R h g q kinds.Ordinary s no = absurd (no refl)
-not_ordinary R h g q kinds.Pruned s no = refl
-not_ordinary R h g q kinds.Library s no = refl
-not_ordinary R h g q kinds.Proof s no = refl
-not_ordinary R h g q kinds.Update s no = refl
+not_ordinary R h g q kinds.Ordinary s other = absurd (other refl)
+not_ordinary R h g q kinds.Pruned s other = refl
+not_ordinary R h g q kinds.Library s other = refl
+not_ordinary R h g q kinds.Proof s other = refl
+not_ordinary R h g q kinds.Update s other = refl
 
 begun_alone : (h : Spot) (c : Tree) (r : Result ℕ Place)
     → ((r >>= (λ k. Ok (let x : Found = (raw c, [], nothing) in x))) >>= (λ y. cond {A = Result Plain Place} (is_nothing y.2) (Ok y.0) (Err (stuck h Leftover))))
@@ -95,8 +96,8 @@ cell_as_is n mode schema h t q c e =
 
 pub cell_exotic : (R : Reader) (h : Spot) (t : Closed) (q : ℕ) (c : Tree) → is_whole t ≡ false
     → ((out-Tree c).kind ≡ kinds.Ordinary → ⊥) → cell_value R h (under_ref t) q c ≡ Err (stuck h Exotic)
-cell_exotic R h t q c e no =
-    ap (λ g. cell_value R h g q c) (under_typed t e) ∙ not_ordinary R h (at_type t) q (out-Tree c).kind (content c) no
+cell_exotic R h t q c e other =
+    ap (λ g. cell_value R h g q c) (under_typed t e) ∙ not_ordinary R h (at_type t) q (out-Tree c).kind (content c) other
 
 pub cell_held : (R : Reader) (h : Spot) (t : Closed) (q : ℕ) (c : Tree) → is_whole t ≡ false
     → (out-Tree c).kind ≡ kinds.Ordinary → cell_value R h (under_ref t) q c ≡ whole_of R h (at_type t) q (content c)
@@ -132,8 +133,8 @@ pub ref_stops : (mode : Mode) (R : Reader) (h : Spot) (g : Goal) (q : ℕ) (bits
     → Stops h e (read_ref mode R h g q bits refs)
 ref_stops mode R h g q bits refs more c e is seen stop =
     stops_same h e _ _ (ref_seen mode R h g q bits refs more c is seen)
-    (stops_on h e (cell_value R h g q c >>= (λ v. Ok (ref_to tt v))) (λ v. Ok (let x : Found = (v, [], record { bits = bits; refs = more }) in x))
-    (stops_on h e (cell_value R h g q c) (λ v. Ok (ref_to tt v)) stop))
+    (stops_then h e (cell_value R h g q c >>= (λ v. Ok (ref_to tt v))) (λ v. Ok (let x : Found = (v, [], record { bits = bits; refs = more }) in x))
+    (stops_then h e (cell_value R h g q c) (λ v. Ok (ref_to tt v)) stop))
 
 pub ref_read : (mode : Mode) (R : Reader) (h : Spot) (g : Goal) (q : ℕ) (bits : List ℕ) (refs more : List Tree) (c : Tree) (v : Plain)
     → refs ≡ c ∷ more → unseen mode c ≡ None → cell_value R h g q c ≡ Ok v
@@ -156,7 +157,7 @@ fields_begin n mode schema h is scope q k s begun =
 
 pub under_exotic : (R : Reader) (h : Spot) (is : Items) (scope : Scope) (q : ℕ) (c : Tree) → ((out-Tree c).kind ≡ kinds.Ordinary → ⊥)
     → cell_value R h (at_fields is scope) q c ≡ Err (stuck h Exotic)
-under_exotic R h is scope q c no = not_ordinary R h (at_fields is scope) q (out-Tree c).kind (content c) no
+under_exotic R h is scope q c other = not_ordinary R h (at_fields is scope) q (out-Tree c).kind (content c) other
 
 pub under_held : (R : Reader) (h : Spot) (is : Items) (scope : Scope) (q : ℕ) (c : Tree) → (out-Tree c).kind ≡ kinds.Ordinary
     → cell_value R h (at_fields is scope) q c ≡ whole_of R h (at_fields is scope) q (content c)

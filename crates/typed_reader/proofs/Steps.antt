@@ -2,24 +2,13 @@
 use Rattle.std.proofs.Common.{◌≡◌, ℕ, Result, Ok, Err, refl, ap, sym, ◌∙◌, subst}
 use Rattle.spelling.specs.Places.{Place, Spot}
 use Rattle.spelling.specs.PlainReader.{◌>>=◌}
-use Rattle.plan_reading.specs.Stops.{Gives, Stops, StopsAt}
+use Rattle.plan_reading.specs.Stops.{Gives, Stops}
 use Rattle.plan_reading.specs.declared.stop.StopError.{StopError}
 use Rattle.plan_reading.specs.declared.stop.StopError.TheVariants.{Stuck, NoMemory}
-
-pub stops_on : {A B : Type 0} (h : Spot) (e : StopError) (r : Result A Place) (f : A → Result B Place)
-    → Stops h e r → Stops h e (r >>= f)
-stops_on h (Stuck s) r f stop = ap (λ z. z >>= f) stop
-stops_on h NoMemory r f stop = tt
 
 pub stops_same : {A : Type 0} (h : Spot) (e : StopError) (a b : Result A Place) → a ≡ b → Stops h e b → Stops h e a
 stops_same h (Stuck s) a b same stop = same ∙ stop
 stops_same h NoMemory a b same stop = tt
-
--- a stop at a place, and a result that is stuck there
-pub stops_where : {A : Type 0} (h : Spot) (e : StopError) (p : Place) (a : Result A Place) → a ≡ Err p
-    → StopsAt h e p → Stops h e a
-stops_where h (Stuck s) p a same stop = same ∙ ap Err stop
-stops_where h NoMemory p a same stop = tt
 
 pub gives_same : {X Y : Type 0} (h : Spot) (view : X → Y) (result : Result X StopError) (a b : Result Y Place)
     → a ≡ b → Gives h view result b → Gives h view result a

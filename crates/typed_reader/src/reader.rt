@@ -417,7 +417,7 @@ fn read_leaves(
 ) -> Result<Items<(BitString, Value)>, StopError>
     ensures gives { (h : Spot) → Gives h (λ ps. pairs_of (map pair_of ps)) result
         (plain.leaf_values (reader_of levels mode plan.now.0) h
-        (type_view inner.now) begun.old (map leaf_of leaves.items)) }
+        (type_view inner.now) begun.old (map leaf_of leaves.entry.items)) }
     ensures counts { IfOk result (λ ps. begun.new ≡ begun.old + forms.parts_by (pairs_of (map pair_of ps))) }
 {
     let mut pairs = Items::new(alloc);
