@@ -1,6 +1,7 @@
 -- A record's operations one after the other.
-use Rattle.std.proofs.Common.{◌≡◌, ℕ, ◌+◌, List, [], ◌∷◌, ◌++◌, map, Option, Some, None, Result, Ok, Err, IfOk, refl, ap, sym, ◌∙◌, subst, arith, drop, length}
+use Rattle.std.proofs.Common.{◌≡◌, ℕ, suc, ◌+◌, ◌<◌, ◌≤◌, List, [], ◌∷◌, ◌++◌, map, Option, Some, None, Result, Ok, Err, refl, ap, sym, ◌∙◌, subst, arith, drop, drop-cons, get_or, length}
 use Rattle.std.specs.Prelude.{option_to_list, option_map}
+use Rattle.std.proofs.lemmas.List.{drop_all}
 use Rattle.core_form.specs.Core.{Condition, Item, Ty, Word, check, solve, field, field_names}
 use Rattle.core_form.specs.Scope.{Scope, value_in}
 use Rattle.flat_form.specs.Stands.{bit_of, expr_at, items_in, name_at, slot_of, type_at}
@@ -263,3 +264,24 @@ pub all_named : (R : Reader) (f : Flat) (ops : List PlanOp) (start : Scope) (fro
     → SoFar R f ops start from whole ps c [] scope q s
     → names_in ps ≡ field_names (items_in f (type_at f) None ops)
 all_named R f ops start from whole ps c scope q s b = sym (b.names ∙ nothing_after (names_in ps))
+
+-- ---- at a number of an operation
+
+pub at_op : (R : Reader) (f : Flat) (ops : List PlanOp) (start : Scope) (from : ℕ) (whole : Slice)
+    (ps : List (List ℕ × Plain)) (c : Option (ℕ × ℕ)) (op : PlanOp) (k : ℕ) (scope : Scope) (q : ℕ) (s : Slice)
+    → k < length ops → op ≡ get_or ops k op
+    → SoFar R f ops start from whole ps c (drop k ops) scope q s
+    → SoFar R f ops start from whole ps c (op ∷ drop (k + 1) ops) scope q s
+at_op R f ops start from whole ps c op k scope q s within at b =
+    let next : suc k ≡ k + 1 = omega arith in
+    let T : List PlanOp → Type 0 = λ rest. SoFar R f ops start from whole ps c rest scope q s in
+    subst T (drop-cons ops k op within ∙ ap (λ z. z ∷ drop (suc k) ops) (sym at) ∙ ap (λ n. op ∷ drop n ops) next) b
+
+pub at_end : (R : Reader) (f : Flat) (ops : List PlanOp) (start : Scope) (from : ℕ) (whole : Slice)
+    (ps : List (List ℕ × Plain)) (c : Option (ℕ × ℕ)) (k : ℕ) (scope : Scope) (q : ℕ) (s : Slice)
+    → length ops ≤ k
+    → SoFar R f ops start from whole ps c (drop k ops) scope q s
+    → SoFar R f ops start from whole ps c [] scope q s
+at_end R f ops start from whole ps c k scope q s after b =
+    let T : List PlanOp → Type 0 = λ rest. SoFar R f ops start from whole ps c rest scope q s in
+    subst T (drop_all k ops after) b

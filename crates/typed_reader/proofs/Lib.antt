@@ -1,6 +1,8 @@
 pub mod Choices
+pub mod Declared
 pub mod Dicts
 pub mod Fields
+pub mod Leaves
 pub mod Levels
 pub mod Refs
 pub mod Repeats

@@ -311,7 +311,7 @@ fn read_repeat<'a>(
 {
     let mut items = Items::new(alloc);
     let mut left = s;
-    for _ in 0..count {
+    for _item in 0..count {
         let before = size(&left);
         let found = read_closed(alloc, plan, mode, levels, begun, inner, left)?;
         if !took(before, &found.rest) {

@@ -1,9 +1,11 @@
-use Rattle.std.proofs.Common.{◌+◌, ◌*◌, drop, map}
+use Rattle.std.proofs.Common.{◌+◌, ◌-◌, ◌*◌, drop, map}
 use Rattle.hashmap_tree.specs.Adds.{slice_of}
 use Rattle.plan_closing.specs.Counted.{scope_of}
-use Rattle.typed_value.specs.View.{pair_of}
+use Rattle.closed_type.specs.View.{closed_type as type_view}
+use Rattle.typed_value.specs.View.{pair_of, value}
 use Rattle.typed_reader.specs.View.{reader_of}
 use Rattle.typed_reader.proofs.Fields.{SoFar}
+use Rattle.typed_reader.proofs.Repeats.{Repeated}
 use Rattle.typed_reader.proofs.reader.+read.Given as goal
 
 abbrev pub decreases-read_closed : goal.decreases-read_closed
@@ -55,3 +57,11 @@ abbrev pub invariant-read_fields-loop-op : goal.invariant-read_fields-loop-op
 invariant-read_fields-loop-op l =
     SoFar (reader_of l.levels l.mode l.plan.0) l.plan.1 l.ops (scope_of l.fn.env l.types) l.fn.begun (slice_of l.s)
     (map pair_of l.fields) l.condition (drop l.op-index l.ops) (scope_of l.env l.types) l.begun (slice_of l.left)
+
+abbrev pub invariant-read_repeat-loop-item : goal.invariant-read_repeat-loop-item
+invariant-read_repeat-loop-item l =
+    Repeated (reader_of l.levels l.mode l.plan.0) (type_view l.inner) l.count l.fn.begun (slice_of l.s)
+    (map value l.items) (l.count - l._item) l.begun (slice_of l.left)
+
+abbrev pub invariant-read_leaves-loop-key : goal.invariant-read_leaves-loop-key
+invariant-read_leaves-loop-key l = ?
