@@ -13,7 +13,8 @@ onto_nodes (type t) rest = refl
 pub more_more : (count m n new : ℕ) → new ≡ more count m → more new n ≡ more count (m + n)
 more_more count m n new e = omega arith
 
-pub arg_turn : (all : List ClosedArg) (i : ℕ) (here : ClosedArg) (count new total : ℕ) → i < length all → here ≡ get_or all i here
+pub arg_turn : (all : List ClosedArg) (i : ℕ) (here : ClosedArg) (count new total : ℕ) → i < length all
+    → here ≡ get_or all i here
     → new ≡ more count (an_arg_nodes (closed_arg here)) → more count (arg_nodes (closed_args (drop i all))) ≡ total
     → more new (arg_nodes (closed_args (drop (i + 1) all))) ≡ total
 arg_turn all i here count new total lt is one so_far =

@@ -31,24 +31,20 @@ fn copy_type(alloc: Global, from: &ClosedType) -> Result<ClosedType, NoMemory>
         ClosedType::Uint(n) => Ok(ClosedType::Uint(*n)),
         ClosedType::Int(n) => Ok(ClosedType::Int(*n)),
         ClosedType::BitStr(n) => Ok(ClosedType::BitStr(*n)),
-        ClosedType::Ref(inner) => {
-            let inner = copy_type(alloc, inner.get())?;
-            Ok(ClosedType::Ref(Boxed::new(alloc, inner)?))
-        }
-        ClosedType::Repeat(n, inner) => {
-            let inner = copy_type(alloc, inner.get())?;
-            Ok(ClosedType::Repeat(*n, Boxed::new(alloc, inner)?))
-        }
+        ClosedType::Ref(inner) => Ok(ClosedType::Ref(copy_boxed(alloc, inner)?)),
+        ClosedType::Repeat(n, inner) => Ok(ClosedType::Repeat(*n, copy_boxed(alloc, inner)?)),
         ClosedType::Whole => Ok(ClosedType::Whole),
-        ClosedType::Dict(n, inner) => {
-            let inner = copy_type(alloc, inner.get())?;
-            Ok(ClosedType::Dict(*n, Boxed::new(alloc, inner)?))
-        }
-        ClosedType::DictE(n, inner) => {
-            let inner = copy_type(alloc, inner.get())?;
-            Ok(ClosedType::DictE(*n, Boxed::new(alloc, inner)?))
-        }
+        ClosedType::Dict(n, inner) => Ok(ClosedType::Dict(*n, copy_boxed(alloc, inner)?)),
+        ClosedType::DictE(n, inner) => Ok(ClosedType::DictE(*n, copy_boxed(alloc, inner)?)),
     }
+}
+
+#[cycle(copy)]
+fn copy_boxed(alloc: Global, from: &Boxed<ClosedType>) -> Result<Boxed<ClosedType>, NoMemory>
+    ensures { IfOk result (λ t. t ≡ from.now) }
+{
+    let copy = copy_type(alloc, from.get())?;
+    Ok(Boxed::new(alloc, copy)?)
 }
 
 #[cycle(copy)]

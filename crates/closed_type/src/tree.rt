@@ -4,8 +4,8 @@ use sqlite_items::{Boxed, Items};
 
 /// A type without variables: a form that spells something, with its numbers.
 ///
-/// One that a schema closes has at most 4,096 nodes, so its levels are at most as many, and copying, counting and dropping
-/// go down no further.
+/// One that a schema closes has at most 4,096 nodes, so its levels are at most as many, and copying, counting and
+/// dropping go down no further.
 #[cycle(closed)]
 #[derive(Drop)]
 pub enum ClosedType {

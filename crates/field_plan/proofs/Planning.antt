@@ -1,10 +1,9 @@
 -- What was compiled stands for the core forms of the schema.
 use Rattle.std.proofs.Common.{◌≡◌, ℕ, zero, suc, List, [], ◌∷◌, ◌++◌, Some, refl, ap, subst, slice_get, length}
 use Rattle.tlb_syntax.specs.Tree.{ConstructorView, SchemaView}
-use Rattle.core_form.specs.Core.{Constructor, Declaration}
-use Rattle.schema_core.specs.CoreOf.{core_of}
+use Rattle.core_form.specs.Core.{Declaration}
 use Rattle.schema_core.specs.Cores.{cores_after, declaration_of}
-use Rattle.schema_leads.specs.Tags.{cores, tag_of}
+use Rattle.schema_leads.specs.Tags.{tag_of}
 use Rattle.flat_form.specs.declared.lists.ConstructorPlan.{ConstructorPlan}
 use Rattle.flat_form.specs.declared.lists.Flat.{Flat}
 use Rattle.flat_form.specs.Entries.{StandsFor}

@@ -1,3 +1,6 @@
+pub mod Choosing
+pub mod ChoosingLaws
+pub mod Names
 pub mod Planned
 pub mod Choosing
 pub mod Names

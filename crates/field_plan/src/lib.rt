@@ -7,8 +7,8 @@ mod place;
 mod plan;
 
 pub use closed_type::{ClosedArg, ClosedType};
-pub use flat_form::{Entry, NO_BIT, NO_SLOT, PlanArg, PlanInput, PlanOp, TypeNode};
 pub use field_path::FieldPath;
+pub use flat_form::{Entry, NO_BIT, NO_SLOT, PlanArg, PlanInput, PlanOp, TypeNode};
 pub use place::{Holder, Place};
 pub use plan::{Plan, compile};
 pub use plan_closing::CloseError;

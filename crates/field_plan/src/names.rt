@@ -1,6 +1,7 @@
 //! What constructors are called by.
 ghost use Rattle.std.specs.Prelude.{◌≡◌, ◌<◌, ◌≤◌, IfOk, length, map, option_map, slice_get};
 ghost use Rattle.tlb_syntax.specs.View.{constructor as constructor_view};
+ghost use Rattle.core_form.specs.Core.{Declaration};
 ghost use Rattle.schema_core.specs.Cores.{shown_name as name_shown};
 ghost use Rattle.schema_leads.specs.Tags.{cores};
 ghost use Rattle.type_index.specs.Index.{IsTypeIndex};
@@ -36,7 +37,10 @@ fn shown_name(alloc: Global, name: Option<&Name>, number: u32) -> Result<Name, N
 // The place of a constructor in its type, from 1.
 fn number_of(index: &TypeIndex, constructors: &[Constructor], place: u32) -> u32
     requires index { IsTypeIndex index.now (map constructor_view constructors.now) }
+    requires few { length constructors.now ≤ 4096 }
     requires there { place < length constructors.now }
+    ensures { (d : Declaration) → slice_get (cores (map constructor_view constructors.now)) place ≡ Some d
+        → result ≡ d.number }
 {
     let Some(entry) = index.find(constructors[place as usize].result.text()) else {
         unreachable!()

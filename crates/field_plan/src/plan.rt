@@ -1,23 +1,31 @@
 //! Plans.
-ghost use Rattle.std.specs.Prelude.{◌≡◌, ◌<◌, IfOk, Some, length, option_map, slice_get};
-ghost use Rattle.tlb_syntax.specs.View.{schema as schema_view};
+ghost use Rattle.std.specs.Prelude.{◌≡◌, ◌<◌, IfOk, IsTrue, Some, is_some, length, map, option_map};
+ghost use Rattle.std.specs.Prelude.{slice_get};
 ghost use Rattle.accepted_schema.specs.Accepted.{IsAccepted};
 ghost use Rattle.tlb_kinds.specs.Refusals.{kept_of};
+ghost use Rattle.tlb_syntax.specs.View.{schema as schema_view};
 ghost use Rattle.core_form.specs.Closing.{close};
 ghost use Rattle.core_form.specs.Core.{Declaration};
 ghost use Rattle.schema_leads.specs.Leads.{leads as leads_of};
 ghost use Rattle.schema_leads.specs.Tags.{cores};
 ghost use Rattle.type_index.specs.Index.{IsTypeIndex, places_of};
-ghost use Rattle.closed_type.specs.View.{closed_type as type_view};
+ghost use Rattle.core_form.specs.Fit.{fit};
+ghost use Rattle.closed_type.specs.View.{closed_arg, closed_args, closed_type as type_view};
+ghost use Rattle.flat_form.specs.Entries.{StandsFor};
 ghost use Rattle.flat_form.specs.Stands.{type_at};
 ghost use Rattle.flat_form.specs.declared.lists.ConstructorPlan.{ConstructorPlan as PlanOfConstructor};
 ghost use Rattle.plan_closing.specs.Counted.{scope_of};
 ghost use Rattle.plan_closing.specs.Gives.{Closes};
+ghost use Rattle.tag_ambiguity.specs.Judged.{EntersOne};
+ghost use Rattle.field_plan.specs.Choosing.{AreShownApart, AreSmall};
+ghost use Rattle.field_plan.specs.Names.{name_of};
 ghost use Rattle.field_plan.specs.Planned.{Planned};
 
+use crate::choosing::fits;
 use crate::names::{ConstructorName, names};
+use accepted_schema::laws::one_constructor;
 use bit_slice::{BitSlice, BitString, Name};
-use closed_type::ClosedType;
+use closed_type::{ClosedArg, ClosedType};
 use flat_form::{ConstructorPlan, Entry, Flat, PlanArg, PlanInput, PlanOp, TypeNode};
 use nat_solver::{Env, NatExpr};
 use plan_closing::CloseError;
@@ -55,17 +63,19 @@ impl Model for Plan {
     ghost coded = { Prim.hlevel (codes, schemas.the_row.coded, flats.the_row.coded, plans.the_row.coded) };
 
     ghost use Rattle.tlb_syntax.specs.View.{schema as schema_view};
-    ghost use Rattle.field_plan.specs.Planned.{Planned};
+    ghost use Rattle.field_plan.specs.Planned.{IsPlan};
 
     ghost view = { λ p. (p.accepted, p.compiled.flat, p.compiled.constructors) };
 
-    ghost invariant = { λ p. Planned (schema_view p.accepted) p.compiled.flat p.compiled.constructors };
+    ghost invariant = { λ p.
+        IsPlan (schema_view p.accepted) p.compiled.flat p.compiled.constructors p.index p.names };
 }
 
 /// The plan of a schema, which is let go where memory ends.
 pub fn compile(alloc: Global, accepted: Accepted) -> Result<Plan, NoMemory>
     ensures { IfOk result (λ plan. plan.0 ≡ accepted) }
 {
+    one_constructor();
     let constructors = accepted.schema().constructors.as_slice();
     let compiled = compile_constructors(alloc, constructors)?;
     let index = TypeIndex::of(alloc, constructors)?;
@@ -105,7 +115,10 @@ impl Plan {
 
     // The constructors of a type, in order.
     pub(crate) fn of_type(&self, type_name: &Name) -> &[u32]
-        ensures { result.now ≡ places_of (schema_view self.now.0) type_name.now }
+        ensures places { result.now ≡ places_of (schema_view self.now.0) type_name.now }
+        ensures one_constructor { EntersOne (schema_view self.now.0) }
+        ensures apart { AreShownApart (cores (schema_view self.now.0)) }
+        ensures count { length self.now.2 ≡ length (cores (schema_view self.now.0)) }
     {
         match self.index.find(type_name.text()) {
             Some(entry) => entry.constructors.as_slice(),
@@ -115,6 +128,7 @@ impl Plan {
 
     fn name(&self, c: u32) -> &ConstructorName
         requires { c < length self.now.2 }
+        ensures { option_map name_of (slice_get (cores (schema_view self.now.0)) c) ≡ Some result.now }
     {
         match self.names.get(c as usize) {
             Some(name) => name,
@@ -142,7 +156,9 @@ impl Plan {
 
     fn constructor(&self, c: u32) -> &ConstructorPlan
         requires { c < length self.now.2 }
-        ensures { slice_get self.now.2 c ≡ Some result.now }
+        ensures there { slice_get self.now.2 c ≡ Some result.now }
+        ensures stands { (d : Declaration) → slice_get (cores (schema_view self.now.0)) c ≡ Some d
+            → StandsFor self.now.1 result.now d.core }
     {
         match self.compiled.constructors.get(c as usize) {
             Some(plan) => plan,
@@ -212,6 +228,16 @@ impl Plan {
         ensures { option_map (λ (p : PlanOfConstructor). p.inputs) (slice_get self.now.2 c) ≡ Some result.now }
     {
         self.constructor(c).inputs.as_slice()
+    }
+
+    // Whether a constructor fits the arguments.
+    pub(crate) fn fits(&self, c: u32, args: &[ClosedArg]) -> bool
+        requires { c < length self.now.2 }
+        ensures value { (d : Declaration) → slice_get (cores (schema_view self.now.0)) c ≡ Some d
+            → result ≡ is_some (fit d.core (closed_args args.now)) }
+        ensures small { IsTrue result → AreSmall (map closed_arg args.now) }
+    {
+        fits(self.constructor(c).inputs.as_slice(), args)
     }
 
     /// The outputs of a constructor's result, in order, as numbers of expressions.

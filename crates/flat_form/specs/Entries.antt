@@ -4,7 +4,7 @@ use Rattle.core_form.specs.Core.{Constructor}
 use Rattle.flat_form.specs.declared.lists.ConstructorPlan.{ConstructorPlan}
 use Rattle.flat_form.specs.declared.lists.Flat.{Flat}
 use Rattle.flat_form.specs.Stands.{expr_at, input_of, range, record_at}
-use Rattle.flat_form.specs.Sound.{IsPlainNumber, IsRange, OpsAreSound}
+use Rattle.flat_form.specs.Sound.{ConditionsGovern, IsPlainNumber, IsRange, OpsAreSound}
 
 -- its operations, inputs and outputs stand for those of this core form
 pub record StandsFor (f : Flat) (p : ConstructorPlan) (c : Constructor) : Type 0 where
@@ -15,3 +15,4 @@ pub record StandsFor (f : Flat) (p : ConstructorPlan) (c : Constructor) : Type 0
   pub inputs : map input_of p.inputs ≡ c.inputs
   pub plain : All (IsPlainNumber f) p.outputs
   pub outputs : map (expr_at f) p.outputs ≡ c.outputs
+  pub conditions : ConditionsGovern (range f.ops p.entry.first p.entry.count)

@@ -19,7 +19,7 @@ use Rattle.flat_form.specs.declared.lists.PlanArg.TheVariants.{Nat, Ty as TypeAr
 use Rattle.flat_form.specs.Stands.{expr_at, expr_or, name_at, name_or, range, arg_onto, args_in, items_in, node_type}
 use Rattle.flat_form.specs.Stands.{type_at, bit_of}
 use Rattle.flat_form.specs.Sound.{IsFlat, IsPlainNumber, IsEquation, NodeIsSound, ArgIsSound, ArgsAreSound}
-use Rattle.flat_form.specs.Sound.{OpsAreSound, OpIsSound}
+use Rattle.flat_form.specs.Sound.{ConditionsGovern, OpsAreSound, OpIsSound}
 use Rattle.flat_form.specs.Growth.{Begins, Grows, Adds}
 use Rattle.flat_form.specs.StandingLaws.{Agree, args_agree, items_agree, node_agrees, node_is}
 
@@ -36,9 +36,11 @@ pub get_begins : {A : Type 0} (xs ys : List A) (k : ℕ) → Begins xs ys → k 
 get_begins xs ys k b lt = ap (λ z. slice_get z k) b.is ∙ get_append xs b.more k lt
 
 pub length_begins : {A : Type 0} (xs ys : List A) → Begins xs ys → length xs ≤ length ys
-length_begins xs ys b = let e : length ys ≡ length xs + length b.more = ap length b.is ∙ length-append xs b.more in omega arith
+length_begins xs ys b =
+    let e : length ys ≡ length xs + length b.more = ap length b.is ∙ length-append xs b.more in omega arith
 
-pub range_begins : {A : Type 0} (xs ys : List A) (first count : ℕ) → Begins xs ys → first + count ≤ length xs → range ys first count ≡ range xs first count
+pub range_begins : {A : Type 0} (xs ys : List A) (first count : ℕ) → Begins xs ys → first + count ≤ length xs
+    → range ys first count ≡ range xs first count
 range_begins xs ys first count b within =
     let whole : first ≤ length xs = omega arith in
     let left : count ≤ length (drop first xs) = omega (arith, length-drop first xs) in
@@ -55,7 +57,8 @@ name_grows f g x grows lt = ap name_or (get_begins f.names g.names x grows.names
 pub number_grows : (f g : Flat) (e : ℕ) → Grows f g → IsPlainNumber f e → IsPlainNumber g e
 number_grows f g e grows plain =
     let longer : length f.exprs ≤ length g.exprs = length_begins f.exprs g.exprs grows.exprs in
-    record { there = omega (arith, plain.there); plain = ap unknowns (expr_grows f g e grows plain.there) ∙ plain.plain }
+    record
+    { there = omega (arith, plain.there); plain = ap unknowns (expr_grows f g e grows plain.there) ∙ plain.plain }
 
 pub equation_grows : (f g : Flat) (v a b : ℕ) → Grows f g → IsEquation f v a b → IsEquation g v a b
 equation_grows f g v a b grows h =
@@ -111,24 +114,33 @@ node_sound f g top (Named x first count) grows h =
     let longer : length f.names ≤ length g.names = length_begins f.names g.names grows.names in
     let more : length f.args ≤ length g.args = length_begins f.args g.args grows.args in
     let P : List PlanArg → Type 0 = ArgsAreSound g top in
-    (omega (arith, h.0), omega (arith, h.1), subst P (sym (range_begins f.args g.args first count grows.args h.1)) (args_sound f g top (range f.args first count) grows h.2))
+    let same : range f.args first count ≡ range g.args first count =
+    sym (range_begins f.args g.args first count grows.args h.1) in
+    (omega (arith, h.0), omega (arith, h.1), subst P same (args_sound f g top (range f.args first count) grows h.2))
 node_sound f g top (Group first count) grows h =
     let more : length f.ops ≤ length g.ops = length_begins f.ops g.ops grows.ops in
+    let same : range f.ops first count ≡ range g.ops first count =
+    sym (range_begins f.ops g.ops first count grows.ops h.0) in
     let P : List PlanOp → Type 0 = OpsAreSound g top in
-    (omega (arith, h.0), subst P (sym (range_begins f.ops g.ops first count grows.ops h.0)) (ops_sound f g top (range f.ops first count) grows h.1))
+    let Q : List PlanOp → Type 0 = ConditionsGovern in
+    (omega (arith, h.0), subst P same (ops_sound f g top (range f.ops first count) grows h.1), subst Q same h.2)
 
 -- ---- what is stood for
 
-arg_stays : (f g : Flat) (at : ℕ → Ty) (top : ℕ) (a : PlanArg) (rest : Args) → Grows f g → ArgIsSound f top a → arg_onto g at a rest ≡ arg_onto f at a rest
+arg_stays : (f g : Flat) (at : ℕ → Ty) (top : ℕ) (a : PlanArg) (rest : Args) → Grows f g → ArgIsSound f top a
+    → arg_onto g at a rest ≡ arg_onto f at a rest
 arg_stays f g at top (Nat e) rest grows h = ap (λ z. core.nat_arg z rest) (expr_grows f g e grows h.there)
 arg_stays f g at top (TypeArg t) rest grows h = refl
 arg_stays f g at top (Out v) rest grows h = refl
 
-pub args_stay : (f g : Flat) (at : ℕ → Ty) (top : ℕ) (xs : List PlanArg) → Grows f g → ArgsAreSound f top xs → args_in g at xs ≡ args_in f at xs
+pub args_stay : (f g : Flat) (at : ℕ → Ty) (top : ℕ) (xs : List PlanArg) → Grows f g → ArgsAreSound f top xs
+    → args_in g at xs ≡ args_in f at xs
 args_stay f g at top [] grows h = refl
-args_stay f g at top (a ∷ xs) grows h = ap (arg_onto g at a) (args_stay f g at top xs grows h.1) ∙ arg_stays f g at top a (args_in f at xs) grows h.0
+args_stay f g at top (a ∷ xs) grows h =
+    ap (arg_onto g at a) (args_stay f g at top xs grows h.1) ∙ arg_stays f g at top a (args_in f at xs) grows h.0
 
-pub items_stay : (f g : Flat) (at : ℕ → Ty) (top : ℕ) (c d : Option Condition) (os : List PlanOp) → Grows f g → OpsAreSound f top os → c ≡ d → items_in g at c os ≡ items_in f at d os
+pub items_stay : (f g : Flat) (at : ℕ → Ty) (top : ℕ) (c d : Option Condition) (os : List PlanOp) → Grows f g
+    → OpsAreSound f top os → c ≡ d → items_in g at c os ≡ items_in f at d os
 items_stay f g at top c d [] grows h e = refl
 items_stay f g at top c d (Check a op b i ∷ os) grows h e =
     let left : expr_at g a ≡ expr_at f a = expr_grows f g a grows h.0.0.there in
@@ -141,13 +153,16 @@ items_stay f g at top c d (Solve v a b i ∷ os) grows h e =
     let rest : items_in g at None os ≡ items_in f at None os = items_stay f g at top None None os grows h.1 refl in
     cc
 items_stay f g at top c d (When n k ∷ os) grows h e =
-    items_stay f g at top _ _ os grows h.1 (ap (λ z. Some (let r : Condition = record { number = z; bit = bit_of k } in r)) (expr_grows f g n grows h.0.0.there))
+    items_stay f g at top _ _ os grows h.1
+    (ap (λ z. Some (let r : Condition = record { number = z; bit = bit_of k } in r))
+    (expr_grows f g n grows h.0.0.there))
 items_stay f g at top c d (Field x t v ∷ os) grows h e =
     let named : name_at g x ≡ name_at f x = name_grows f g x grows h.0.0 in
     let rest : items_in g at None os ≡ items_in f at None os = items_stay f g at top None None os grows h.1 refl in
     cc
 
-pub node_stays : (f g : Flat) (at : ℕ → Ty) (top : ℕ) (n : TypeNode) → Grows f g → NodeIsSound f top n → node_type g at n ≡ node_type f at n
+pub node_stays : (f g : Flat) (at : ℕ → Ty) (top : ℕ) (n : TypeNode) → Grows f g → NodeIsSound f top n
+    → node_type g at n ≡ node_type f at n
 node_stays f g at top Nat32 grows h = refl
 node_stays f g at top (Bits e) grows h = ap core.bits (expr_grows f g e grows h.there)
 node_stays f g at top (Below e) grows h = ap core.below (expr_grows f g e grows h.there)
@@ -174,14 +189,16 @@ at_or [] k lt = absurd (omega arith)
 at_or (x ∷ xs) zero lt = (x, refl)
 at_or (x ∷ xs) (suc k) lt = at_or xs k (omega arith)
 
-one_stays : (f g : Flat) (t : ℕ) (n : TypeNode) → IsFlat f → Adds f g → slice_get f.types t ≡ Some n → t < length f.types → Agree (type_at g) (type_at f) t → type_at g t ≡ type_at f t
+one_stays : (f g : Flat) (t : ℕ) (n : TypeNode) → IsFlat f → Adds f g → slice_get f.types t ≡ Some n
+    → t < length f.types → Agree (type_at g) (type_at f) t → type_at g t ≡ type_at f t
 one_stays f g t n flat adds e there same =
     node_is g t n (get_begins f.types g.types t adds.grows.types there ∙ e) adds.flat
     ∙ node_stays f g (type_at g) t n adds.grows (flat.nodes t n e)
     ∙ node_agrees f (type_at g) (type_at f) t n same (flat.nodes t n e)
     ∙ sym (node_is f t n e flat)
 
-stays_within : (f g : Flat) (depth : ℕ) → IsFlat f → Adds f g → (t : ℕ) → t < depth → t < length f.types → type_at g t ≡ type_at f t
+stays_within : (f g : Flat) (depth : ℕ) → IsFlat f → Adds f g → (t : ℕ) → t < depth → t < length f.types
+    → type_at g t ≡ type_at f t
 stays_within f g zero flat adds t below there = absurd (omega arith)
 stays_within f g (suc depth) flat adds t below there =
     let n = at_or f.types t there in
@@ -200,10 +217,20 @@ begins_same xs = record { more = []; is = same xs }
     same (y ∷ ys) = ap (λ z. y ∷ z) (same ys)
 
 pub begins_on : {A : Type 0} (xs ys zs : List A) → Begins xs ys → Begins ys zs → Begins xs zs
-begins_on xs ys zs b c = record { more = b.more ++ c.more; is = c.is ∙ ap (λ z. z ++ c.more) b.is ∙ append_assoc xs b.more c.more }
+begins_on xs ys zs b c =
+    record { more = b.more ++ c.more; is = c.is ∙ ap (λ z. z ++ c.more) b.is ∙ append_assoc xs b.more c.more }
 
 pub adds_same : (f : Flat) → IsFlat f → Adds f f
-adds_same f flat = record { flat = flat; grows = record { ops = begins_same f.ops; types = begins_same f.types; args = begins_same f.args; exprs = begins_same f.exprs; names = begins_same f.names } }
+adds_same f flat = record {
+  flat = flat;
+  grows = record {
+    ops = begins_same f.ops;
+    types = begins_same f.types;
+    args = begins_same f.args;
+    exprs = begins_same f.exprs;
+    names = begins_same f.names;
+  };
+}
 
 pub adds_on : (f g h : Flat) → Adds f g → Adds g h → Adds f h
 adds_on f g h a b = record {
@@ -225,48 +252,138 @@ begins_more xs ys zs e = record { more = zs; is = e }
 pub begins_equal : {A : Type 0} (xs ys : List A) → ys ≡ xs → Begins xs ys
 begins_equal xs ys e = record { more = (begins_same xs).more; is = e ∙ (begins_same xs).is }
 
--- lists that grew with the same nodes
-pub adds_others : (f g : Flat) → IsFlat f → Grows f g → g.types ≡ f.types → Adds f g
-adds_others f g flat grows same = record {
-  flat = record { nodes = λ t n e. node_sound f g t n grows (flat.nodes t n (ap (λ z. slice_get z t) (sym same) ∙ e)) };
-  grows = grows;
-}
+nodes_stay : (f g : Flat) → IsFlat f → Grows f g → g.types ≡ f.types
+    → (t : ℕ) (n : TypeNode) → slice_get g.types t ≡ Some n → NodeIsSound g t n
+nodes_stay f g flat grows same t n e =
+    node_sound f g t n grows (flat.nodes t n (ap (λ z. slice_get z t) (sym same) ∙ e))
+
+-- lists that grew with the same nodes and operations
+pub adds_others : (f g : Flat) → IsFlat f → Grows f g → g.types ≡ f.types → g.ops ≡ f.ops → Adds f g
+adds_others f g flat grows same ops =
+    let P : List TypeNode → Type 0 = λ z. (p x t v : ℕ) → slice_get f.ops p ≡ Some (Field x t v) → t < length z in
+    let there = subst P (sym same) flat.there in
+    record {
+      flat = record {
+        nodes = nodes_stay f g flat grows same;
+        there = λ p x t v e. there p x t v (ap (λ z. slice_get z p) (sym ops) ∙ e);
+        before = λ p x t v u first count e le n.
+            flat.before p x t v u first count (ap (λ z. slice_get z p) (sym ops) ∙ e) le
+            (ap (λ z. slice_get z u) (sym same) ∙ n);
+      };
+      grows = grows;
+    }
+
+-- ---- operations more
+
+-- an operation is one of the first, or stands after them
+op_at : (xs ys : List PlanOp) (p : ℕ) (o : PlanOp) → slice_get (xs ++ ys) p ≡ Some o
+    → (slice_get xs p ≡ Some o) ⊎ ((length xs ≤ p) × ((k : ℕ) × (slice_get ys k ≡ Some o)))
+op_at [] ys p o e = inr (omega arith, (p, e))
+op_at (x ∷ xs) ys zero o e = inl e
+op_at (x ∷ xs) ys (suc p) o e =
+    elim (op_at xs ys p o e) [ inl h ↦ inl h | inr h ↦ inr (omega (arith, h.0), h.1) ]
+
+type_there : (f : Flat) (top : ℕ) (os : List PlanOp) (p x t v : ℕ) → OpsAreSound f top os
+    → slice_get os p ≡ Some (Field x t v) → t < top
+type_there f top [] p x t v h e = cc
+type_there f top (o ∷ os) zero x t v h e =
+    let P : PlanOp → Type 0 = OpIsSound f top in
+    let is : o ≡ Field x t v = cc in
+    (subst P is h.0).1
+type_there f top (o ∷ os) (suc p) x t v h e = type_there f top os p x t v h.1 e
+
+-- each field was there, or stands after what was there and has a type that is there
+field_at : (f g : Flat) (new : List PlanOp) → g.ops ≡ f.ops ++ new → OpsAreSound f (length f.types) new
+    → (p x t v : ℕ) → slice_get g.ops p ≡ Some (Field x t v)
+    → (slice_get f.ops p ≡ Some (Field x t v)) ⊎ ((length f.ops ≤ p) × (t < length f.types))
+field_at f g new is sound p x t v e =
+    elim (op_at f.ops new p (Field x t v) (ap (λ z. slice_get z p) (sym is) ∙ e)) [
+      | inl h ↦ inl h
+      | inr h ↦ inr (h.0, type_there f (length f.types) new h.1.0 x t v sound h.1.1)
+    ]
+
+field_there : (f : Flat) (p x t v : ℕ) → IsFlat f
+    → (slice_get f.ops p ≡ Some (Field x t v)) ⊎ ((length f.ops ≤ p) × (t < length f.types)) → t < length f.types
+field_there f p x t v flat (inl h) = flat.there p x t v h
+field_there f p x t v flat (inr h) = h.1
+
+group_before : (f : Flat) (p x t v u first count : ℕ) → IsFlat f
+    → (slice_get f.ops p ≡ Some (Field x t v)) ⊎ ((length f.ops ≤ p) × (t < length f.types)) → u ≤ t
+    → slice_get f.types u ≡ Some (Group first count) → first + count ≤ p
+group_before f p x t v u first count flat (inl h) le n = flat.before p x t v u first count h le n
+group_before f p x t v u first count flat (inr h) le n =
+    let within = (flat.nodes u (Group first count) n).0 in omega (arith, h.0, within)
+
+-- lists that grew with the same nodes, and with these operations
+pub adds_ops : (f g : Flat) (new : List PlanOp) → IsFlat f → Grows f g → g.types ≡ f.types → g.ops ≡ f.ops ++ new
+    → OpsAreSound f (length f.types) new → Adds f g
+adds_ops f g new flat grows same is sound =
+    let at = field_at f g new is sound in
+    let P : List TypeNode → Type 0 = λ z. (p x t v : ℕ) → slice_get g.ops p ≡ Some (Field x t v) → t < length z in
+    record {
+      flat = record {
+        nodes = nodes_stay f g flat grows same;
+        there = subst P (sym same) (λ p x t v e. field_there f p x t v flat (at p x t v e));
+        before = λ p x t v u first count e le n.
+            group_before f p x t v u first count flat (at p x t v e) le (ap (λ z. slice_get z u) (sym same) ∙ n);
+      };
+      grows = grows;
+    }
 
 -- one node more
-new_node : (f g : Flat) (n : TypeNode) → IsFlat f → Grows f g → g.types ≡ f.types ++ n ∷ [] → NodeIsSound f (length f.types) n
-    → (t : ℕ) (m : TypeNode) → slice_get g.types t ≡ Some m → (t < length f.types) ⊎ (t ≡ length f.types) → NodeIsSound g t m
+new_node : (f g : Flat) (n : TypeNode) → IsFlat f → Grows f g → g.types ≡ f.types ++ n ∷ []
+    → NodeIsSound f (length f.types) n
+    → (t : ℕ) (m : TypeNode) → slice_get g.types t ≡ Some m → (t < length f.types) ⊎ (t ≡ length f.types)
+    → NodeIsSound g t m
 new_node f g n flat grows is sound t m e (inl less) =
     node_sound f g t m grows (flat.nodes t m (sym (get_begins f.types g.types t grows.types less) ∙ e))
 new_node f g n flat grows is sound t m e (inr same) =
-    let here : Some n ≡ Some m = sym (get_seam f.types n) ∙ ap (λ z. slice_get z (length f.types)) (sym is) ∙ ap (slice_get g.types) (sym same) ∙ e in
+    let here : Some n ≡ Some m = sym (get_seam f.types n)
+    ∙ ap (λ z. slice_get z (length f.types)) (sym is)
+    ∙ ap (slice_get g.types) (sym same)
+    ∙ e in
     let node : n ≡ m = cc in
     let P : ℕ → Type 0 = λ z. NodeIsSound g z m in
     let Q : TypeNode → Type 0 = NodeIsSound g (length f.types) in
     subst P (sym same) (subst Q node (node_sound f g (length f.types) n grows sound))
 
 below_or_at : (t n : ℕ) → t < n + 1 → (t < n) ⊎ (t ≡ n)
-below_or_at t n lt = elim (nat_lt t n) as (λ b. nat_lt t n ≡ b → (t < n) ⊎ (t ≡ n)) [ true ↦ λ e. inl (ltb-true t n e) | false ↦ λ e. let h : n ≤ t = ltb-false t n e in inr (omega arith) ] refl
+below_or_at t n lt =
+    elim (nat_lt t n) as
+    (λ b. nat_lt t n ≡ b → (t < n) ⊎ (t ≡ n))
+    [ true ↦ λ e. inl (ltb-true t n e) | false ↦ λ e. let h : n ≤ t = ltb-false t n e in inr (omega arith) ] refl
 
-pub adds_node : (f g : Flat) (n : TypeNode) → IsFlat f → Grows f g → g.types ≡ f.types ++ n ∷ [] → NodeIsSound f (length f.types) n → Adds f g
-adds_node f g n flat grows is sound = record {
-  flat = record {
-    nodes = λ t m e.
-        let within : t < length g.types = slice_get_within g.types t m e in
-        let longer : length g.types ≡ length f.types + 1 = ap length is ∙ length-append f.types (n ∷ []) in
-        new_node f g n flat grows is sound t m e (below_or_at t (length f.types) (omega arith));
-  };
-  grows = grows;
-}
+pub adds_node : (f g : Flat) (n : TypeNode) → IsFlat f → Grows f g → g.types ≡ f.types ++ n ∷ [] → g.ops ≡ f.ops
+    → NodeIsSound f (length f.types) n → Adds f g
+adds_node f g n flat grows is ops sound =
+    let longer : length g.types ≡ length f.types + 1 = ap length is ∙ length-append f.types (n ∷ []) in
+    record {
+      flat = record {
+        nodes = λ t m e.
+            let within : t < length g.types = slice_get_within g.types t m e in
+            new_node f g n flat grows is sound t m e (below_or_at t (length f.types) (omega arith));
+        there = λ p x t v e.
+            let there = flat.there p x t v (ap (λ z. slice_get z p) (sym ops) ∙ e) in omega (arith, there);
+        before = λ p x t v u first count e le m.
+            let old = ap (λ z. slice_get z p) (sym ops) ∙ e in
+            let there : t < length f.types = flat.there p x t v old in
+            flat.before p x t v u first count old le
+            (sym (get_begins f.types g.types u grows.types (omega arith)) ∙ m);
+      };
+      grows = grows;
+    }
 
-pub node_stands : (f g : Flat) (n : TypeNode) → IsFlat f → Grows f g → g.types ≡ f.types ++ n ∷ [] → NodeIsSound f (length f.types) n → type_at g (length f.types) ≡ node_type f (type_at f) n
-node_stands f g n flat grows is sound =
-    let adds : Adds f g = adds_node f g n flat grows is sound in
+pub node_stands : (f g : Flat) (n : TypeNode) → IsFlat f → Grows f g → g.types ≡ f.types ++ n ∷ [] → g.ops ≡ f.ops
+    → NodeIsSound f (length f.types) n → type_at g (length f.types) ≡ node_type f (type_at f) n
+node_stands f g n flat grows is ops sound =
+    let adds : Adds f g = adds_node f g n flat grows is ops sound in
     node_is g (length f.types) n (ap (λ z. slice_get z (length f.types)) is ∙ get_seam f.types n) adds.flat
     ∙ node_stays f g (type_at g) (length f.types) n grows sound
     ∙ node_agrees f (type_at g) (type_at f) (length f.types) n (λ u less. type_stays f g u flat adds less) sound
 
 -- a record's operations keep their meaning
-pub record_stays : (f g : Flat) (ops : List PlanOp) → IsFlat f → Adds f g → OpsAreSound f (length f.types) ops → items_in g (type_at g) None ops ≡ items_in f (type_at f) None ops
+pub record_stays : (f g : Flat) (ops : List PlanOp) → IsFlat f → Adds f g → OpsAreSound f (length f.types) ops
+    → items_in g (type_at g) None ops ≡ items_in f (type_at f) None ops
 record_stays f g ops flat adds sound =
     items_stay f g (type_at g) (length f.types) None None ops adds.grows sound refl
     ∙ items_agree f (type_at g) (type_at f) (length f.types) None ops (λ u less. type_stays f g u flat adds less) sound
@@ -277,16 +394,20 @@ op_higher f top more (Solve v a b i) le h = h
 op_higher f top more (When e k) le h = h
 op_higher f top more (Field x t v) le h = (h.0, omega (arith, h.1))
 
-pub ops_higher : (f : Flat) (top more : ℕ) (os : List PlanOp) → top ≤ more → OpsAreSound f top os → OpsAreSound f more os
+pub ops_higher : (f : Flat) (top more : ℕ) (os : List PlanOp) → top ≤ more → OpsAreSound f top os
+    → OpsAreSound f more os
 ops_higher f top more [] le h = tt
 ops_higher f top more (o ∷ os) le h = (op_higher f top more o le h.0, ops_higher f top more os le h.1)
 
-pub record_sound : (f g : Flat) (ops : List PlanOp) → Adds f g → OpsAreSound f (length f.types) ops → OpsAreSound g (length g.types) ops
+pub record_sound : (f g : Flat) (ops : List PlanOp) → Adds f g → OpsAreSound f (length f.types) ops
+    → OpsAreSound g (length g.types) ops
 record_sound f g ops adds sound =
-    ops_higher g (length f.types) (length g.types) ops (length_begins f.types g.types adds.grows.types) (ops_sound f g (length f.types) ops adds.grows sound)
+    ops_higher g (length f.types) (length g.types) ops (length_begins f.types g.types adds.grows.types)
+    (ops_sound f g (length f.types) ops adds.grows sound)
 
 -- arguments keep their meaning
-args_higher : (f : Flat) (top more : ℕ) (xs : List PlanArg) → top ≤ more → ArgsAreSound f top xs → ArgsAreSound f more xs
+args_higher : (f : Flat) (top more : ℕ) (xs : List PlanArg) → top ≤ more → ArgsAreSound f top xs
+    → ArgsAreSound f more xs
 args_higher f top more [] le h = tt
 args_higher f top more (Nat e ∷ xs) le h = (h.0, args_higher f top more xs le h.1)
 args_higher f top more (TypeArg t ∷ xs) le h = (omega (arith, h.0), args_higher f top more xs le h.1)

@@ -6,3 +6,4 @@ pub mod Entries
 pub mod StandingLaws
 pub mod GrowthLaws
 pub mod PartLaws
+pub mod OrderLaws

@@ -12,7 +12,7 @@ use Rattle.flat_form.specs.declared.lists.PlanOp.TheVariants.{Check, Solve, When
 use Rattle.flat_form.specs.declared.parts.Sized.{Sized}
 use Rattle.flat_form.specs.declared.parts.Sized.TheVariants.{Bits, Below, UpTo, Uint, Int, BitStr}
 use Rattle.flat_form.specs.Stands.{args_in, items_in, type_at, bit_of}
-use Rattle.flat_form.specs.Sound.{OpsAreSound}
+use Rattle.flat_form.specs.Sound.{ConditionsGovern, OpsAreSound}
 
 abbrev pub sized : Sized → Expr → Ty
 sized Bits e = core.bits e
@@ -59,7 +59,7 @@ is_open b (Field x t v ∷ ops) = is_open false ops
 -- the operations of a record so far
 pub record AreOps (f : Flat) (ops : List PlanOp) : Type 0 where
   pub sound : OpsAreSound f (length f.types) ops
-  pub closed : is_open false ops ≡ false
+  pub conditions : ConditionsGovern ops
 
 -- what they stand for
 abbrev pub items_so_far : Flat → List PlanOp → Items

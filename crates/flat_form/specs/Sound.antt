@@ -46,6 +46,22 @@ abbrev pub OpsAreSound : Flat → ℕ → List PlanOp → Type 0
 OpsAreSound f top [] = Unit {0}
 OpsAreSound f top (o ∷ rest) = OpIsSound f top o × OpsAreSound f top rest
 
+-- the first of these operations is a field
+abbrev pub FieldIsNext : List PlanOp → Type 0
+FieldIsNext [] = ⊥
+FieldIsNext (Check a op b i ∷ rest) = ⊥
+FieldIsNext (Solve v a b i ∷ rest) = ⊥
+FieldIsNext (When e k ∷ rest) = ⊥
+FieldIsNext (Field x t v ∷ rest) = Unit {0}
+
+-- each condition stands directly before the field that it governs
+abbrev pub ConditionsGovern : List PlanOp → Type 0
+ConditionsGovern [] = Unit {0}
+ConditionsGovern (Check a op b i ∷ rest) = ConditionsGovern rest
+ConditionsGovern (Solve v a b i ∷ rest) = ConditionsGovern rest
+ConditionsGovern (When e k ∷ rest) = FieldIsNext rest × ConditionsGovern rest
+ConditionsGovern (Field x t v ∷ rest) = ConditionsGovern rest
+
 -- the node of this number
 abbrev pub NodeIsSound : Flat → ℕ → TypeNode → Type 0
 NodeIsSound f top Nat32 = Unit {0}
@@ -63,8 +79,13 @@ NodeIsSound f top (Dict e t) = IsPlainNumber f e × (t < top)
 NodeIsSound f top (DictE e t) = IsPlainNumber f e × (t < top)
 NodeIsSound f top (Named x first count) =
     (x < length f.names) × IsRange f.args first count × ArgsAreSound f top (range f.args first count)
-NodeIsSound f top (Group first count) = IsRange f.ops first count × OpsAreSound f top (range f.ops first count)
+NodeIsSound f top (Group first count) =
+    IsRange f.ops first count × OpsAreSound f top (range f.ops first count) × ConditionsGovern (range f.ops first count)
 
--- each node is sound
+-- Each node is sound, and each operation's type is there. The operations of a record stand before each operation that
+-- uses the record: the parts of the operation's type are among the types up to it.
 pub record IsFlat (f : Flat) : Type 0 where
   pub nodes : (t : ℕ) (n : TypeNode) → slice_get f.types t ≡ Some n → NodeIsSound f t n
+  pub there : (p x t v : ℕ) → slice_get f.ops p ≡ Some (Field x t v) → t < length f.types
+  pub before : (p x t v u first count : ℕ) → slice_get f.ops p ≡ Some (Field x t v) → u ≤ t
+      → slice_get f.types u ≡ Some (Group first count) → first + count ≤ p

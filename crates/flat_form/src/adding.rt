@@ -2,7 +2,7 @@
 ghost use Rattle.std.specs.Prelude.{◌≡◌, ◌<◌, ◌≤◌, ◌+◌, length, IfOk, OnOk};
 ghost use Rattle.nat_solver.specs.View.{expr};
 ghost use Rattle.flat_form.specs.Stands.{expr_at, name_at, node_type, range, type_at};
-ghost use Rattle.flat_form.specs.Sound.{IsFlat, NodeIsSound};
+ghost use Rattle.flat_form.specs.Sound.{IsFlat, NodeIsSound, OpsAreSound};
 ghost use Rattle.flat_form.specs.Growth.{Adds};
 
 use crate::lists::{Flat, PlanArg, PlanOp, TypeNode};
@@ -91,7 +91,8 @@ impl Flat {
 
     /// The number of the first of the operations that are added.
     pub fn add_operations(&mut self, ops: Items<PlanOp>) -> Result<u32, NoMemory>
-        requires { IsFlat self.old }
+        requires flat { IsFlat self.old }
+        requires sound { OpsAreSound self.old (length self.old.types) ops }
         ensures same { OnOk result (self.new.types ≡ self.old.types) }
         ensures adds { OnOk result (Adds self.old self.new) }
         ensures there { IfOk result (λ first. first + length ops ≤ length self.new.ops) }

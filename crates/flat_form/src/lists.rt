@@ -1,5 +1,5 @@
 //! The lists.
-ghost use Rattle.std.specs.Prelude.{◌≡◌, ◌<◌, length};
+ghost use Rattle.std.specs.Prelude.{◌≡◌, ◌<◌, Some, length, slice_get};
 ghost use Rattle.nat_solver.specs.View.{expr};
 ghost use Rattle.flat_form.specs.Stands.{expr_at, name_at, node_type, range, type_at};
 ghost use Rattle.flat_form.specs.Sound.{IsFlat, IsRange, NodeIsSound};
@@ -101,6 +101,7 @@ impl Flat {
     pub fn node(&self, ty: u32) -> TypeNode
         requires flat { IsFlat self.now }
         requires there { ty < length self.now.types }
+        ensures at { slice_get self.now.types ty ≡ Some result }
         ensures stands { type_at self.now ty ≡ node_type self.now (type_at self.now) result }
         ensures sound { NodeIsSound self.now ty result }
     {

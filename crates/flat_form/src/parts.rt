@@ -4,7 +4,7 @@ ghost use Rattle.nat_solver.specs.Number.{OneUnknown, unknowns};
 ghost use Rattle.nat_solver.specs.View.{expr};
 ghost use Rattle.core_form.specs.Core as core;
 ghost use Rattle.flat_form.specs.Stands.{args_in, items_in, node_type, slot_of, expr_at, type_at};
-ghost use Rattle.flat_form.specs.Sound.{ArgsAreSound, IsFlat, IsPlainNumber, NodeIsSound, OpsAreSound};
+ghost use Rattle.flat_form.specs.Sound.{ArgsAreSound, IsFlat, IsPlainNumber, NodeIsSound};
 ghost use Rattle.flat_form.specs.Growth.{Adds};
 ghost use Rattle.flat_form.specs.Parts.{AreOps, IsPlainCondition, args_so_far, condition_of, items_so_far};
 ghost use Rattle.flat_form.specs.Parts.{sized, with_argument, with_item};
@@ -116,7 +116,7 @@ impl Flat {
     /// A record of these operations.
     pub fn add_group(&mut self, ops: Items<PlanOp>) -> Result<u32, NoMemory>
         requires flat { IsFlat self.old }
-        requires sound { OpsAreSound self.old (length self.old.types) ops }
+        requires ops { AreOps self.old ops }
         ensures adds { OnOk result (Adds self.old self.new) }
         ensures there { IfOk result (λ t. t < length self.new.types) }
         ensures stands { IfOk result (λ t. type_at self.new t ≡ core.group (items_so_far self.old ops)) }

@@ -33,13 +33,15 @@ prefixed_append : (xs ys : List AnArg) (r : Option ClosedArgs) → prefixed (xs 
 prefixed_append xs ys (Some rest) = ap (λ z. Some z) (onto_append xs ys rest)
 prefixed_append xs ys None = refl
 
-number_kept : (n : Option ℕ) (o : Option AnArg) (rest : Option ClosedArgs) → number_alone n ≡ Some o → and_number n rest ≡ prefixed (option_to_list o) rest
+number_kept : (n : Option ℕ) (o : Option AnArg) (rest : Option ClosedArgs) → number_alone n ≡ Some o
+    → and_number n rest ≡ prefixed (option_to_list o) rest
 number_kept None o rest e = cc
 number_kept (Some n) o (Some args) e =
     let is : Some (number n) ≡ o = cc in ap (λ z. prefixed (option_to_list z) (Some args)) is
 number_kept (Some n) o None e = refl
 
-type_kept : (t : Option Closed) (o : Option AnArg) (rest : Option ClosedArgs) → type_alone t ≡ Some o → and_type t rest ≡ prefixed (option_to_list o) rest
+type_kept : (t : Option Closed) (o : Option AnArg) (rest : Option ClosedArgs) → type_alone t ≡ Some o
+    → and_type t rest ≡ prefixed (option_to_list o) rest
 type_kept None o rest e = cc
 type_kept (Some t) o (Some args) e =
     let is : Some (type t) ≡ o = cc in ap (λ z. prefixed (option_to_list z) (Some args)) is
@@ -56,9 +58,11 @@ one_kept f scope (Ty t) rest o h = type_kept (closing (type_at f t) scope) o (cl
 one_kept f scope (Out v) rest o h =
     let is : None ≡ o = cc in sym (prefixed_none (closing_args rest scope)) ∙ ap (λ z. prefixed (option_to_list z) (closing_args rest scope)) is
 
-pub build_turn : (f : Flat) (scope : Scope) (all : List PlanArg) (i : ℕ) (here d : PlanArg) (before new : List AnArg) (o : Option AnArg) (total : Option ClosedArgs) → i < length all → here ≡ get_or all i d
+pub build_turn : (f : Flat) (scope : Scope) (all : List PlanArg) (i : ℕ) (here d : PlanArg) (before new : List AnArg)
+    (o : Option AnArg) (total : Option ClosedArgs) → i < length all → here ≡ get_or all i d
     → closed_alone f scope here ≡ Some o → new ≡ before ++ option_to_list o
-    → prefixed before (closing_args (args_in f (type_at f) (drop i all)) scope) ≡ total → prefixed new (closing_args (args_in f (type_at f) (drop (i + 1) all)) scope) ≡ total
+    → prefixed before (closing_args (args_in f (type_at f) (drop i all)) scope) ≡ total
+    → prefixed new (closing_args (args_in f (type_at f) (drop (i + 1) all)) scope) ≡ total
 build_turn f scope all i here d before new o total lt is one kept so_far =
     ap (λ z. prefixed z (closing_args (args_in f (type_at f) (drop (i + 1) all)) scope)) kept
     ∙ prefixed_append before (option_to_list o) (closing_args (args_in f (type_at f) (drop (i + 1) all)) scope)
@@ -75,13 +79,16 @@ type_lacks : (t : Option Closed) (rest : Option ClosedArgs) → type_alone t ≡
 type_lacks None rest e = refl
 type_lacks (Some t) rest e = cc
 
-one_lacks : (f : Flat) (scope : Scope) (a : PlanArg) (rest : Args) → closed_alone f scope a ≡ None → closing_args (arg_onto f (type_at f) a rest) scope ≡ None
+one_lacks : (f : Flat) (scope : Scope) (a : PlanArg) (rest : Args) → closed_alone f scope a ≡ None
+    → closing_args (arg_onto f (type_at f) a rest) scope ≡ None
 one_lacks f scope (Nat e) rest h = number_lacks (value (expr_at f e) scope.numbers) (closing_args rest scope) h
 one_lacks f scope (Ty t) rest h = type_lacks (closing (type_at f t) scope) (closing_args rest scope) h
 one_lacks f scope (Out v) rest h = cc
 
-pub build_ends : (f : Flat) (scope : Scope) (all : List PlanArg) (i : ℕ) (here d : PlanArg) (before : List AnArg) (total : Option ClosedArgs) → i < length all → here ≡ get_or all i d
-    → closed_alone f scope here ≡ None → prefixed before (closing_args (args_in f (type_at f) (drop i all)) scope) ≡ total → total ≡ None
+pub build_ends : (f : Flat) (scope : Scope) (all : List PlanArg) (i : ℕ) (here d : PlanArg) (before : List AnArg)
+    (total : Option ClosedArgs) → i < length all → here ≡ get_or all i d
+    → closed_alone f scope here ≡ None
+    → prefixed before (closing_args (args_in f (type_at f) (drop i all)) scope) ≡ total → total ≡ None
 build_ends f scope all i here d before total lt is one so_far =
     sym so_far
     ∙ at_drop_more (λ z. prefixed before (closing_args (args_in f (type_at f) z) scope)) all i d lt
@@ -92,7 +99,8 @@ onto_joined : (xs : List AnArg) → onto_all xs no_args ≡ joined xs
 onto_joined [] = refl
 onto_joined (x ∷ xs) = ap (onto x) (onto_joined xs)
 
-pub build_done : (f : Flat) (scope : Scope) (all : List PlanArg) (i : ℕ) (before : List AnArg) (total : Option ClosedArgs) → length all ≤ i
+pub build_done : (f : Flat) (scope : Scope) (all : List PlanArg) (i : ℕ) (before : List AnArg)
+    (total : Option ClosedArgs) → length all ≤ i
     → prefixed before (closing_args (args_in f (type_at f) (drop i all)) scope) ≡ total → total ≡ Some (joined before)
 build_done f scope all i before total over so_far =
     sym so_far

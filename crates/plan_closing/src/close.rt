@@ -17,7 +17,10 @@ use std::alloc::Global;
 
 /// The closed type of a type with the numbers and closed types of these slots, where outputs are left out.
 ///
-/// All nodes are counted before any is made, so neither Overflow nor BigType is hidden by want of memory.
+/// Overflow comes also where a variable is not set, and of a type that is or contains a record, which has no closed
+/// type: where neither is so, it comes of too large numbers alone.
+///
+/// All nodes are counted before any is made, so neither Overflow nor BigType is hidden where memory runs out.
 pub fn close_type(
     alloc: Global,
     flat: &Flat,

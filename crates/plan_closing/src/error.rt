@@ -5,7 +5,7 @@ use tlb_memory::NoMemory;
 /// Why a type of a plan has no closed type, the first cause first.
 #[derive(Clone, Copy, Debug, PartialEq, Eq)]
 pub enum CloseError {
-    /// A number of it, or a part of one, exceeds 2^32 − 1.
+    /// A number of it, or a part of one, exceeds 2^32 − 1; or a variable of it is not set, or there is a record in it.
     Overflow,
     /// It would have more than 4,096 nodes.
     BigType,

@@ -1,5 +1,6 @@
 -- Types and arguments.
-use Rattle.std.proofs.Common.{◌≡◌, ℕ, ◌+◌, ◌<◌, ◌≤◌, List, [], ◌∷◌, Option, Some, None, refl, ap, sym, ◌∙◌, drop, length, get_or}
+use Rattle.std.proofs.Common.{◌≡◌, ℕ, ◌+◌, ◌<◌, ◌≤◌, List, [], ◌∷◌, Option, Some, None, refl, ap, sym, ◌∙◌, drop}
+use Rattle.std.proofs.Common.{length, get_or}
 use Rattle.std.proofs.Common.{zero, suc, slice_get, arith}
 use Rattle.std.proofs.Common.{Bool, false, ◌↔◌}
 use Rattle.std.specs.Prelude.{IsTrue}
@@ -37,7 +38,8 @@ alone_is (a_number v) t = refl
 alone_is (a_type v) t = refl
 alone_is other t = refl
 
-pub hidden_is : (types : SchemaView) (names : Names) (e : Expr) (x : Word) (es : List Expr) (v : Variable) → e ≡ Named x es
+pub hidden_is : (types : SchemaView) (names : Names) (e : Expr) (x : Word) (es : List Expr) (v : Variable)
+    → e ≡ Named x es
     → Some v ≡ hiding names x (exprs_view es) → alone (Some v) no_meaning ≡ type_of types names (expr_view e)
 hidden_is types names e x es v is found =
     sym (ap (type_of types names) (seen_named e x es is)
@@ -46,7 +48,8 @@ hidden_is types names e x es v is found =
     ∙ alone_is v (applied_to types names x (exprs_view es)))
 
 pub unhidden_is : (types : SchemaView) (names : Names) (e : Expr) (x : Word) (es : List Expr) → e ≡ Named x es
-    → None ≡ hiding names x (exprs_view es) → applied_to types names x (exprs_view es) ≡ type_of types names (expr_view e)
+    → None ≡ hiding names x (exprs_view es)
+    → applied_to types names x (exprs_view es) ≡ type_of types names (expr_view e)
 unhidden_is types names e x es is found =
     sym (ap (type_of types names) (seen_named e x es is)
     ∙ named_is types names x (exprs_view es)
@@ -103,7 +106,8 @@ kinds_past [] (suc i) e = refl
 kinds_past (x ∷ ks) zero e = cc
 kinds_past (x ∷ ks) (suc i) e = kinds_past ks i e
 
-pub args_turn : (types : SchemaView) (names : Names) (ks : List TermKind) (k : ℕ) (all : List Expr) (i : ℕ) (here : Expr)
+pub args_turn : (types : SchemaView) (names : Names) (ks : List TermKind) (k : ℕ) (all : List Expr) (i : ℕ)
+    (here : Expr)
     (kind : TermKind) (before new total : Args) → i < length all → here ≡ get_or all i here → Some kind ≡ slice_get ks k
     → new ≡ append_args before (arg_of types names kind (expr_view here))
     → append_args before (args_of types names (drop k ks) (exprs_view (drop i all))) ≡ total
@@ -117,7 +121,8 @@ args_turn types names ks k all i here kind before new total lt is found made so_
     ∙ ap (λ z. append_args before (args_of types names z (exprs_view (drop i all)))) (sym (kinds_at ks k kind found))
     ∙ so_far
 
-pub args_done : (types : SchemaView) (names : Names) (all : List Expr) (i : ℕ) (rest : List TermKind) (before total : Args)
+pub args_done : (types : SchemaView) (names : Names) (all : List Expr) (i : ℕ) (rest : List TermKind)
+    (before total : Args)
     → length all ≤ i → append_args before (args_of types names rest (exprs_view (drop i all))) ≡ total → before ≡ total
 args_done types names all i rest before total over so_far =
     sym (args_none before)
@@ -143,7 +148,9 @@ pub no_argument : (types : SchemaView) (names : Names) (args : Args) (kind : Ter
     → args ≡ append_args args (arg_of types names kind e)
 no_argument types names args kind e is = sym (args_none args) ∙ sym (ap (λ z. append_args args (arg_of types names z e)) is)
 
-pub type_argument : (types : SchemaView) (names : Names) (args : Args) (kind : TermKind) (e : ExprView) (t : Ty) → kind ≡ TypeIn
-    → t ≡ type_of types names e → append_args args (core.ty_arg t core.no_args) ≡ append_args args (arg_of types names kind e)
+pub type_argument : (types : SchemaView) (names : Names) (args : Args) (kind : TermKind) (e : ExprView) (t : Ty)
+    → kind ≡ TypeIn
+    → t ≡ type_of types names e
+    → append_args args (core.ty_arg t core.no_args) ≡ append_args args (arg_of types names kind e)
 type_argument types names args kind e t is made =
     ap (λ z. append_args args (core.ty_arg z core.no_args)) made ∙ sym (ap (λ z. append_args args (arg_of types names z e)) is)

@@ -29,7 +29,8 @@ map_append f (x ∷ xs) ys = ap (λ z. f x ∷ z) (map_append f xs ys)
 
 -- ---- inputs
 
-pub input_turn : (names : Names) (all : List Expr) (i : ℕ) (here : Expr) (before new one total : List Input) → i < length all
+pub input_turn : (names : Names) (all : List Expr) (i : ℕ) (here : Expr) (before new one total : List Input)
+    → i < length all
     → here ≡ get_or all i here → one ≡ input_of names (expr_view here) → new ≡ before ++ one
     → before ++ inputs_of names (exprs_view (drop i all)) ≡ total
     → new ++ inputs_of names (exprs_view (drop (i + 1) all)) ≡ total
@@ -44,7 +45,8 @@ pub inputs_done : (names : Names) (all : List Expr) (i : ℕ) (before total : Li
 inputs_done names all i before total over so_far =
     sym (append-nil before) ∙ sym (ap (λ z. before ++ inputs_of names z) (drop_end all i over)) ∙ so_far
 
-pub sum_input_is : (names : Names) (e a b : Expr) (es : List Expr) (n : Bool) → e ≡ Sum a b es → IsTrue n ↔ (es ≡ []) → n ≡ true
+pub sum_input_is : (names : Names) (e a b : Expr) (es : List Expr) (n : Bool) → e ≡ Sum a b es → IsTrue n ↔ (es ≡ [])
+    → n ≡ true
     → sum_input (named_number names (bare_name (expr_view a))) (literal_of (expr_view b)) ≡ input_of names (expr_view e)
 sum_input_is names e a b es n is h none =
     sym (ap (input_of names) (ap expr_view (is ∙ ap (Sum a b) (h.0 none)) ∙ expr_of_sum a b []))
@@ -53,7 +55,8 @@ longer : (names : Names) (t u v : ExprView) (us : List ExprView) → input_of na
 longer names t u v [] = refl
 longer names t u v (w ∷ us) = longer names (plus t u) v w us
 
-pub long_sum_is : (names : Names) (e a b : Expr) (es : List Expr) (n : Bool) → e ≡ Sum a b es → IsTrue n ↔ (es ≡ []) → n ≡ false
+pub long_sum_is : (names : Names) (e a b : Expr) (es : List Expr) (n : Bool) → e ≡ Sum a b es → IsTrue n ↔ (es ≡ [])
+    → n ≡ false
     → [] ≡ input_of names (expr_view e)
 long_sum_is names e a b [] n is h more = cc (h.1 refl)
 long_sum_is names e a b (d ∷ es) n is h more =
@@ -67,13 +70,15 @@ numbers_grow f g (x ∷ xs) grows all =
     All-cons (IsPlainNumber g) x xs (number_grows f g x grows (All-head (IsPlainNumber f) x xs all))
     (numbers_grow f g xs grows (All-tail (IsPlainNumber f) x xs all))
 
-pub numbers_stand : (f g : Flat) (xs : List ℕ) → Grows f g → All (IsPlainNumber f) xs → map (expr_at g) xs ≡ map (expr_at f) xs
+pub numbers_stand : (f g : Flat) (xs : List ℕ) → Grows f g → All (IsPlainNumber f) xs
+    → map (expr_at g) xs ≡ map (expr_at f) xs
 numbers_stand f g [] grows all = refl
 numbers_stand f g (x ∷ xs) grows all =
     ap (λ z. z ∷ map (expr_at g) xs) (expr_grows f g x grows (All-head (IsPlainNumber f) x xs all).there)
     ∙ ap (λ z. expr_at f x ∷ z) (numbers_stand f g xs grows (All-tail (IsPlainNumber f) x xs all))
 
-pub outputs_plain : (f g : Flat) (old new one : List ℕ) (outputs : List NumberExpr) → Adds f g → All (IsPlainNumber f) old
+pub outputs_plain : (f g : Flat) (old new one : List ℕ) (outputs : List NumberExpr) → Adds f g
+    → All (IsPlainNumber f) old
     → AreOutputs g one outputs → new ≡ old ++ one → All (IsPlainNumber g) new
 outputs_plain f g old new one outputs adds all are is =
     let P : List ℕ → Type 0 = All (IsPlainNumber g) in
@@ -102,7 +107,8 @@ outputs_done f names all i old total over plain so_far = record {
   stand = sym (append-nil (map (expr_at f) old)) ∙ sym (ap (λ z. map (expr_at f) old ++ outputs_of names z) (drop_end all i over)) ∙ so_far;
 }
 
-pub one_output : (f : Flat) (e : ℕ) (a : NumberExpr) → IsPlainNumber f e → expr_at f e ≡ a → AreOutputs f (e ∷ []) (a ∷ [])
+pub one_output : (f : Flat) (e : ℕ) (a : NumberExpr) → IsPlainNumber f e → expr_at f e ≡ a
+    → AreOutputs f (e ∷ []) (a ∷ [])
 one_output f e a plain is = record {
   plain = All-cons (IsPlainNumber f) e [] plain (All-nil (IsPlainNumber f));
   stand = ap (λ z. z ∷ []) is;
@@ -121,6 +127,7 @@ named_args : (names : Names) (x : List ℕ) (es : List Expr) (n : Bool) → IsTr
 named_args names x [] n h more = cc (h.1 refl)
 named_args names x (d ∷ es) n h more = refl
 
-pub applied_input : (names : Names) (e : Expr) (x : List ℕ) (es : List Expr) (n : Bool) → e ≡ Named x es → IsTrue n ↔ (es ≡ [])
+pub applied_input : (names : Names) (e : Expr) (x : List ℕ) (es : List Expr) (n : Bool) → e ≡ Named x es
+    → IsTrue n ↔ (es ≡ [])
     → n ≡ false → [] ≡ input_of names (expr_view e)
 applied_input names e x es n is h more = named_args names x es n h more ∙ sym (ap (input_of names) (seen_named e x es is))

@@ -11,7 +11,8 @@ use Rattle.nat_solver.specs.Number as num
 use Rattle.tlb_syntax.specs.declared.tree.Expr.{Expr as Term}
 use Rattle.tlb_syntax.specs.declared.tree.Expr.TheVariants.{Named, Sum as TermSum}
 use Rattle.tlb_syntax.specs.View.{expr as expr_view, exprs as exprs_view}
-use Rattle.tlb_syntax.specs.Tree.{ExprView, ExprList, no_exprs, an_expr, lit, named, nat32, bits, below, up_to, plus, star, out}
+use Rattle.tlb_syntax.specs.Tree.{ExprView, ExprList, no_exprs, an_expr, lit, named, nat32, bits, below, up_to, plus}
+use Rattle.tlb_syntax.specs.Tree.{star, out}
 use Rattle.tlb_syntax.specs.Tree.{ref, group}
 use Rattle.tlb_syntax.specs.Tree as tree
 use Rattle.kind_terms.specs.Closed.{closed}
@@ -123,7 +124,8 @@ sought_is r left right h =
 
 -- ---- terms one by one
 
-pub two_terms : (none one two : List NatExpr) (a b : NatExpr) (s t : Expr) → none ≡ [] → one ≡ none ++ a ∷ [] → two ≡ one ++ b ∷ []
+pub two_terms : (none one two : List NatExpr) (a b : NatExpr) (s t : Expr) → none ≡ [] → one ≡ none ++ a ∷ []
+    → two ≡ one ++ b ∷ []
     → number_view a ≡ s → number_view b ≡ t → map number_view two ≡ s ∷ t ∷ []
 two_terms none one two a b s t empty first second e h =
     ap (map number_view) (second ∙ ap (λ z. z ++ b ∷ []) (first ∙ ap (λ z. z ++ a ∷ []) empty))

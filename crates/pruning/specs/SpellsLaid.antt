@@ -2,7 +2,7 @@
 -- beside it are those of the tree.
 --
 -- Source: TON documentation, "TL-B language"; TVM whitepaper, 3.3, and the TON documentation on hashmaps.
-use Rattle.std.specs.Prelude.{◌≡◌, ℕ, suc, ◌+◌, List, [], ◌∷◌, length}
+use Rattle.std.specs.Prelude.{◌≡◌, ℕ, suc, ◌+◌, ◌≤◌, List, [], ◌∷◌, length}
 use Rattle.cell_nodes.specs.declared.tree.Mode.TheVariants.{Whole}
 use Rattle.cell_nodes.specs.declared.tree.Tree.{Tree}
 use Rattle.hashmap_labels.specs.Labels.{IsLabel}
@@ -17,7 +17,7 @@ use Rattle.spelling.specs.Goals.{at_type, at_cell, typed, under_ref}
 use Rattle.spelling.specs.Spells.{Meaning, Closing, Meanings, no_meanings, a_meaning, SpellsNumber, SpellsString}
 use Rattle.spelling.specs.Spells.{SpellsRecord, SpellsAbsent, SpellsList, SpellsRef, SpellsRest, AtRow, ByShape}
 use Rattle.spelling.specs.Spells.{Holds}
-use Rattle.typed_value.specs.Values.{Plain}
+use Rattle.typed_value.specs.Values.{Plain, levels, parts, most_levels, most_parts}
 use Rattle.typed_value.specs.Values as values
 use Rattle.pruning.specs.Laid.{Laid, number, bit_string, record_of, absent, list_of, ref_to, ref_to_raw, no_map}
 use Rattle.pruning.specs.Laid.{map_under, map_here, rest, Laids, no_laids, a_laid, LaidEdge, a_leaf, a_fork, plain}
@@ -106,3 +106,9 @@ plain_root (laid d) = plain d
 abbrev pub IsLaidRoot : CoreSchema → Closed → Tree → LaidRoot → Type 0
 IsLaidRoot schema t c (as_it_is x) = (under_ref t ≡ at_cell) × (x ≡ c)
 IsLaidRoot schema t c (laid d) = Holds Whole (SpellsLaid schema d) (under_ref t) c
+
+-- A reading in mode Whole that carries its trees: its value lies so in the root cell, within the limits of a value.
+pub record LaidReading (schema : CoreSchema) (t : Closed) (c : Tree) (r : LaidRoot) : Type 0 where
+  pub lies : IsLaidRoot schema t c r
+  pub deep : levels (plain_root r) ≤ most_levels
+  pub large : parts (plain_root r) ≤ most_parts

@@ -113,10 +113,10 @@ same_stride (keyed k) (item j) = false
 same_stride (keyed k) (keyed l) = bytes_eq k l
 
 -- whether the second path begins with the first
-abbrev pub leads : List Stride → List Stride → Bool
-leads [] path = true
-leads (s ∷ steps) [] = false
-leads (s ∷ steps) (t ∷ path) = same_stride s t && leads steps path
+abbrev pub is_prefix : List Stride → List Stride → Bool
+is_prefix [] path = true
+is_prefix (s ∷ steps) [] = false
+is_prefix (s ∷ steps) (t ∷ path) = same_stride s t && is_prefix steps path
 
 -- whether the path goes on with a key that begins with q, and any further steps
 abbrev pub takes_key : List ℕ → List Stride → Bool
@@ -132,8 +132,8 @@ enters q (s ∷ steps) [] = false
 enters q (s ∷ steps) (t ∷ path) = same_stride s t && enters q steps path
 
 abbrev pub needs : List Stride → Spot → Option (List ℕ) → Bool
-needs path x None = leads path x.path || leads x.path path
-needs path x (Some q) = leads path x.path || enters q x.path path
+needs path x None = is_prefix path x.path || is_prefix x.path path
+needs path x (Some q) = is_prefix path x.path || enters q x.path path
 
 -- one of the chosen paths keeps it
 abbrev pub kept : List (List Stride) → Spot → Bool

@@ -16,8 +16,9 @@ use Rattle.pruning.specs.Spots.{Spot, Where, at_root, stepped, past, in_edge, in
 use Rattle.pruning.specs.Spots.{spots, edge_spots, spots_of}
 use Rattle.pruning.specs.Blanked.{KeyPart, hidden_of, blanked_ref, with_prefix, edges_at, some_begin, outermost}
 use Rattle.pruning.specs.Blanked.{put_all, blanked, blanked_fields, blanked_items, blanked_pairs, Blanked}
-use Rattle.pruning.specs.Cut.{Choice, Parts, below_parts, fork_part, hidden_part, map_with, blank, blank_fields}
-use Rattle.pruning.specs.Cut.{blank_items, blank_edge, blank_root}
+use Rattle.pruning.specs.Cut.{Choice}
+use Rattle.pruning_laws.specs.Cuts.{Parts, below_parts, fork_part, hidden_part, map_with, blank, blank_fields}
+use Rattle.pruning_laws.specs.Cuts.{blank_items, blank_edge, blank_root}
 use Rattle.pruning_laws.specs.KeyLaws.{begins-append, some_begin-append}
 use Rattle.pruning_laws.specs.KnownLaws.{left_part, right_part}
 use Rattle.pruning_laws.specs.TrieLaws.{AllBelow, AllDeeper, below-append, deeper-append, below-deeper, deeper-below}

@@ -15,10 +15,10 @@ use Rattle.pruning.specs.Laid.{Laid, number, bit_string, record_of, absent, list
 use Rattle.pruning.specs.Laid.{map_under, map_here, rest, Laids, no_laids, a_laid, LaidEdge, a_leaf, a_fork, trees}
 use Rattle.pruning.specs.Spots.{Where, stepped, past, in_edge, in_ref, spot, first_name, other_names}
 use Rattle.pruning.specs.Blanked.{hidden_of}
-use Rattle.pruning.specs.Cut.{Choice, cut_cell, cut, cut_fields, cut_items, cut_edge, Parts, hidden_part, blank}
-use Rattle.pruning.specs.Cut.{blank_fields, blank_items, blank_edge, ForRest, ForRaw, CutsCell, Cuts, CutsAll}
-use Rattle.pruning.specs.Cut.{CutsEdge}
+use Rattle.pruning.specs.Cut.{Choice, cut_cell, cut, cut_fields, cut_items, cut_edge}
 use Rattle.pruning_laws.specs.CleanLaws.{IsClean}
+use Rattle.pruning_laws.specs.Cuts.{Parts, hidden_part, blank, blank_fields, blank_items, blank_edge, ForRest, ForRaw}
+use Rattle.pruning_laws.specs.Cuts.{CutsCell, Cuts, CutsAll, CutsEdge}
 use Rattle.pruning_laws.specs.ReadsLaws.{Trusts}
 
 abbrev pub kept_rest : ForRest

@@ -9,7 +9,7 @@ use Rattle.typed_value.specs.Paths.{entry_at}
 use Rattle.typed_value.specs.Values.{Plain, PlainPairs, no_pairs, a_pair}
 use Rattle.pruning.specs.Laid.{join, below}
 use Rattle.pruning.specs.Blanked.{KeyPart, some_begin}
-use Rattle.pruning.specs.Cut.{below_parts}
+use Rattle.pruning_laws.specs.Cuts.{below_parts}
 
 pub begins-append : (p k : List ℕ) → begins p (p ++ k) ≡ true
 begins-append [] k = refl

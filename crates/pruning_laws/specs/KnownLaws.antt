@@ -15,12 +15,13 @@ use Rattle.pruning.specs.Laid.{Laid, number, bit_string, record_of, absent, list
 use Rattle.pruning.specs.Laid.{map_under, map_here, rest, Laids, no_laids, a_laid, LaidEdge, a_leaf, a_fork, join}
 use Rattle.pruning.specs.Laid.{below, plain, plain_all, plain_pairs, trees}
 use Rattle.pruning.specs.SpellsLaid.{LaidRoot, as_it_is, laid, plain_root}
-use Rattle.pruning.specs.Spots.{Spot, Where, at_root, stepped, past, in_edge, in_ref, spot, same_stride, leads}
+use Rattle.pruning.specs.Spots.{Spot, Where, at_root, stepped, past, in_edge, in_ref, spot, same_stride, is_prefix}
 use Rattle.pruning.specs.Spots.{enters, needs, kept, unless_kept}
 use Rattle.pruning.specs.Blanked.{hidden_of, some_begin}
 use Rattle.pruning.specs.Knowing.{is_hidden, hides, known_at, known, as_named}
-use Rattle.pruning.specs.Cut.{Choice, Parts, below_parts, hidden_part, map_with, fork_part, blank, blank_fields}
-use Rattle.pruning.specs.Cut.{blank_items, blank_edge, blank_root}
+use Rattle.pruning.specs.Cut.{Choice}
+use Rattle.pruning_laws.specs.Cuts.{Parts, below_parts, hidden_part, map_with, fork_part, blank, blank_fields}
+use Rattle.pruning_laws.specs.Cuts.{blank_items, blank_edge, blank_root}
 use Rattle.pruning_laws.specs.KeyLaws.{begins-append, stripped, zero-not_one, one-not_zero, some_begin-append}
 use Rattle.pruning_laws.specs.KeyLaws.{some_begin-same, some_begin-other, or_else, entry-join, entry-below}
 use Rattle.pruning_laws.specs.KeyLaws.{entry-other, GoesOn, to_zero, to_one, nowhere, goes_on}
@@ -339,9 +340,9 @@ stride-self (named x) = (bytes_eq-Decides x x).1 refl
 stride-self (item i) = eq-eqb i i refl
 stride-self (keyed k) = (bytes_eq-Decides k k).1 refl
 
-leads-append : (m steps : List Stride) → leads m (m ++ steps) ≡ true
-leads-append [] steps = refl
-leads-append (s ∷ m) steps = λ i. stride-self s i && leads-append m steps i
+is_prefix-append : (m steps : List Stride) → is_prefix m (m ++ steps) ≡ true
+is_prefix-append [] steps = refl
+is_prefix-append (s ∷ m) steps = λ i. stride-self s i && is_prefix-append m steps i
 
 enters-append : (q : List ℕ) (m : List Stride) (key : List ℕ) (steps : List Stride) → begins q key ≡ true
     → enters q m (m ++ keyed key ∷ steps) ≡ true
@@ -365,8 +366,8 @@ refs_kept : (paths : List (List Stride)) (i : ℕ) (path : List Stride) → slic
     → (m steps : List Stride) → path ≡ m ++ steps → RefsKept (unless_kept paths) m
 refs_kept paths i path e m steps same x at none =
     ap not (is_kept paths i path x e
-    (ap (needs path x) none ∙ or-right (leads path x.path) (leads x.path path)
-    ((λ j. leads (at j) (same j)) ∙ leads-append m steps)))
+    (ap (needs path x) none ∙ or-right (is_prefix path x.path) (is_prefix x.path path)
+    ((λ j. is_prefix (at j) (same j)) ∙ is_prefix-append m steps)))
 
 edges_kept : (paths : List (List Stride)) (i : ℕ) (path : List Stride) → slice_get paths i ≡ Some path
     → (m steps : List Stride) (s : Stride) → path ≡ m ++ s ∷ steps → EdgesKept (unless_kept paths) m s
@@ -374,7 +375,7 @@ edges_kept paths i path e m steps (named x) same = tt
 edges_kept paths i path e m steps (item j) same = tt
 edges_kept paths i path e m steps (keyed key) same = λ x q at prefix begin.
     ap not (is_kept paths i path x e
-    (ap (needs path x) prefix ∙ or-right (leads path x.path) (enters q x.path path)
+    (ap (needs path x) prefix ∙ or-right (is_prefix path x.path) (enters q x.path path)
     ((λ j. enters q (at j) (same j)) ∙ enters-append q m key steps begin)))
 
 way_kept : (paths : List (List Stride)) (i : ℕ) (path : List Stride) → slice_get paths i ≡ Some path

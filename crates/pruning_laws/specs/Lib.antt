@@ -3,6 +3,8 @@ pub mod BlankedLaws
 pub mod ChoiceLaws
 pub mod CleanLaws
 pub mod CommutesLaws
+pub mod ContentsLaws
+pub mod Cuts
 pub mod FilledLaws
 pub mod KeyLaws
 pub mod KnownLaws

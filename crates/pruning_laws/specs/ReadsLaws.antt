@@ -12,7 +12,7 @@ use Rattle.cell_nodes.specs.declared.tree.Hidden.{Hidden}
 use Rattle.cell_nodes.specs.declared.tree.Mode.TheVariants.{Whole, Partial}
 use Rattle.cell_nodes.specs.declared.tree.Tree.{Tree, out-Tree}
 use Rattle.hashmap_tree.specs.Dict.{unseen, DictTree, one, two, Branch, open_edge, hidden_edge}
-use Rattle.hashmap_tree.specs.Entries.{Slice, leaf, hidden, Entries, cell_of, Then, under, fork, pairs_in, hidden_in}
+use Rattle.hashmap_tree.specs.Entries.{Slice, leaf, hidden, Entries, cell_of, Then, under, fork}
 use Rattle.hashmap_tree.specs.First.{forked}
 use Rattle.typed_value.specs.Values.{Plain, Plains, PlainPairs, no_vals, a_val, no_pairs, a_pair}
 use Rattle.typed_value.specs.Values as values
@@ -24,15 +24,17 @@ use Rattle.spelling.specs.Slices.{nothing, only_bits, only_ref, took}
 use Rattle.spelling.specs.Goals.{Row, natural, integer, string, no_row, row, Goal, at_type, at_field, at_cell, Shape}
 use Rattle.spelling.specs.Goals.{typed, fields_here, fields_under, left_out, as_cell, at_fields, under_ref, shape_of}
 use Rattle.spelling.specs.Spells.{Repeats, Fields, SpellsNumber, SpellsString, SpellsShape, Spells, Each, EachPair}
-use Rattle.spelling.specs.Spells.{Holds, Contents, EntriesHold, no_entries, some_entries}
+use Rattle.spelling.specs.Spells.{Holds, EntriesHold, no_entries, some_entries}
 use Rattle.pruning.specs.Laid.{Laid, number, bit_string, record_of, absent, list_of, ref_to, ref_to_raw, no_map}
-use Rattle.pruning.specs.Laid.{map_under, map_here, rest, Laids, no_laids, a_laid, LaidEdge, a_leaf, a_fork, join}
+use Rattle.pruning.specs.Laid.{map_under, map_here, rest, Laids, no_laids, a_laid, LaidEdge, a_leaf, a_fork}
 use Rattle.pruning.specs.Laid.{below}
 use Rattle.pruning.specs.SpellsLaid.{BeginsWith, EdgeCell, SpellsLaidShape, SpellsLaid, EachLaid, SpellsEdge}
-use Rattle.pruning.specs.Blanked.{KeyPart, hidden_of}
-use Rattle.pruning.specs.Cut.{cell_with, Parts, below_parts, fork_part, map_with, ForRest, ForRaw, CutsCell, Cuts}
-use Rattle.pruning.specs.Cut.{CutsAll, CutsEdge}
+use Rattle.pruning.specs.Blanked.{hidden_of}
+use Rattle.pruning.specs.Cut.{cell_with}
 use Rattle.pruning_laws.specs.CleanLaws.{IsClean, AllClean, clean-right, clean-below, stub-hides}
+use Rattle.pruning_laws.specs.ContentsLaws.{contents_below, contents_join, hidden-under, hidden-append}
+use Rattle.pruning_laws.specs.Cuts.{Parts, below_parts, fork_part, map_with, ForRest, ForRaw, CutsCell, Cuts, CutsAll}
+use Rattle.pruning_laws.specs.Cuts.{CutsEdge}
 
 -- ---- lists of trees
 
@@ -396,45 +398,15 @@ raw_reads schema K R trust e s outs after ps w clean o t (inr h) =
 
 -- ---- dictionaries
 
-contents_below : (schema : CoreSchema) (p : List ℕ) (zs : Entries) (ps : PlainPairs) (t : Closed)
-    → Contents (EachPair Partial schema ps) t (pairs_in zs)
-    → Contents (EachPair Partial schema (below p ps)) t (pairs_in (under p zs))
-contents_below schema p [] no_pairs t h = refl
-contents_below schema p [] (a_pair l v ps) t h = absurd h
-contents_below schema p ((k, leaf c) ∷ zs) no_pairs t h = absurd (cc)
-contents_below schema p ((k, leaf c) ∷ zs) (a_pair l v ps) t h =
-    (h.0, ap (λ (x : List ℕ). p ++ x) h.1, h.2, contents_below schema p zs ps t h.3)
-contents_below schema p ((k, hidden u) ∷ zs) ps t h = contents_below schema p zs ps t h
-
-contents_join : (schema : CoreSchema) (zs os : Entries) (ps qs : PlainPairs) (t : Closed)
-    → Contents (EachPair Partial schema ps) t (pairs_in zs) → Contents (EachPair Partial schema qs) t (pairs_in os)
-    → Contents (EachPair Partial schema (join ps qs)) t (pairs_in (zs ++ os))
-contents_join schema [] os no_pairs qs t h k = k
-contents_join schema [] os (a_pair l v ps) qs t h k = absurd h
-contents_join schema ((y, leaf c) ∷ zs) os no_pairs qs t h k = absurd (cc)
-contents_join schema ((y, leaf c) ∷ zs) os (a_pair l v ps) qs t h k =
-    (h.0, h.1, h.2, contents_join schema zs os ps qs t h.3 k)
-contents_join schema ((y, hidden u) ∷ zs) os ps qs t h k = contents_join schema zs os ps qs t h k
-
-hidden-under : (p : List ℕ) (zs : Entries) → hidden_in (under p zs) ≡ below_parts p (hidden_in zs)
-hidden-under p [] = refl
-hidden-under p ((k, leaf c) ∷ zs) = hidden-under p zs
-hidden-under p ((k, hidden u) ∷ zs) = ap (λ (l : List KeyPart). (p ++ k, u) ∷ l) (hidden-under p zs)
-
-hidden-append : (zs os : Entries) → hidden_in (zs ++ os) ≡ hidden_in zs ++ hidden_in os
-hidden-append [] os = refl
-hidden-append ((k, leaf c) ∷ zs) os = hidden-append zs os
-hidden-append ((k, hidden u) ∷ zs) os = ap (λ (l : List KeyPart). (k, u) ∷ l) (hidden-append zs os)
-
 abbrev Hold : CoreSchema → Parts → Closed → Entries → Type 0
 Hold schema x t es = EntriesHold (EachPair Partial schema x.pairs) x.unknown t es
 
 fork_hold : (schema : CoreSchema) (l : List ℕ) (A B : Parts) (zs os : Entries) (t : Closed) → Hold schema A t zs
     → Hold schema B t os → Hold schema (fork_part l A B) t (fork l zs os)
 fork_hold schema l A B zs os t h k = (
-  contents_join schema (under (l ++ 0 ∷ []) zs) (under (l ++ 1 ∷ []) os) (below (l ++ 0 ∷ []) A.pairs)
-      (below (l ++ 1 ∷ []) B.pairs) t (contents_below schema (l ++ 0 ∷ []) zs A.pairs t h.0)
-      (contents_below schema (l ++ 1 ∷ []) os B.pairs t k.0),
+  contents_join Partial schema (under (l ++ 0 ∷ []) zs) (under (l ++ 1 ∷ []) os) (below (l ++ 0 ∷ []) A.pairs)
+      (below (l ++ 1 ∷ []) B.pairs) t (contents_below Partial schema (l ++ 0 ∷ []) zs A.pairs t h.0)
+      (contents_below Partial schema (l ++ 1 ∷ []) os B.pairs t k.0),
   hidden-append (under (l ++ 0 ∷ []) zs) (under (l ++ 1 ∷ []) os)
       ∙ (λ i. (hidden-under (l ++ 0 ∷ []) zs ∙ ap (below_parts (l ++ 0 ∷ [])) h.1) i
       ++ (hidden-under (l ++ 1 ∷ []) os ∙ ap (below_parts (l ++ 1 ∷ [])) k.1) i),

@@ -13,8 +13,9 @@ use Rattle.typed_value.specs.Values as values
 use Rattle.pruning.specs.Laid.{Laid, plain}
 use Rattle.pruning.specs.SpellsLaid.{LaidRoot, as_it_is, laid, plain_root, IsLaidRoot}
 use Rattle.pruning.specs.Spots.{at_root}
-use Rattle.pruning.specs.Cut.{Choice, cell_with, cut, cut_root, blank, blank_root, ForRest, ForRaw, Cuts}
+use Rattle.pruning.specs.Cut.{Choice, cell_with, cut, cut_root}
 use Rattle.pruning_laws.specs.CleanLaws.{IsClean}
+use Rattle.pruning_laws.specs.Cuts.{blank, blank_root, ForRest, ForRaw, Cuts}
 use Rattle.pruning_laws.specs.ReadsLaws.{Trusts, holds_go, reads}
 use Rattle.pruning_laws.specs.ChoiceLaws.{kept_rest, kept_raw, chooses, clean-seen, trusts_kept}
 use Rattle.pruning_laws.specs.SizeLaws.{no_larger}

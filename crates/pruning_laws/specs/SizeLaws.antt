@@ -7,7 +7,7 @@ use Rattle.typed_value.specs.Values as values
 use Rattle.pruning.specs.Laid.{Laid, number, bit_string, record_of, absent, list_of, ref_to, ref_to_raw, no_map}
 use Rattle.pruning.specs.Laid.{map_under, map_here, rest, Laids, no_laids, a_laid, LaidEdge, a_leaf, a_fork, join}
 use Rattle.pruning.specs.Laid.{below, plain, plain_all, plain_pairs}
-use Rattle.pruning.specs.Cut.{Parts, fork_part, map_with, ForRest, ForRaw, CutsCell, Cuts, CutsAll, CutsEdge}
+use Rattle.pruning_laws.specs.Cuts.{Parts, fork_part, map_with, ForRest, ForRaw, CutsCell, Cuts, CutsAll, CutsEdge}
 
 pub record NoLarger (w v : Plain) : Type 0 where
   pub deep : levels w ≤ levels v

@@ -32,15 +32,16 @@ use Rattle.pruning.specs.SpellsLaid.{LaidRoot, as_it_is, laid, plain_root, IsLai
 use Rattle.pruning.specs.Spots.{Where, at_root, stepped, past, in_edge, in_ref, spot, first_name, other_names}
 use Rattle.pruning.specs.Spots.{spots_of}
 use Rattle.pruning.specs.Blanked.{KeyPart, hidden_of, Blanked}
-use Rattle.pruning.specs.Cut.{cell_with, Parts, below_parts, leaf_part, fork_part, hidden_part, map_with, blank}
-use Rattle.pruning.specs.Cut.{blank_fields, blank_items, blank_edge, ForRest, ForRaw, CutsCell, Cuts, CutsAll}
-use Rattle.pruning.specs.Cut.{CutsEdge}
+use Rattle.pruning.specs.Cut.{cell_with}
 use Rattle.pruning.specs.Thinned.{Thins, same as thins_same, record_thins, list_thins, ref_thins, map_thins}
 use Rattle.pruning.specs.Thinned.{raw_thins, rest_thins, AllThin, no_more, one_more, PairsThin, no_pair, one_pair}
 use Rattle.pruning.specs.Thinned.{below_child, subtree, is_pruned_kind, is_pruned, pruned_in, ReadsThinned}
 use Rattle.pruning_laws.specs.BlankedLaws.{RootApart, blanks}
 use Rattle.pruning_laws.specs.ChoiceLaws.{all_same, clean-seen}
 use Rattle.pruning_laws.specs.CleanLaws.{IsClean, AllClean, clean-left, clean-right, clean-below}
+use Rattle.pruning_laws.specs.Cuts.{Parts, below_parts, leaf_part, fork_part, hidden_part, map_with, blank}
+use Rattle.pruning_laws.specs.Cuts.{blank_fields, blank_items, blank_edge, ForRest, ForRaw, CutsCell, Cuts, CutsAll}
+use Rattle.pruning_laws.specs.Cuts.{CutsEdge}
 use Rattle.pruning_laws.specs.FilledLaws.{IsFilled, AreFilled, IsFilledEdge, cell_filled, takes}
 use Rattle.pruning_laws.specs.KnownLaws.{left_part, right_part}
 use Rattle.pruning_laws.specs.ReadsLaws.{Trusts, all-length}

@@ -7,7 +7,7 @@ use Rattle.schema_leads.specs.Leads.{begins}
 use Rattle.typed_value.specs.Values.{PlainPairs, no_pairs, a_pair}
 use Rattle.pruning.specs.Laid.{join, below}
 use Rattle.pruning.specs.Blanked.{KeyPart, others_begin, outer_among, outermost, put, put_all}
-use Rattle.pruning.specs.Cut.{below_parts}
+use Rattle.pruning_laws.specs.Cuts.{below_parts}
 use Rattle.pruning_laws.specs.KeyLaws.{begins-append, begins-same}
 
 -- ---- prefixes that are below bits

@@ -2,8 +2,8 @@
 -- Source: the TON documentation on the TL-B language (built-in types, parametrized types).
 use Rattle.std.specs.Prelude.{ℕ, Option, Some, None, drop, length}
 use Rattle.tlb_syntax.specs.Lexeme.{number_of}
-use Rattle.tlb_syntax.specs.Tree.{ExprView, ExprList, lit, named, nat32, bits, below, up_to, plus, star, out, ref, group}
-use Rattle.tlb_syntax.specs.Tree.{no_exprs, an_expr}
+use Rattle.tlb_syntax.specs.Tree.{ExprView, ExprList, lit, named, nat32, bits, below, up_to, plus, star, out, ref}
+use Rattle.tlb_syntax.specs.Tree.{group, no_exprs, an_expr}
 use Rattle.kind_terms.specs.declared.words.Family.{Family}
 use Rattle.kind_terms.specs.declared.words.Family.TheVariants.{Uint, Int, Bits}
 use Rattle.kind_terms.specs.declared.words.WordClass.{WordClass}

@@ -1,12 +1,12 @@
 -- A closed type that is named without a fault is one of the schema.
-use Rattle.std.proofs.Common.{◌≡◌, ℕ, ◌+◌, ◌<◌, ◌^◌, ap, sym, ◌∙◌, subst, List, [], ◌∷◌, length, refl, Bool, true, false, cond, drop}
-use Rattle.std.proofs.Common.{Some, None, arith}
+use Rattle.std.proofs.Common.{◌≡◌, ℕ, ◌+◌, ◌<◌, ◌^◌, ap, sym, ◌∙◌, subst, List, [], ◌∷◌, length, refl, Bool, true}
+use Rattle.std.proofs.Common.{false, cond, drop, Some, None, arith}
 use Rattle.std.specs.Prelude.{Option, option_map, nat_eq, nat_lt, not, if◌then◌else◌}
 use Rattle.std.proofs.lemmas.Bool.{eqb-true, ltb-true}
 use Rattle.tlb_syntax.specs.Lexeme.{decimal_onto, number_of}
 use Rattle.tlb_syntax.specs.Limits.{IsExpr, AreExprs}
-use Rattle.tlb_syntax.specs.Tree.{ExprView, ExprList, lit, named, nat32, bits, below, up_to, plus, star, out, ref, group}
-use Rattle.tlb_syntax.specs.Tree.{no_exprs, an_expr}
+use Rattle.tlb_syntax.specs.Tree.{ExprView, ExprList, lit, named, nat32, bits, below, up_to, plus, star, out, ref}
+use Rattle.tlb_syntax.specs.Tree.{group, no_exprs, an_expr}
 use Rattle.kind_terms.specs.declared.kind.TermKind.{TermKind}
 use Rattle.kind_terms.specs.declared.kind.TermKind.TheVariants.{NumberIn, TypeIn, NumberOut, NoKind}
 use Rattle.kind_terms.specs.declared.words.Family.{Family}
@@ -21,10 +21,11 @@ use Rattle.kind_terms.specs.Types.{TypeNamed, no_type, basic, declared, paramete
 use Rattle.closed_type.specs.View.{AnArg, number, type, onto}
 use Rattle.core_form.specs.Core.{Parameter, CoreSchema, number_in, type_in, number_out, no_parameter}
 use Rattle.core_form.specs.Closed.{Closed, ClosedArgs, ClosedOf, AreClosedOf, AreInputs, AreInputsOf, parameters_of}
-use Rattle.type_closing.specs.Closing.{an_arg, args_of, closed_by, closed_of, first_number, first_type, second_type, literal}
-use Rattle.type_closing.specs.Closing.{number_or_0, of_family, width_of}
-use Rattle.type_closing.specs.Faults.{DeclaredKinds, Fault, first_of, first_kind, later_kinds, name_fault, number_fault, arity, output}
-use Rattle.type_closing.specs.Faults.{argument_fault, arguments_fault, type_fault, type_by, type_called, declared_as}
+use Rattle.type_closing.specs.Closing.{an_arg, args_of, closed_by, closed_of, first_number, first_type, second_type}
+use Rattle.type_closing.specs.Closing.{literal, number_or_0, of_family, width_of}
+use Rattle.type_closing.specs.Faults.{DeclaredKinds, Fault, first_of, first_kind, later_kinds, name_fault, number_fault}
+use Rattle.type_closing.specs.Faults.{arity, output, argument_fault, arguments_fault, type_fault, type_by, type_called}
+use Rattle.type_closing.specs.Faults.{declared_as}
 use Rattle.type_closing.specs.Laws.{ClosingIsClosed, Declares, parameters_by}
 
 -- ---- small numbers
@@ -49,7 +50,8 @@ first_small (an_expr e es) h = literal_small e h.0
 number_small : (ds : List ℕ) → number_or_0 (number_of ds) < 2 ^ 32
 number_small ds = cases (nat_lt (decimal_onto 0 ds) (2 ^ 32)) refl
   where
-    cases : (b : Bool) → nat_lt (decimal_onto 0 ds) (2 ^ 32) ≡ b → number_or_0 (cond b (Some (decimal_onto 0 ds)) None) < 2 ^ 32
+    cases : (b : Bool) → nat_lt (decimal_onto 0 ds) (2 ^ 32) ≡ b
+        → number_or_0 (cond b (Some (decimal_onto 0 ds)) None) < 2 ^ 32
     cases true e = ltb-true (decimal_onto 0 ds) (2 ^ 32) e
     cases false e = omega arith
 
@@ -70,7 +72,8 @@ none_later (Some f) g h = cc
 
 -- ---- an argument
 
-number_alone : (d : DeclaredKinds) (h : Option Word) (most : ℕ) (e : ExprView) (t : Closed) → number_fault d h most e ≡ None
+number_alone : (d : DeclaredKinds) (h : Option Word) (most : ℕ) (e : ExprView) (t : Closed)
+    → number_fault d h most e ≡ None
     → number (literal e) ≡ an_arg e t
 number_alone d h most (lit n) t f = refl
 number_alone d h most (named x es) t f = cc
@@ -84,7 +87,8 @@ number_alone d h most (out e) t f = cc
 number_alone d h most (ref e) t f = cc
 number_alone d h most (group is) t f = cc
 
-type_alone : (d : DeclaredKinds) (h : Option Word) (e : ExprView) (t : Closed) → type_fault d h e ≡ None → type t ≡ an_arg e t
+type_alone : (d : DeclaredKinds) (h : Option Word) (e : ExprView) (t : Closed) → type_fault d h e ≡ None
+    → type t ≡ an_arg e t
 type_alone d h (lit n) t f = cc
 type_alone d h (named x es) t f = refl
 type_alone d h nat32 t f = refl
@@ -101,7 +105,8 @@ type_alone d h (group is) t f = refl
 abbrev AreArguments : CoreSchema → List TermKind → ClosedArgs → Type 0
 AreArguments s ks args = AreInputs (parameters_by ks) args × AreClosedOf s args
 
-one_argument : (s : CoreSchema) (d : DeclaredKinds) (h : Option Word) (k : TermKind) (ks : List TermKind) (e : ExprView) (rest : ClosedArgs)
+one_argument : (s : CoreSchema) (d : DeclaredKinds) (h : Option Word) (k : TermKind) (ks : List TermKind)
+    (e : ExprView) (rest : ClosedArgs)
     → IsExpr e → argument_fault d h k e (type_fault d h e) ≡ None → (type_fault d h e ≡ None → ClosedOf s (closed_of e))
     → AreArguments s ks rest → AreArguments s (k ∷ ks) (onto (an_arg e (closed_of e)) rest)
 one_argument s d h (NumberIn most) ks e rest is f closes later =
@@ -128,7 +133,8 @@ pub record Arguments (s : CoreSchema) (d : DeclaredKinds) (x : Word) (es : ExprL
 
 declared_closed : (s : CoreSchema) (d : DeclaredKinds) (x : Word) (es : ExprList) (k : Option (List TermKind))
     → option_map parameters_by k ≡ parameters_of s x → Arguments s d x es
-    → first_of (name_fault (declared_as k) x (count es)) (arguments_fault d (Some x) (parameters (declared_as k)) es) ≡ None
+    → first_of (name_fault (declared_as k) x (count es)) (arguments_fault d (Some x) (parameters (declared_as k)) es)
+    ≡ None
     → AreInputsOf (parameters_of s x) (args_of es) × AreClosedOf s (args_of es)
 declared_closed s d x es None is known f = cc
 declared_closed s d x es (Some ks) is known f = cases (nat_eq (count es) (length ks)) refl f
@@ -137,19 +143,23 @@ declared_closed s d x es (Some ks) is known f = cases (nat_eq (count es) (length
     P o = AreInputsOf o (args_of es) × AreClosedOf s (args_of es)
 
     cases : (b : Bool) → nat_eq (count es) (length ks) ≡ b
-        → first_of (cond (not b) (Some (arity x)) (cond (has_outputs ks) (Some (output x)) None)) (arguments_fault d (Some x) ks es) ≡ None
+        → first_of (cond (not b) (Some (arity x)) (cond (has_outputs ks) (Some (output x)) None))
+        (arguments_fault d (Some x) ks es) ≡ None
         → P (parameters_of s x)
     cases true e f = subst P is (known.all ks (eqb-true (count es) (length ks) e) (none_later _ _ f))
     cases false e f = cc
 
-named_closed : (s : CoreSchema) (d : DeclaredKinds) (x : Word) (es : ExprList) (w : WordClass) → Declares d s → Arguments s d x es
-    → first_of (name_fault (type_by d x w) x (count es)) (arguments_fault d (Some x) (parameters (type_by d x w)) es) ≡ None
+named_closed : (s : CoreSchema) (d : DeclaredKinds) (x : Word) (es : ExprList) (w : WordClass) → Declares d s
+    → Arguments s d x es
+    → first_of (name_fault (type_by d x w) x (count es)) (arguments_fault d (Some x) (parameters (type_by d x w)) es)
+    ≡ None
     → ClosedOf s (closed_by w x (first_number es) (second_type es) (args_of es))
 named_closed s d x es TypeWord is known f = tt
 named_closed s d x es Any is known f = tt
 named_closed s d x es Cell is known f = tt
 named_closed s d x es (Sized g) is known f = family_closed s g _ known.first
-named_closed s d x es (Numbered g) is known f = family_closed s g (width_of g x) (number_small (drop (length (family_word g)) x))
+named_closed s d x es (Numbered g) is known f =
+    family_closed s g (width_of g x) (number_small (drop (length (family_word g)) x))
 named_closed s d x es Hashmap is known f = (known.first, known.second (none_later _ _ f))
 named_closed s d x es HashmapE is known f = (known.first, known.second (none_later _ _ f))
 named_closed s d x es HashmapNode is known f = tt
@@ -177,15 +187,18 @@ mutual
   closing s d h (out e) is w f = tt
   closing s d h (group is) declares w f = tt
 
-  arguments_closed : (s : CoreSchema) (d : DeclaredKinds) (h : Option Word) (ks : List TermKind) (es : ExprList) → Declares d s
+  arguments_closed : (s : CoreSchema) (d : DeclaredKinds) (h : Option Word) (ks : List TermKind) (es : ExprList)
+      → Declares d s
       → AreExprs es → count es ≡ length ks → arguments_fault d h ks es ≡ None → AreArguments s ks (args_of es)
   arguments_closed s d h ks no_exprs is w size f = no_parameters s ks size
   arguments_closed s d h [] (an_expr e es) is w size f = absurd (omega (arith, size))
   arguments_closed s d h (k ∷ ks) (an_expr e es) is w size f =
       one_argument s d h k ks e (args_of es) w.0 (none_first _ _ f) (λ g. closing s d h e is w.0 g)
-      (let rest : count es ≡ length ks = omega (arith, size) in arguments_closed s d h ks es is w.1 rest (none_later _ _ f))
+      (let rest : count es ≡ length ks = omega (arith, size) in
+      arguments_closed s d h ks es is w.1 rest (none_later _ _ f))
 
-  first_closed : (s : CoreSchema) (d : DeclaredKinds) (h : Option Word) (ks : List TermKind) (es : ExprList) → Declares d s → AreExprs es
+  first_closed : (s : CoreSchema) (d : DeclaredKinds) (h : Option Word) (ks : List TermKind) (es : ExprList)
+      → Declares d s → AreExprs es
       → arguments_fault d h (TypeIn ∷ ks) es ≡ None → ClosedOf s (first_type es)
   first_closed s d h ks no_exprs is w f = tt
   first_closed s d h ks (an_expr e es) is w f = closing s d h e is w.0 (none_first _ _ f)

@@ -1,11 +1,11 @@
 -- What is at fault in the expression of a type word.
--- Source: the TON documentation on the TL-B language (built-in types, parametrized types); the causes and their order are this
--- project's own.
-use Rattle.std.specs.Prelude.{ℕ, ◌&&◌, not, List, [], ◌∷◌, length, Bool, true, false, Option, Some, None, nat_eq, nat_lt}
-use Rattle.std.specs.Prelude.{if◌then◌else◌}
+-- Source: the TON documentation on the TL-B language (built-in types, parametrized types); the causes and their order
+-- are this project's own.
+use Rattle.std.specs.Prelude.{ℕ, ◌&&◌, not, List, [], ◌∷◌, length, Bool, true, false, Option, Some, None, nat_eq}
+use Rattle.std.specs.Prelude.{nat_lt, if◌then◌else◌}
 use Rattle.std.specs.List.{list_any}
-use Rattle.tlb_syntax.specs.Tree.{ExprView, ExprList, lit, named, nat32, bits, below, up_to, plus, star, out, ref, group}
-use Rattle.tlb_syntax.specs.Tree.{no_exprs, an_expr}
+use Rattle.tlb_syntax.specs.Tree.{ExprView, ExprList, lit, named, nat32, bits, below, up_to, plus, star, out, ref}
+use Rattle.tlb_syntax.specs.Tree.{group, no_exprs, an_expr}
 use Rattle.kind_terms.specs.declared.kind.TermKind.{TermKind}
 use Rattle.kind_terms.specs.declared.kind.TermKind.TheVariants.{NumberIn, TypeIn, NumberOut, NoKind}
 use Rattle.kind_terms.specs.declared.words.WordClass.{WordClass}
@@ -82,7 +82,7 @@ number_name_fault h (declared ks) x n =
     if not (nat_eq n (length ks)) then arity x
     else if has_outputs ks then output x
     else kind_mismatch h
-number_name_fault h (basic ks) x n = kind_mismatch h
+number_name_fault h (basic ks) x n = if not (nat_eq n (length ks)) then kind_mismatch (Some x) else kind_mismatch h
 
 -- ---- expressions
 

@@ -85,7 +85,13 @@ fn number_name_fault<'a>(
                 Fault::KindMismatch(holder)
             }
         }
-        Sort::Basic => Fault::KindMismatch(holder),
+        Sort::Basic => {
+            if args != named.kinds.len() {
+                Fault::KindMismatch(Some(name))
+            } else {
+                Fault::KindMismatch(holder)
+            }
+        }
     }
 }
 

@@ -1,7 +1,10 @@
 pub mod Choices
 pub mod Dicts
+pub mod Fields
 pub mod Levels
 pub mod Refs
+pub mod Repeats
 pub mod Roots
 pub mod Rows
 pub mod Steps
+pub mod Turning

@@ -1,4 +1,9 @@
-use Rattle.std.proofs.Common.{◌+◌, ◌*◌}
+use Rattle.std.proofs.Common.{◌+◌, ◌*◌, drop, map}
+use Rattle.hashmap_tree.specs.Adds.{slice_of}
+use Rattle.plan_closing.specs.Counted.{scope_of}
+use Rattle.typed_value.specs.View.{pair_of}
+use Rattle.typed_reader.specs.View.{reader_of}
+use Rattle.typed_reader.proofs.Fields.{SoFar}
 use Rattle.typed_reader.proofs.reader.+read.Given as goal
 
 abbrev pub decreases-read_closed : goal.decreases-read_closed
@@ -45,3 +50,8 @@ decreases-read_declared l = 8 * l.levels + 4
 
 abbrev pub decreases-read_type : goal.decreases-read_type
 decreases-read_type l = 8 * l.levels + 5
+
+abbrev pub invariant-read_fields-loop-op : goal.invariant-read_fields-loop-op
+invariant-read_fields-loop-op l =
+    SoFar (reader_of l.levels l.mode l.plan.0) l.plan.1 l.ops (scope_of l.fn.env l.types) l.fn.begun (slice_of l.s)
+    (map pair_of l.fields) l.condition (drop l.op-index l.ops) (scope_of l.env l.types) l.begun (slice_of l.left)
