@@ -2,5 +2,3 @@ pub mod Choosing
 pub mod ChoosingLaws
 pub mod Names
 pub mod Planned
-pub mod Choosing
-pub mod Names

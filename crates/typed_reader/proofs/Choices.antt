@@ -1,5 +1,5 @@
 -- The constructor that a plan chooses is the plain reader's.
-use Rattle.std.proofs.Common.{◌≡◌, ℕ, zero, suc, Bool, true, false, ◌&&◌, cond, List, [], ◌∷◌, Option, Some, None, IsSome, refl, ap, sym, ◌∙◌, subst, slice_get}
+use Rattle.std.proofs.Common.{◌≡◌, ℕ, zero, suc, Bool, true, false, ◌&&◌, cond, List, [], ◌∷◌, Option, Some, None, IsSome, refl, ap, sym, ◌∙◌, subst, slice_get, rules}
 use Rattle.std.specs.Prelude.{bytes_eq}
 use Rattle.std.proofs.lemmas.Slice.Eq.{bytes_eq-Decides}
 use Rattle.core_form.specs.Closed.{ClosedArgs}
@@ -10,6 +10,9 @@ use Rattle.field_plan.specs.Choosing.{Enters}
 use Rattle.schema_leads.specs.Leads.{leads, some_begins}
 use Rattle.spelling.specs.PlainReader.{candidate, choose, first}
 use Rattle.spelling_laws.specs.StepLaws.{both, both_on, when_true}
+
+is_there : (scope : Scope) → IsSome (Some scope)
+is_there scope = search rules
 
 module _ (schema : CoreSchema) (x : Word) (args : ClosedArgs) (bits : List ℕ) where
   candidate_some : (c : Declaration) (scope : Scope) → Enters schema x args bits c → fit c.core args ≡ Some scope
@@ -29,9 +32,10 @@ module _ (schema : CoreSchema) (x : Word) (args : ClosedArgs) (bits : List ℕ) 
       go true (Some scope) h f =
           let b = both (bytes_eq c.of_type x) (some_begins (leads schema c) bits) h in
           let P : Option Scope → Type 0 = λ z. IsSome z in
+          let some : P (Some scope) = is_there scope in
           absurd (out (record {
             of_type = (bytes_eq-Decides c.of_type x).0 b.0;
-            fits = subst P (sym f) tt;
+            fits = subst P (sym f) some;
             begins = b.1;
           }))
 

@@ -1,5 +1,5 @@
 -- A dictionary: its tree is walked, and then its values are read.
-use Rattle.std.proofs.Common.{◌≡◌, ℕ, ◌≤◌, get_or, nat_le, arith, Bool, true, false, List, [], ◌∷◌, ◌++◌, map, length, take, drop, slice_index, Option, Some, None, Result, Ok, Err, refl, ap, sym, ◌∙◌, subst}
+use Rattle.std.proofs.Common.{◌≡◌, ℕ, ◌≤◌, nat_le, arith, Bool, true, false, List, [], ◌∷◌, ◌++◌, map, length, take, drop, slice_index, Option, Some, None, Result, Ok, Err, refl, ap, sym, ◌∙◌, subst}
 use Rattle.std.proofs.lemmas.Bool.{le-leb}
 use Rattle.bit_slice.specs.Bits.{bit_number, taken}
 use Rattle.cell_nodes.specs.declared.slice.CellSlice.{CellSlice}
@@ -69,9 +69,14 @@ pub dict_fork : (mode : Mode) (R : Reader) (h : Spot) (n : ℕ) (t : Closed) (q 
     → read_dict mode R h n t q s ≡ (leaf_values R h t q (map pair_of w.pairs.items) >>= as_map w.unknown.items (slice_of w.rest))
 dict_fork mode R h n t q s w gives out = fork_of R h t q w (first_edge mode n s) gives out
 
+key_of : List (List ℕ × Slice) → List ℕ
+key_of [] = []
+key_of (x ∷ xs) = x.0
+
 pair_key : (last : List ℕ × CellSlice) (k : List ℕ) (c : Slice) (xs ys : List (List ℕ × Slice))
     → pair_of last ∷ xs ≡ (k, c) ∷ ys → k ≡ last.0
-pair_key last k c xs ys e = sym (ap (λ z. (get_or z 0 (k, c)).0) e)
+unfolding key_of
+pair_key last k c xs ys e = sym (ap (λ z. key_of z) e)
 
 only_key : (before : List (List ℕ × CellSlice)) (last : List ℕ × CellSlice) (k : List ℕ) (c : Slice)
     → map pair_of (before ++ last ∷ []) ≡ (k, c) ∷ [] → k ≡ last.0
@@ -115,9 +120,18 @@ pub next_none : (bits : List ℕ) → taken 1 bits ≡ None → next_bit bits �
 next_none [] e = refl
 next_none (b ∷ bits) e = let some = has_one b bits in cc
 
+first_of : Option (List ℕ × List ℕ) → List ℕ
+first_of (Some x) = x.0
+first_of None = []
+
+second_of : Option (List ℕ × List ℕ) → List ℕ
+second_of (Some x) = x.1
+second_of None = []
+
 same_taken : (first rest before after : List ℕ) → (◌≡◌ {A = Option (List ℕ × List ℕ)} (Some (before, after)) (Some (first, rest)))
     → (before ≡ first) × (after ≡ rest)
-same_taken first rest before after e = (cc, cc)
+unfolding first_of second_of
+same_taken first rest before after e = (ap first_of e, ap second_of e)
 
 bit_next : (n : ℕ) (bits : List ℕ) (b : Bool) → bit_number b ≡ n → next_bit (n ∷ bits) ≡ Some (b, bits)
 bit_next n bits true e = let P : ℕ → Type 0 = λ z. next_bit (z ∷ bits) ≡ Some (true, bits) in subst P e refl

@@ -30,7 +30,7 @@ use Rattle.typed_reader.proofs.Steps.{goes_on, stops_same}
 
 -- ---- one operation
 
-after_step : Reader → Spot → Flat → List PlanOp → Step → Option Condition → Result Got Place
+abbrev after_step : Reader → Spot → Flat → List PlanOp → Step → Option Condition → Result Got Place
 after_step R h f ops x c =
     read_fields R h (items_in f (type_at f) c ops) x.scope x.begun x.left
     >>= (λ more. Ok (let got : Got = (prepend x.gives more.0, more.1, more.2) in got))
@@ -62,7 +62,7 @@ turn_first R h f c (Field x t v) ops scope q s =
 -- ---- so far
 
 -- the record's fields, of which these values stand before
-pub with_first : List Plain → Result Got Place → Result Got Place
+abbrev pub with_first : List Plain → Result Got Place → Result Got Place
 with_first vs r = r >>= (λ more. Ok (let got : Got = (prepend vs more.0, more.1, more.2) in got))
 
 prepend_more : (vs ws : List Plain) (xs : Plains) → prepend (vs ++ ws) xs ≡ prepend vs (prepend ws xs)
@@ -145,8 +145,8 @@ names_more (p ∷ ps) x = ap (λ ns. p.0 ∷ ns) (names_more ps x)
 
 parts_more : (ps : List (List ℕ × Plain)) (x : Option (List ℕ × Value))
     → parts_in (vals_in (ps ++ option_to_list (option_map pair_of x))) ≡ parts_in (vals_in ps) + parts_in (vals_of (given x))
-parts_more [] None = refl
-parts_more [] (Some p) = refl
+parts_more [] None = omega arith
+parts_more [] (Some p) = omega arith
 parts_more (p ∷ ps) x = let more = parts_more ps x in omega (arith, more)
 
 names_same : (f : Flat) (c d : Option Condition) (ops : List PlanOp)
@@ -171,7 +171,7 @@ abbrev Counted : ℕ → Step → Type 0
 Counted q x = x.begun ≡ q + parts_in (vals_of x.gives)
 
 alone_counts : (r : Result Step Place) (x : Turned) → alone r ≡ Ok x → r ≡ Ok x.0
-alone_counts (Ok y) x e = (let same : (◌≡◌ {A = Turned} (y, None) x) = ok_one (y, None) x r e in ap (λ (z : Turned). Ok z.0) same)
+alone_counts (Ok y) x e = (let same : (◌≡◌ {A = Turned} (y, None) x) = ok_one (y, None) x (Ok x) e in ap (λ (z : Turned). Ok z.0) same)
 alone_counts (Err p) x e = cc
 
 step_counts : (R : Reader) (h : Spot) (i : Item) (scope : Scope) (q : ℕ) (s : Slice) (x : Step)

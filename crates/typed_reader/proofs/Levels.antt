@@ -5,6 +5,9 @@ use Rattle.cell_nodes.specs.declared.tree.Mode.{Mode}
 use Rattle.core_form.specs.Closed.{Closed}
 use Rattle.core_form.specs.Core.{CoreSchema}
 use Rattle.hashmap_tree.specs.Entries.{Slice}
+use Rattle.plan_reading.specs.StopLaws.{stops_then}
+use Rattle.plan_reading.specs.Stops.{Stops}
+use Rattle.plan_reading.specs.declared.stop.StopError.{StopError}
 use Rattle.spelling.specs.Goals.{Goal, Shape, at_type, in_table, shape_of, typed}
 use Rattle.spelling.specs.Places.{Place, Spot, stuck}
 use Rattle.spelling.specs.PlainReader.{◌>>=◌, Found, Reader, read_goal, read_shape, read_type, reading, reported}
@@ -13,6 +16,7 @@ use Rattle.spelling.specs.declared.Cause.TheVariants.{Bulk, Nesting, Width}
 use Rattle.spelling_laws.specs.StepLaws.{bind_on, reported_on, when_true, when_false}
 use Rattle.typed_value.specs.Values.{most_parts}
 use Rattle.typed_reader.specs.Begun.{starting}
+use Rattle.typed_reader.proofs.Steps.{stops_same}
 
 -- the reader of what stands in a value
 abbrev pub within : ℕ → Mode → CoreSchema → Reader
@@ -29,6 +33,13 @@ reading_begins zero mode schema h g q s = refl
 reading_begins (suc n) mode schema h g q s =
     let below : suc n - 1 ≡ n = omega arith in
     rw below (by_test (nat_lt q most_parts) (q + 1) (stuck h Bulk) (λ k. read_goal mode schema (reading n most_parts mode schema) h g k s))
+
+-- where it has not
+pub begin_stops : (n : ℕ) (mode : Mode) (schema : CoreSchema) (h : Spot) (g : Goal) (q : ℕ) (s : Slice) (e : StopError)
+    → Stops h e (starting n q h) → Stops h e (reading n most_parts mode schema h g q s)
+begin_stops n mode schema h g q s e stop =
+    stops_same h e _ _ (reading_begins n mode schema h g q s)
+    (stops_then h e (starting n q h) (λ k. read_goal mode schema (within n mode schema) h g k s) stop)
 
 -- where it has begun
 pub reading_on : (n : ℕ) (mode : Mode) (schema : CoreSchema) (h : Spot) (g : Goal) (q k : ℕ) (s : Slice)

@@ -94,6 +94,18 @@ cell_as_is n mode schema h t q c e =
     (reading_begins n mode schema h at_cell q (only_ref c))
     ∙ begun_alone h c (starting n q h)
 
+pub cell_stops : (n : ℕ) (mode : Mode) (schema : CoreSchema) (h : Spot) (t : Closed) (q : ℕ) (c : Tree) (e : StopError)
+    → is_whole t ≡ true → Stops h e (starting n q h)
+    → Stops h e (cell_value (reading n most_parts mode schema) h (under_ref t) q c)
+cell_stops n mode schema h t q c e whole stop =
+    stops_same h e _ _ (cell_as_is n mode schema h t q c whole) (stops_then h e (starting n q h) (λ k. Ok (raw c)) stop)
+
+pub cell_raw : (n : ℕ) (mode : Mode) (schema : CoreSchema) (h : Spot) (t : Closed) (q k : ℕ) (c : Tree)
+    → is_whole t ≡ true → starting n q h ≡ Ok k
+    → cell_value (reading n most_parts mode schema) h (under_ref t) q c ≡ Ok (raw c)
+cell_raw n mode schema h t q k c whole begun =
+    cell_as_is n mode schema h t q c whole ∙ ap (λ z. z >>= (λ k. Ok (raw c))) begun
+
 pub cell_exotic : (R : Reader) (h : Spot) (t : Closed) (q : ℕ) (c : Tree) → is_whole t ≡ false
     → ((out-Tree c).kind ≡ kinds.Ordinary → ⊥) → cell_value R h (under_ref t) q c ≡ Err (stuck h Exotic)
 cell_exotic R h t q c e other =

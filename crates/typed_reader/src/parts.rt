@@ -1,6 +1,8 @@
 //! The parts of a reading that read no other value.
 ghost use Rattle.std.specs.Prelude.{◌≡◌, ◌<◌, ◌+◌, ◌++◌, ◌≤◌, ◌^◌, List, Option, None, Ok, [], false, true};
-ghost use Rattle.std.specs.Prelude.{IfOk, OnOk, length, map, option_map, option_to_list};
+ghost use Rattle.std.specs.Prelude.{◌≢◌, MatchOption, IfOk, OnOk, length, map, option_map, option_to_list};
+ghost use Rattle.cell_nodes.specs.declared.tree.Kind.TheVariants.{Ordinary};
+ghost use Rattle.cell_nodes.specs.declared.tree.Tree.{out-Tree};
 ghost use Rattle.closed_type.specs.View.{closed_type as type_view};
 ghost use Rattle.closed_type.specs.declared.tree.ClosedType.{ClosedType as TheClosedType};
 ghost use Rattle.core_form.specs.Closed as closed;
@@ -9,7 +11,7 @@ ghost use Rattle.core_form.specs.Scope as scopes;
 ghost use Rattle.flat_form.specs.Sound.{IsFlat};
 ghost use Rattle.flat_form.specs.Stands.{slot_of, type_at};
 ghost use Rattle.hashmap_tree.specs.Adds.{slice_of};
-ghost use Rattle.hashmap_tree.specs.Entries.{Slice};
+ghost use Rattle.hashmap_tree.specs.Entries.{Slice, content};
 ghost use Rattle.plan_closing.specs.Counted.{scope_of};
 ghost use Rattle.plan_reading.specs.Stops.{Gives};
 ghost use Rattle.spelling.specs.Goals as goals;
@@ -23,7 +25,7 @@ ghost use Rattle.typed_reader.specs.View.{found_view, outputs_of};
 
 use crate::found::{Found, Outputs, Step};
 use bit_slice::{BitString, Name};
-use cell_nodes::{Cell, CellSlice, Hidden, RefSlice};
+use cell_nodes::{Cell, CellSlice, Hidden, Kind, RefSlice};
 use closed_type::ClosedType;
 use flat_form::Flat;
 use hashmap_tree::WalkError;
@@ -166,6 +168,17 @@ pub fn is_whole(ty: &ClosedType) -> bool
     ensures { result ≡ is_whole (type_view ty.now) }
 {
     matches!(ty, ClosedType::Whole)
+}
+
+/// The bits and the references of an ordinary cell; no other cell is read on.
+pub fn ordinary_content(cell: &Cell) -> Option<CellSlice<'_>>
+    ensures { MatchOption result ((out-Tree cell.now).kind ≢ Ordinary)
+        (λ s. ((out-Tree cell.now).kind ≡ Ordinary) × (slice_of s ≡ content cell.now)) }
+{
+    match cell.kind() {
+        Kind::Ordinary => Some(cell.content()),
+        Kind::Pruned | Kind::Library | Kind::Proof | Kind::Update => None,
+    }
 }
 
 /// Whether no bit and no reference is left.

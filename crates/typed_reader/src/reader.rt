@@ -27,11 +27,11 @@ ghost use Rattle.typed_reader.specs.View.{core_of, found_view, given, named_by, 
 
 use crate::found::{Found, Outputs, Step};
 use crate::parts::{
-    alone, begin, bind_outputs, dict_of, is_nothing, is_whole, keep, read_int, read_number,
-    read_rest, read_string, read_uint, record_of, size, stop_of, took, without_field,
+    alone, begin, bind_outputs, dict_of, is_nothing, is_whole, keep, ordinary_content, read_int,
+    read_number, read_rest, read_string, read_uint, record_of, size, stop_of, took, without_field,
 };
 use bit_slice::{BitString, Name};
-use cell_nodes::{Cell, CellSlice, Kind, Mode};
+use cell_nodes::{Cell, CellSlice, Mode};
 use closed_type::{ClosedArg, ClosedType};
 use field_plan::Plan;
 use flat_form::PlanOp;
@@ -141,14 +141,13 @@ fn read_fields_under<'a>(
     if let Some(hidden) = unseen(cell, mode) {
         return Ok(alone(Value::Unknown(hidden), rest));
     }
-    if cell.kind() != Kind::Ordinary {
+    let Some(content) = ordinary_content(cell) else {
         return Err(stop_here(alloc, Cause::Exotic));
-    }
+    };
     // The record is a value of its own, with a level and a part.
     begin(alloc, levels, begun)?;
     let ops = plan.flat().operations(first, count);
     let mut inner = env.copy(alloc)?;
-    let content = cell.content();
     let (fields, left) = read_fields(
         alloc,
         plan,
@@ -263,10 +262,10 @@ pub fn read_cell(
         begin(alloc, levels, begun)?;
         return Ok(Value::Raw(cell.share()?));
     }
-    if cell.kind() != Kind::Ordinary {
+    let Some(content) = ordinary_content(cell) else {
         return Err(stop_here(alloc, Cause::Exotic));
-    }
-    read_whole(alloc, plan, mode, levels, begun, inner, cell.content())
+    };
+    read_whole(alloc, plan, mode, levels, begun, inner, content)
 }
 
 /// The value that the whole of a slice spells.
