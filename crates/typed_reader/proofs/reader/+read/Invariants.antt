@@ -62,6 +62,3 @@ abbrev pub invariant-read_repeat-loop-item : goal.invariant-read_repeat-loop-ite
 invariant-read_repeat-loop-item l =
     Repeated (reader_of l.levels l.mode l.plan.0) (type_view l.inner) l.count l.fn.begun (slice_of l.s)
     (map value l.items) (l.count - l._item) l.begun (slice_of l.left)
-
-abbrev pub invariant-read_leaves-loop-key : goal.invariant-read_leaves-loop-key
-invariant-read_leaves-loop-key l = ?
