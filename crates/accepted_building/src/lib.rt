@@ -1,0 +1,4 @@
+//! What holds of building in every accepted schema.
+#![tactic(auto)]
+
+pub mod laws;
