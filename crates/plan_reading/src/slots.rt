@@ -23,8 +23,8 @@ pub fn tests(number: u32, bit: u32) -> bool
     (number >> bit) % 2 == 1
 }
 
-// Sets a slot, if there is one of that number.
-fn set(env: &mut Env, slot: u32, number: u32)
+/// Sets a slot, if there is one of that number.
+pub fn set(env: &mut Env, slot: u32, number: u32)
     ensures { env.new ≡ slice_set env.old slot (Some number) }
 {
     if (slot as usize) < env.len() {
