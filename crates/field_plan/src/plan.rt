@@ -3,7 +3,9 @@ ghost use Rattle.std.specs.Prelude.{◌≡◌, ◌<◌, IfOk, Some, length, opti
 ghost use Rattle.tlb_syntax.specs.View.{schema as schema_view};
 ghost use Rattle.core_form.specs.Closing.{close};
 ghost use Rattle.core_form.specs.Core.{Declaration};
+ghost use Rattle.schema_leads.specs.Leads.{leads as leads_of};
 ghost use Rattle.schema_leads.specs.Tags.{cores};
+ghost use Rattle.type_index.specs.Index.{IsTypeIndex, places_of};
 ghost use Rattle.closed_type.specs.View.{closed_type as type_view};
 ghost use Rattle.flat_form.specs.Stands.{type_at};
 ghost use Rattle.flat_form.specs.declared.lists.ConstructorPlan.{ConstructorPlan as PlanOfConstructor};
@@ -11,16 +13,19 @@ ghost use Rattle.plan_closing.specs.Counted.{scope_of};
 ghost use Rattle.plan_closing.specs.Gives.{Closes};
 ghost use Rattle.field_plan.specs.Planned.{Planned};
 
-use bit_slice::{BitSlice, Name};
+use crate::names::{ConstructorName, names};
+use bit_slice::{BitSlice, BitString, Name};
 use closed_type::ClosedType;
 use flat_form::{ConstructorPlan, Entry, Flat, PlanArg, PlanInput, PlanOp, TypeNode};
 use nat_solver::{Env, NatExpr};
 use plan_closing::CloseError;
 use plan_compile::{CompiledSchema, compile_constructors};
+use sqlite_items::Items;
 use std::alloc::Global;
 use std::marker::Model;
 use tag_ambiguity::Accepted;
 use tlb_memory::NoMemory;
+use type_index::TypeIndex;
 
 /// The plan of an accepted schema. Contracts see it as the schema, the lists, and what each constructor has beside
 /// them, in the schema's order, which numbers constructors from 0.
@@ -28,6 +33,8 @@ use tlb_memory::NoMemory;
 pub struct Plan {
     accepted: Accepted,
     compiled: CompiledSchema,
+    index: TypeIndex,
+    names: Items<ConstructorName>,
 }
 
 impl Model for Plan {
@@ -56,8 +63,16 @@ impl Model for Plan {
 pub fn compile(alloc: Global, accepted: Accepted) -> Result<Plan, NoMemory>
     ensures { IfOk result (λ plan. plan.0 ≡ accepted) }
 {
-    let compiled = compile_constructors(alloc, accepted.schema().constructors.as_slice())?;
-    Ok(Plan { accepted, compiled })
+    let constructors = accepted.schema().constructors.as_slice();
+    let compiled = compile_constructors(alloc, constructors)?;
+    let index = TypeIndex::of(alloc, constructors)?;
+    let names = names(alloc, &index, constructors)?;
+    Ok(Plan {
+        accepted,
+        compiled,
+        index,
+        names,
+    })
 }
 
 impl Plan {
@@ -67,6 +82,50 @@ impl Plan {
         ensures planned { Planned (schema_view self.now.0) result.now self.now.2 }
     {
         &self.compiled.flat
+    }
+
+    /// The types of the schema by their names.
+    pub fn index(&self) -> &TypeIndex
+        ensures { IsTypeIndex result.now (schema_view self.now.0) }
+    {
+        &self.index
+    }
+
+    // The constructors of a type, in order.
+    pub(crate) fn of_type(&self, type_name: &Name) -> &[u32]
+        ensures { result.now ≡ places_of (schema_view self.now.0) type_name.now }
+    {
+        match self.index.find(type_name.text()) {
+            Some(entry) => entry.constructors.as_slice(),
+            None => &[],
+        }
+    }
+
+    fn name(&self, c: u32) -> &ConstructorName
+        requires { c < length self.now.2 }
+    {
+        match self.names.get(c as usize) {
+            Some(name) => name,
+            None => unreachable!(),
+        }
+    }
+
+    /// The place of a constructor in its type, from 1: by one look-up in a list.
+    pub fn number(&self, c: u32) -> u32
+        requires { c < length self.now.2 }
+        ensures { option_map (λ (d : Declaration). d.number) (slice_get (cores (schema_view self.now.0)) c)
+            ≡ Some result }
+    {
+        self.name(c).number
+    }
+
+    /// The name that a constructor is shown by: by one look-up in a list.
+    pub fn shown_name(&self, c: u32) -> &Name
+        requires { c < length self.now.2 }
+        ensures { option_map (λ (d : Declaration). d.shown) (slice_get (cores (schema_view self.now.0)) c)
+            ≡ Some result.now }
+    {
+        &self.name(c).shown
     }
 
     fn constructor(&self, c: u32) -> &ConstructorPlan
@@ -124,6 +183,15 @@ impl Plan {
             ≡ Some result }
     {
         self.accepted.tag(c)
+    }
+
+    // The leads of a constructor.
+    pub(crate) fn leads(&self, c: u32) -> &[BitString]
+        requires { c < length self.now.0.constructors }
+        ensures { option_map (leads_of (cores (schema_view self.now.0))) (slice_get (cores (schema_view self.now.0)) c)
+            ≡ Some result.now }
+    {
+        self.accepted.leads(c)
     }
 
     /// The inputs of a constructor's result, in order.

@@ -11,3 +11,4 @@ mod types;
 mod words;
 
 pub use compile::{CompiledSchema, compile_constructors};
+pub use shown::numbered;

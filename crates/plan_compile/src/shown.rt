@@ -6,9 +6,9 @@ use bit_slice::Name;
 use std::alloc::Global;
 use tlb_memory::NoMemory;
 
-// `_` and a number from 1 on.
+/// `_` and a number, from 1 on.
 #[tactic(auto, using(crate::proofs::UnnamedNames::is_numbered_name))]
-fn numbered(alloc: Global, number: u64) -> Result<Name, NoMemory>
+pub fn numbered(alloc: Global, number: u64) -> Result<Name, NoMemory>
     requires { 0 < number }
     ensures { IfOk result (λ n. n ≡ codes "_" ++ decimal number) }
 {
