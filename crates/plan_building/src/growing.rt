@@ -1,0 +1,271 @@
+//! A content that grows.
+ghost use Rattle.std.specs.Prelude.{◌≡◌, ◌+◌, ◌≤◌, ◌<◌, ◌^◌, ◌&&◌, ◌||◌, ◌∷◌, [], ℕ, Bool, IfOk, OnOk, false, length, nat_eq, nat_lt, not, true};
+ghost use Rattle.bit_slice.specs.Bits.{InSignedRange, signed_spelled, spelled};
+ghost use Rattle.building.specs.Growing as growing;
+ghost use Rattle.building.specs.PlainBuilder as plain;
+ghost use Rattle.cell_nodes.specs.Constructed.{pruned_of};
+ghost use Rattle.hashmap_tree.specs.Entries.{Slice, cell_of};
+ghost use Rattle.plan_reading.specs.Stops.{Gives};
+ghost use Rattle.spelling.specs.Places.{Spot};
+ghost use Rattle.spelling.specs.Slices.{only_bits, only_ref};
+ghost use Rattle.plan_building.specs.View.{grown, laid};
+
+use bit_slice::BitSlice;
+use cell_nodes::{Cell, CellBuilder, Hidden, Mode, RefSlice};
+use plan_reading::{StopError, stop_here};
+use spelling::Cause;
+use std::alloc::Global;
+use tlb_memory::NoMemory;
+use typed_value::RestPart;
+
+/// What a cell holds so far, and whether a value was put that takes all that is left: nothing may follow it.
+#[derive(Drop)]
+pub struct Growing {
+    pub cell: CellBuilder,
+    pub shut: bool,
+}
+
+impl Growing {
+    /// No content yet.
+    pub fn new(alloc: Global) -> Result<Growing, NoMemory>
+        ensures { IfOk result (λ b. grown b ≡ growing.empty) }
+    {
+        let cell = CellBuilder::new(alloc)?;
+        Ok(Growing { cell, shut: false })
+    }
+
+    /// How many bits and references it holds.
+    pub fn size(&self) -> (u32, u32)
+        ensures { result ≡ (length (grown self.now).held.bits, length (grown self.now).held.refs) }
+    {
+        let content = self.cell.content();
+        (content.bits.len(), content.refs.len())
+    }
+
+    /// The ordinary cell.
+    pub fn finish(self, alloc: Global) -> Result<Cell, NoMemory>
+        ensures { IfOk result (λ c. c ≡ cell_of (grown self).held) }
+    {
+        self.cell.finish(alloc)
+    }
+}
+
+// Whether something would follow a value that takes all that is left.
+fn is_shut(b: &Growing, bits: u32, refs: usize) -> bool
+    ensures { result ≡ (b.now.shut && not (nat_eq bits 0 && nat_eq refs 0)) }
+{
+    b.shut && !(bits == 0 && refs == 0)
+}
+
+// Whether one cell can't hold so many bits and references more.
+fn is_over(b: &Growing, bits: u32, refs: usize) -> bool
+    ensures { result ≡ (nat_lt 1023 (length b.now.cell.bits + bits) || nat_lt 4 (length b.now.cell.refs + refs)) }
+{
+    b.cell.within();
+    let (held_bits, held_refs) = b.size();
+    bits > 1023 - held_bits || refs > 4 - held_refs as usize
+}
+
+// Whether an item of so many bits and references may be put, of which a reference is too deep or none.
+fn admit(alloc: Global, b: &Growing, bits: u32, refs: usize, deep: bool) -> Result<(), StopError>
+    ensures put { (h : Spot) (x : Slice) (last : Bool) → bits ≡ length x.bits → refs ≡ length x.refs
+        → Gives h (λ _. laid x last (grown b.now)) result (plain.put h x deep last (grown b.now)) }
+    ensures bits { OnOk result (length b.now.cell.bits + bits ≤ 1023) }
+    ensures refs { OnOk result (length b.now.cell.refs + refs ≤ 4) }
+    ensures low { OnOk result (deep ≡ false) }
+{
+    if is_shut(b, bits, refs) {
+        return Err(stop_here(alloc, Cause::AfterRest));
+    }
+    if is_over(b, bits, refs) {
+        return Err(stop_here(alloc, Cause::Full));
+    }
+    if deep {
+        return Err(stop_here(alloc, Cause::TooDeep));
+    }
+    Ok(())
+}
+
+/// Adds bits.
+pub fn put_bits(alloc: Global, bits: BitSlice<'_>, b: &mut Growing) -> Result<(), StopError>
+    ensures { (h : Spot) → Gives h (λ _. grown b.new) result
+        (plain.put h (only_bits bits.entry) false false (grown b.old)) }
+{
+    admit(alloc, b, bits.len(), 0, false)?;
+    let _ = b.cell.push_bits(bits);
+    Ok(())
+}
+
+/// Adds the lowest `width` bits of a number.
+pub fn put_number(alloc: Global, number: u128, width: u32, b: &mut Growing) -> Result<(), StopError>
+    requires wide { width ≤ 128 }
+    requires fits { number < 2 ^ width }
+    ensures { (h : Spot) → Gives h (λ _. grown b.new) result
+        (plain.put h (only_bits (spelled width number)) false false (grown b.old)) }
+{
+    admit(alloc, b, width, 0, false)?;
+    let _ = b.cell.push_number(number, width);
+    Ok(())
+}
+
+/// Adds the `width` bits of an integer in two's complement.
+pub fn put_signed(
+    alloc: Global,
+    integer: i128,
+    width: u32,
+    b: &mut Growing,
+) -> Result<(), StopError>
+    requires wide { width ≤ 128 }
+    requires range { InSignedRange width integer }
+    ensures { (h : Spot) → Gives h (λ _. grown b.new) result
+        (plain.put h (only_bits (signed_spelled width integer)) false false (grown b.old)) }
+{
+    admit(alloc, b, width, 0, false)?;
+    let _ = b.cell.push_signed(integer, width);
+    Ok(())
+}
+
+/// Whether the cell can't stand below another.
+pub fn is_deep(cell: &Cell) -> bool
+    ensures { result ≡ growing.is_deep cell.now }
+{
+    cell.good();
+    cell.depth(0)
+        .max(cell.depth(1))
+        .max(cell.depth(2))
+        .max(cell.depth(3))
+        > 1023
+}
+
+/// Adds a reference.
+pub fn put_ref(alloc: Global, cell: Cell, b: &mut Growing) -> Result<(), StopError>
+    ensures { (h : Spot) → Gives h (λ _. grown b.new) result
+        (plain.put h (only_ref cell) (growing.is_deep cell) false (grown b.old)) }
+{
+    let deep = is_deep(&cell);
+    admit(alloc, b, 0, 1, deep)?;
+    let _ = b.cell.push_ref(cell);
+    Ok(())
+}
+
+/// Adds the pruned branch of a hidden part, in mode Partial alone.
+pub fn put_hidden(
+    alloc: Global,
+    mode: Mode,
+    hidden: Hidden,
+    b: &mut Growing,
+) -> Result<(), StopError>
+    ensures { (h : Spot) → Gives h (λ _. ([], grown b.new)) result
+        (plain.make_hidden mode h hidden (grown b.old)) }
+{
+    match mode {
+        Mode::Partial => {}
+        Mode::Whole | Mode::Lax => return Err(stop_here(alloc, Cause::Shape)),
+    }
+    admit(alloc, b, 0, 1, hidden.depth > 1023)?;
+    match Cell::pruned(alloc, &hidden.hash, hidden.depth) {
+        Ok(cell) => {
+            let _ = b.cell.push_ref(cell);
+            Ok(())
+        }
+        Err(_) => Err(StopError::NoMemory),
+    }
+}
+
+// Adds references that there is room for.
+fn add_refs(refs: &[Cell], b: &mut Growing) -> Result<(), NoMemory>
+    requires room { length b.old.cell.refs + length refs.now ≤ 4 }
+    requires low { growing.some_deep refs.now ≡ false }
+{
+    for cell in refs {
+        let _ = b.cell.push_ref(cell.share()?);
+    }
+    Ok(())
+}
+
+/// Adds all that a rest has. Nothing may follow it.
+pub fn put_rest(alloc: Global, rest: &RestPart, b: &mut Growing) -> Result<(), StopError>
+    ensures { (h : Spot) → Gives h (λ _. grown b.new) result
+        (plain.put h (record { bits = rest.now.bits; refs = rest.now.refs }) (growing.some_deep rest.now.refs) true
+        (grown b.old)) }
+{
+    let bits = rest.bits.slice();
+    let refs = rest.refs.as_slice();
+    admit(alloc, b, bits.len(), refs.len(), refs.iter().any(is_deep))?;
+    let _ = b.cell.push_bits(bits);
+    add_refs(refs, b)?;
+    b.shut = true;
+    Ok(())
+}
+
+// Adds references that there is room for.
+fn add_held(refs: RefSlice<'_>, b: &mut Growing) -> Result<(), NoMemory>
+    requires room { length b.old.cell.refs + length refs ≤ 4 }
+    requires low { growing.some_deep refs ≡ false }
+{
+    let mut left = refs;
+    while let Some((cell, more)) = left.first() {
+        let _ = b.cell.push_ref(cell.share()?);
+        left = more;
+    }
+    Ok(())
+}
+
+/// Adds a content, whose references are not too deep. Where it is the last, nothing may follow it.
+pub(crate) fn put_content(
+    alloc: Global,
+    content: &CellBuilder,
+    last: bool,
+    b: &mut Growing,
+) -> Result<(), StopError>
+    ensures { (h : Spot) → Gives h (λ _. grown b.new) result
+        (plain.put h (record { bits = content.now.bits; refs = content.now.refs }) false last (grown b.old)) }
+{
+    content.within();
+    let held = content.content();
+    admit(alloc, b, held.bits.len(), held.refs.len() as usize, false)?;
+    let _ = b.cell.push_bits(held.bits);
+    add_held(held.refs, b)?;
+    b.shut = b.shut || last;
+    Ok(())
+}
+
+/// Adds the bit 0.
+pub(crate) fn put_empty(alloc: Global, b: &mut Growing) -> Result<(), StopError>
+    ensures { (h : Spot) → Gives h (λ _. grown b.new) result (plain.put h (only_bits (0 ∷ [])) false false (grown b.old)) }
+{
+    put_number(alloc, 0, 1, b)
+}
+
+/// Adds the bit 1 and a reference to this cell.
+pub(crate) fn put_root(alloc: Global, cell: Cell, b: &mut Growing) -> Result<(), StopError>
+    ensures { (h : Spot) → Gives h (λ _. grown b.new) result
+        (plain.put h (record { bits = 1 ∷ []; refs = cell ∷ [] }) (growing.is_deep cell) false (grown b.old)) }
+{
+    let deep = is_deep(&cell);
+    admit(alloc, b, 1, 1, deep)?;
+    let _ = b.cell.push_number(1, 1);
+    let _ = b.cell.push_ref(cell);
+    Ok(())
+}
+
+/// Adds the bit 1 and the pruned branch of a hidden part.
+pub(crate) fn put_hidden_root(
+    alloc: Global,
+    hidden: Hidden,
+    b: &mut Growing,
+) -> Result<(), StopError>
+    ensures { (h : Spot) → Gives h (λ _. grown b.new) result
+        (plain.put h (record { bits = 1 ∷ []; refs = pruned_of hidden.hash hidden.depth ∷ [] })
+        (nat_lt 1023 hidden.depth) false (grown b.old)) }
+{
+    admit(alloc, b, 1, 1, hidden.depth > 1023)?;
+    match Cell::pruned(alloc, &hidden.hash, hidden.depth) {
+        Ok(cell) => {
+            let _ = b.cell.push_number(1, 1);
+            let _ = b.cell.push_ref(cell);
+            Ok(())
+        }
+        Err(_) => Err(StopError::NoMemory),
+    }
+}
