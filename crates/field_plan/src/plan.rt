@@ -1,6 +1,8 @@
 //! Plans.
 ghost use Rattle.std.specs.Prelude.{◌≡◌, ◌<◌, IfOk, Some, length, option_map, slice_get};
 ghost use Rattle.tlb_syntax.specs.View.{schema as schema_view};
+ghost use Rattle.accepted_schema.specs.Accepted.{IsAccepted};
+ghost use Rattle.tlb_kinds.specs.Refusals.{kept_of};
 ghost use Rattle.core_form.specs.Closing.{close};
 ghost use Rattle.core_form.specs.Core.{Declaration};
 ghost use Rattle.schema_leads.specs.Leads.{leads as leads_of};
@@ -25,6 +27,7 @@ use std::alloc::Global;
 use std::marker::Model;
 use tag_ambiguity::Accepted;
 use tlb_memory::NoMemory;
+use tlb_syntax::Schema;
 use type_index::TypeIndex;
 
 /// The plan of an accepted schema. Contracts see it as the schema, the lists, and what each constructor has beside
@@ -82,6 +85,15 @@ impl Plan {
         ensures planned { Planned (schema_view self.now.0) result.now self.now.2 }
     {
         &self.compiled.flat
+    }
+
+    /// The schema.
+    pub fn schema(&self) -> &Schema
+        ensures same { result.now ≡ self.now.0 }
+        ensures accepted { IsAccepted (schema_view self.now.0) }
+        ensures kept { kept_of (schema_view self.now.0) ≡ schema_view self.now.0 }
+    {
+        self.accepted.schema()
     }
 
     /// The types of the schema by their names.

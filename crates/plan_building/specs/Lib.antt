@@ -1,3 +1,4 @@
 pub mod View
+pub mod StopsLaws
 pub mod Begun
 pub mod Numbers

@@ -9,10 +9,11 @@ ghost use Rattle.hashmap_tree.specs.Plants.{leaf_of as plant_leaf};
 ghost use Rattle.plan_reading.specs.Stops.{Gives};
 ghost use Rattle.spelling.specs.Places.{Spot};
 ghost use Rattle.typed_value.specs.View.{pair_of, pairs_of};
-ghost use Rattle.plan_building.specs.View.{grown, leaf_of};
+ghost use Rattle.plan_building.specs.View.{grown, leaf_of, made};
 
 use crate::growing::{Growing, put_content, put_empty, put_hidden_root, put_root};
 use crate::halves::plant_parts;
+use crate::outputs::Outputs;
 use bit_slice::BitString;
 use cell_nodes::{CellBuilder, Hidden, Mode};
 use hashmap_tree::{PlantError, are_entries, plant};
@@ -163,9 +164,9 @@ pub fn plant_here(
     leaves: Vec<(BitString, Growing)>,
     unknown: &[(BitString, Hidden)],
     b: &mut Growing,
-) -> Result<(), StopError>
+) -> Result<Outputs, StopError>
     requires { n ≤ 1023 }
-    ensures { (h : Spot) → Gives h (λ _. ([], grown b.new)) result
+    ensures { (h : Spot) → Gives h (made b.new) result
         (plain.plant_here h n (plain.entries_of (map leaf_of leaves.items) unknown.now)
         (plain.is_last (map leaf_of leaves.items) unknown.now) (grown b.old)) }
 {
@@ -189,9 +190,9 @@ pub fn plant_root(
     leaves: Vec<(BitString, Growing)>,
     unknown: &[(BitString, Hidden)],
     b: &mut Growing,
-) -> Result<(), StopError>
+) -> Result<Outputs, StopError>
     requires { n ≤ 1023 }
-    ensures { (h : Spot) → Gives h (λ _. ([], grown b.new)) result
+    ensures { (h : Spot) → Gives h (made b.new) result
         (plain.plant_root h n (plain.entries_of (map leaf_of leaves.items) unknown.now) (grown b.old)) }
 {
     let leaves = contents(alloc, leaves)?;

@@ -1,15 +1,19 @@
 //! A content that grows.
-ghost use Rattle.std.specs.Prelude.{◌≡◌, ◌+◌, ◌≤◌, ◌<◌, ◌^◌, ◌&&◌, ◌||◌, ◌∷◌, [], ℕ, Bool, IfOk, OnOk, false, length, nat_eq, nat_lt, not, true};
+ghost use Rattle.std.specs.Prelude.{◌≡◌, ◌+◌, ◌≤◌, ◌<◌, ◌^◌, ◌&&◌, ◌||◌, ◌++◌, ◌∷◌, [], ℕ, Bool, IfOk, OnOk, false, length, nat_eq, nat_lt, not, true};
 ghost use Rattle.bit_slice.specs.Bits.{InSignedRange, signed_spelled, spelled};
 ghost use Rattle.building.specs.Growing as growing;
+ghost use Rattle.building.specs.Growing.{Grown};
 ghost use Rattle.building.specs.PlainBuilder as plain;
 ghost use Rattle.cell_nodes.specs.Constructed.{pruned_of};
+ghost use Rattle.cell_nodes.specs.HeldLaws.{AreBelow};
 ghost use Rattle.hashmap_tree.specs.Entries.{Slice, cell_of};
+ghost use Rattle.hashmap_tree.specs.Plants.{held_of};
 ghost use Rattle.plan_reading.specs.Stops.{Gives};
 ghost use Rattle.spelling.specs.Places.{Spot};
 ghost use Rattle.spelling.specs.Slices.{only_bits, only_ref};
-ghost use Rattle.plan_building.specs.View.{grown, laid};
+ghost use Rattle.plan_building.specs.View.{grown, laid, made};
 
+use crate::outputs::Outputs;
 use bit_slice::BitSlice;
 use cell_nodes::{Cell, CellBuilder, Hidden, Mode, RefSlice};
 use plan_reading::{StopError, stop_here};
@@ -48,6 +52,14 @@ impl Growing {
     {
         self.cell.finish(alloc)
     }
+}
+
+/// Whether it holds more bits or references than before.
+pub fn grew(before: (u32, u32), b: &Growing) -> bool
+    ensures { (x : Grown) → before ≡ (length x.held.bits, length x.held.refs) → result ≡ plain.grew x (grown b.now) }
+{
+    let (bits, refs) = b.size();
+    before.0 < bits || before.1 < refs
 }
 
 // Whether something would follow a value that takes all that is left.
@@ -154,9 +166,8 @@ pub fn put_hidden(
     mode: Mode,
     hidden: Hidden,
     b: &mut Growing,
-) -> Result<(), StopError>
-    ensures { (h : Spot) → Gives h (λ _. ([], grown b.new)) result
-        (plain.make_hidden mode h hidden (grown b.old)) }
+) -> Result<Outputs, StopError>
+    ensures { (h : Spot) → Gives h (made b.new) result (plain.make_hidden mode h hidden (grown b.old)) }
 {
     match mode {
         Mode::Partial => {}
@@ -166,46 +177,58 @@ pub fn put_hidden(
     match Cell::pruned(alloc, &hidden.hash, hidden.depth) {
         Ok(cell) => {
             let _ = b.cell.push_ref(cell);
-            Ok(())
+            Ok(Outputs::Empty)
         }
         Err(_) => Err(StopError::NoMemory),
     }
 }
 
 // Adds references that there is room for.
-fn add_refs(refs: &[Cell], b: &mut Growing) -> Result<(), NoMemory>
-    requires room { length b.old.cell.refs + length refs.now ≤ 4 }
-    requires low { growing.some_deep refs.now ≡ false }
+fn add_refs(refs: &[Cell], cell: &mut CellBuilder) -> Result<(), NoMemory>
+    requires room { length cell.old.refs + length refs.now ≤ 4 }
+    requires below { AreBelow refs.now }
+    ensures bits { OnOk result (cell.new.bits ≡ cell.old.bits) }
+    ensures refs { OnOk result (cell.new.refs ≡ cell.old.refs ++ refs.now) }
 {
-    for cell in refs {
-        let _ = b.cell.push_ref(cell.share()?);
+    for child in refs {
+        let _ = cell.push_ref(child.share()?);
     }
     Ok(())
 }
 
+// Whether one of the cells can't stand below another.
+fn some_deep(cells: &[Cell]) -> bool
+    ensures { result ≡ growing.some_deep cells.now }
+{
+    cells.iter().any(is_deep)
+}
+
 /// Adds all that a rest has. Nothing may follow it.
-pub fn put_rest(alloc: Global, rest: &RestPart, b: &mut Growing) -> Result<(), StopError>
-    ensures { (h : Spot) → Gives h (λ _. grown b.new) result
-        (plain.put h (record { bits = rest.now.bits; refs = rest.now.refs }) (growing.some_deep rest.now.refs) true
-        (grown b.old)) }
+pub fn put_rest(alloc: Global, rest: &RestPart, b: &mut Growing) -> Result<Outputs, StopError>
+    ensures { (h : Spot) → Gives h (made b.new) result
+        (plain.put_alone h (record { bits = rest.now.bits; refs = rest.now.refs }) (growing.some_deep rest.now.refs)
+        true (grown b.old)) }
 {
     let bits = rest.bits.slice();
     let refs = rest.refs.as_slice();
-    admit(alloc, b, bits.len(), refs.len(), refs.iter().any(is_deep))?;
+    let deep = some_deep(refs);
+    admit(alloc, b, bits.len(), refs.len(), deep)?;
     let _ = b.cell.push_bits(bits);
-    add_refs(refs, b)?;
+    add_refs(refs, &mut b.cell)?;
     b.shut = true;
-    Ok(())
+    Ok(Outputs::Empty)
 }
 
 // Adds references that there is room for.
-fn add_held(refs: RefSlice<'_>, b: &mut Growing) -> Result<(), NoMemory>
-    requires room { length b.old.cell.refs + length refs ≤ 4 }
-    requires low { growing.some_deep refs ≡ false }
+fn add_held(refs: RefSlice<'_>, cell: &mut CellBuilder) -> Result<(), NoMemory>
+    requires room { length cell.old.refs + length refs ≤ 4 }
+    requires below { AreBelow refs }
+    ensures bits { OnOk result (cell.new.bits ≡ cell.old.bits) }
+    ensures refs { OnOk result (cell.new.refs ≡ cell.old.refs ++ refs.entry) }
 {
     let mut left = refs;
-    while let Some((cell, more)) = left.first() {
-        let _ = b.cell.push_ref(cell.share()?);
+    while let Some((child, more)) = left.first() {
+        let _ = cell.push_ref(child.share()?);
         left = more;
     }
     Ok(())
@@ -217,36 +240,37 @@ pub(crate) fn put_content(
     content: &CellBuilder,
     last: bool,
     b: &mut Growing,
-) -> Result<(), StopError>
-    ensures { (h : Spot) → Gives h (λ _. grown b.new) result
-        (plain.put h (record { bits = content.now.bits; refs = content.now.refs }) false last (grown b.old)) }
+) -> Result<Outputs, StopError>
+    ensures { (h : Spot) → Gives h (made b.new) result
+        (plain.put_alone h (held_of content.now) false last (grown b.old)) }
 {
     content.within();
     let held = content.content();
     admit(alloc, b, held.bits.len(), held.refs.len() as usize, false)?;
     let _ = b.cell.push_bits(held.bits);
-    add_held(held.refs, b)?;
+    add_held(held.refs, &mut b.cell)?;
     b.shut = b.shut || last;
-    Ok(())
+    Ok(Outputs::Empty)
 }
 
 /// Adds the bit 0.
-pub(crate) fn put_empty(alloc: Global, b: &mut Growing) -> Result<(), StopError>
-    ensures { (h : Spot) → Gives h (λ _. grown b.new) result (plain.put h (only_bits (0 ∷ [])) false false (grown b.old)) }
+pub(crate) fn put_empty(alloc: Global, b: &mut Growing) -> Result<Outputs, StopError>
+    ensures { (h : Spot) → Gives h (made b.new) result (plain.put_bits h (0 ∷ []) [] (grown b.old)) }
 {
-    put_number(alloc, 0, 1, b)
+    put_number(alloc, 0, 1, b)?;
+    Ok(Outputs::Empty)
 }
 
 /// Adds the bit 1 and a reference to this cell.
-pub(crate) fn put_root(alloc: Global, cell: Cell, b: &mut Growing) -> Result<(), StopError>
-    ensures { (h : Spot) → Gives h (λ _. grown b.new) result
-        (plain.put h (record { bits = 1 ∷ []; refs = cell ∷ [] }) (growing.is_deep cell) false (grown b.old)) }
+pub(crate) fn put_root(alloc: Global, cell: Cell, b: &mut Growing) -> Result<Outputs, StopError>
+    ensures { (h : Spot) → Gives h (made b.new) result
+        (plain.put_root h cell (growing.is_deep cell) (grown b.old)) }
 {
     let deep = is_deep(&cell);
     admit(alloc, b, 1, 1, deep)?;
     let _ = b.cell.push_number(1, 1);
     let _ = b.cell.push_ref(cell);
-    Ok(())
+    Ok(Outputs::Empty)
 }
 
 /// Adds the bit 1 and the pruned branch of a hidden part.
@@ -254,17 +278,16 @@ pub(crate) fn put_hidden_root(
     alloc: Global,
     hidden: Hidden,
     b: &mut Growing,
-) -> Result<(), StopError>
-    ensures { (h : Spot) → Gives h (λ _. grown b.new) result
-        (plain.put h (record { bits = 1 ∷ []; refs = pruned_of hidden.hash hidden.depth ∷ [] })
-        (nat_lt 1023 hidden.depth) false (grown b.old)) }
+) -> Result<Outputs, StopError>
+    ensures { (h : Spot) → Gives h (made b.new) result
+        (plain.put_root h (pruned_of hidden.hash hidden.depth) (nat_lt 1023 hidden.depth) (grown b.old)) }
 {
     admit(alloc, b, 1, 1, hidden.depth > 1023)?;
     match Cell::pruned(alloc, &hidden.hash, hidden.depth) {
         Ok(cell) => {
             let _ = b.cell.push_number(1, 1);
             let _ = b.cell.push_ref(cell);
-            Ok(())
+            Ok(Outputs::Empty)
         }
         Err(_) => Err(StopError::NoMemory),
     }

@@ -1,5 +1,5 @@
 //! The parts of a record, and where a building begins and stops.
-ghost use Rattle.std.specs.Prelude.{◌≡◌, ◌≤◌, ℕ, map};
+ghost use Rattle.std.specs.Prelude.{◌≡◌, ◌+◌, ◌<◌, None, OnOk, length, map};
 ghost use Rattle.building.specs.PlainBuilder as plain;
 ghost use Rattle.flat_form.specs.Sound.{OpsAreSound};
 ghost use Rattle.flat_form.specs.Stands.{items_in, type_at};
@@ -21,7 +21,9 @@ const MOST_PARTS: u32 = 1_048_576;
 
 /// Takes a level and a part for a value, in this order.
 pub fn begin(alloc: Global, levels: u32, begun: &mut u32) -> Result<(), StopError>
-    ensures { Begins levels begun.old begun.new result }
+    ensures begins { Begins levels begun.old begun.new result }
+    ensures left { OnOk result (0 < levels) }
+    ensures counts { OnOk result (begun.new ≡ begun.old + 1) }
 {
     if levels == 0 {
         return Err(stop_here(alloc, Cause::Nesting));
@@ -35,7 +37,7 @@ pub fn begin(alloc: Global, levels: u32, begun: &mut u32) -> Result<(), StopErro
 
 /// Whether a record has the fields of these operations, in their order.
 pub fn has_fields(flat: &Flat, ops: &[PlanOp], fields: &[(Name, Value)]) -> bool
-    requires { (top : ℕ) × OpsAreSound flat.now top ops.now }
+    requires { OpsAreSound flat.now (length flat.now.types) ops.now }
     ensures { result ≡ plain.has_fields (names_in (map pair_of fields.now)) (vals_in (map pair_of fields.now))
         (items_in flat.now (type_at flat.now) None ops.now) }
 {

@@ -17,6 +17,7 @@ use cell_nodes::{Cell, CellError, Hidden, Mode};
 use closed_type::ClosedType;
 use field_path::{FieldPath, Part};
 use field_plan::{Holder, Place, Plan};
+use plan_building::in_range;
 use plan_reading::{Entered, Stop, StopError, stop_here};
 use spelling::Cause;
 use sqlite_items::Items;
@@ -118,6 +119,7 @@ pub fn build(
 ) -> Result<Cell, BuildError>
     requires { mode ≢ Lax }
 {
+    in_range(value);
     match build_root(alloc, plan, ty, value, mode) {
         Ok(cell) => Ok(cell),
         Err(StopError::NoMemory) => Err(BuildError::NoMemory),

@@ -3,10 +3,11 @@
 //! `levels` is how many levels of values are left, `begun` how many parts have begun, and places are those seen from where
 //! a call began. A value takes a level and a part before its type is looked at. What is built is added to `b`; after an
 //! error that holds what was added before.
-ghost use Rattle.std.specs.Prelude.{◌≡◌, ◌+◌, ◌<◌, ◌≤◌, [], length, map, option_map, slice_get, true};
+ghost use Rattle.std.specs.Prelude.{◌≡◌, ◌+◌, ◌<◌, ◌≤◌, [], ℕ, length, map, slice_get, true};
 ghost use Rattle.std.specs.Prelude.{IfOk, OnOk, IsSome, None, Some};
 ghost use Rattle.closed_type.specs.View.{closed_args, closed_type as type_view};
-ghost use Rattle.core_form.specs.Core.{Declaration};
+ghost use Rattle.core_form.specs.Closed as closed;
+ghost use Rattle.core_form.specs.Core.{CoreSchema, Declaration};
 ghost use Rattle.core_form.specs.Fit.{fit as fit_of};
 ghost use Rattle.core_form.specs.Scope.{Scope};
 ghost use Rattle.flat_form.specs.Sound.{OpIsSound, OpsAreSound};
@@ -21,7 +22,7 @@ ghost use Rattle.spelling.specs.Places.{Spot, start};
 ghost use Rattle.typed_value.specs.Values as forms;
 ghost use Rattle.typed_value.specs.View.{names_in, pair_of, pairs_of, value as value_view};
 ghost use Rattle.typed_builder.specs.Turns.{stepped, turn};
-ghost use Rattle.typed_builder.specs.View.{built_cell, core_of, list_of, maker_of, values_of};
+ghost use Rattle.typed_builder.specs.View.{built_cell, cell_of_shape, core_of, list_of, maker_of, values_of};
 
 use bit_slice::{BitString, Name};
 use cell_nodes::{Cell, Mode};
@@ -30,8 +31,9 @@ use field_plan::Plan;
 use flat_form::PlanOp;
 use nat_solver::Env;
 use plan_building::{
-    Growing, Outputs, begin, bind_outputs, fits_edge, fits_root, has_fields, in_tag, make_number,
-    make_string, plant_here, plant_root, put_bits, put_hidden, put_ref, put_rest, with_keys,
+    Growing, Outputs, begin, bind_outputs, fits_edge, fits_root, grew, has_fields, in_tag,
+    make_number, make_string, plant_here, plant_root, put_bits, put_hidden, put_ref, put_rest,
+    with_keys,
 };
 use plan_reading::{
     FlatShape, ShapeError, StopError, check, fit, in_constructor, in_field, in_table, set, shape,
@@ -109,10 +111,10 @@ fn build_field(
             build_type(alloc, plan, mode, left, begun, &closed, value, b)
         }
         Ok(FlatShape::Here(first, count)) => build_inner(
-            alloc, plan, mode, left, begun, ty, first, count, env, types, value, b,
+            alloc, plan, mode, left, begun, first, count, env, types, value, b,
         ),
         Ok(FlatShape::Under(first, count)) => build_under(
-            alloc, plan, mode, left, begun, ty, first, count, env, types, value, b,
+            alloc, plan, mode, left, begun, first, count, env, types, value, b,
         ),
     }
 }
@@ -125,7 +127,6 @@ fn build_inner(
     mode: Mode,
     levels: u32,
     begun: &mut u32,
-    top: u32,
     first: u32,
     count: u32,
     env: &Env,
@@ -133,8 +134,7 @@ fn build_inner(
     value: &Value,
     b: &mut Growing,
 ) -> Result<Outputs, StopError>
-    requires there { top < length plan.now.1.types }
-    requires sound { IsRecord plan.now.1 top first count }
+    requires { IsRecord plan.now.1 (length plan.now.1.types) first count }
     ensures gives { (h : Spot) → Gives h (made b.new) result
         (plain.make_shape mode (core_of plan.now.0) (maker_of levels mode plan.now.0) h
         (goals.fields_here (record_at plan.now.1 first count) (scope_of env.now types.now)) begun.old
@@ -155,7 +155,6 @@ fn build_inner(
         mode,
         levels,
         begun,
-        top,
         ops,
         &mut inner,
         types,
@@ -173,7 +172,6 @@ fn build_under(
     mode: Mode,
     levels: u32,
     begun: &mut u32,
-    top: u32,
     first: u32,
     count: u32,
     env: &Env,
@@ -181,8 +179,7 @@ fn build_under(
     value: &Value,
     b: &mut Growing,
 ) -> Result<Outputs, StopError>
-    requires there { top < length plan.now.1.types }
-    requires sound { IsRecord plan.now.1 top first count }
+    requires { IsRecord plan.now.1 (length plan.now.1.types) first count }
     ensures gives { (h : Spot) → Gives h (made b.new) result
         (plain.make_shape mode (core_of plan.now.0) (maker_of levels mode plan.now.0) h
         (goals.fields_under (record_at plan.now.1 first count) (scope_of env.now types.now)) begun.old
@@ -200,7 +197,6 @@ fn build_under(
                 mode,
                 levels - 1,
                 begun,
-                top,
                 first,
                 count,
                 env,
@@ -211,10 +207,7 @@ fn build_under(
             put_ref(alloc, content.finish(alloc)?, b)?;
             Ok(Outputs::Empty)
         }
-        Value::Unknown(hidden) => {
-            put_hidden(alloc, mode, *hidden, b)?;
-            Ok(Outputs::Empty)
-        }
+        Value::Unknown(hidden) => put_hidden(alloc, mode, *hidden, b),
         _ => Err(stop_here(alloc, Cause::Shape)),
     }
 }
@@ -237,72 +230,99 @@ fn build_type(
         begun.old (value_view value.now) (grown b.old)) }
     ensures counts { OnOk result (begun.new + 1 ≡ begun.old + forms.parts (value_view value.now)) }
 {
-    match (ty, value) {
-        (_, Value::Number(number)) => make_number(alloc, ty, *number, b),
-        (_, Value::Bits(bits)) => make_string(alloc, ty, bits.slice(), b),
-        (
-            ClosedType::Named(name, args),
-            Value::Record(
-                Record {
-                    name: Some(shown),
-                    fields,
-                },
+    match value {
+        Value::Number(number) => make_number(alloc, ty, *number, b),
+        Value::Bits(bits) => make_string(alloc, ty, bits.slice(), b),
+        Value::Record(record) => match ty {
+            ClosedType::Named(name, args) => build_declared(
+                alloc,
+                plan,
+                mode,
+                levels,
+                begun,
+                name,
+                args.as_slice(),
+                record,
+                b,
             ),
-        ) => build_declared(
-            alloc,
-            plan,
-            mode,
-            levels,
-            begun,
-            name,
-            args.as_slice(),
-            shown,
-            fields.as_slice(),
-            b,
-        ),
-        (ClosedType::Repeat(count, inner), Value::List(items)) => {
-            if items.len() != *count as usize {
-                return Err(stop_here(alloc, Cause::Shape));
-            }
-            build_items(
+            _ => Err(stop_here(alloc, Cause::Shape)),
+        },
+        Value::List(items) => match ty {
+            ClosedType::Repeat(count, inner) => build_list(
+                alloc,
+                plan,
+                mode,
+                levels,
+                begun,
+                *count,
+                inner.get(),
+                items.as_slice(),
+                b,
+            ),
+            _ => Err(stop_here(alloc, Cause::Shape)),
+        },
+        Value::Ref(held) => match ty {
+            ClosedType::Ref(inner) => build_ref(
                 alloc,
                 plan,
                 mode,
                 levels,
                 begun,
                 inner.get(),
-                items.as_slice(),
+                held.get(),
                 b,
-            )?;
-            Ok(Outputs::Empty)
-        }
-        (ClosedType::Ref(inner), Value::Ref(held)) => {
-            let cell = build_cell(alloc, plan, mode, levels, begun, inner.get(), held.get())?;
-            put_ref(alloc, cell, b)?;
-            Ok(Outputs::Empty)
-        }
-        (ClosedType::Ref(_), Value::Unknown(hidden)) => {
-            put_hidden(alloc, mode, *hidden, b)?;
-            Ok(Outputs::Empty)
-        }
-        (ClosedType::Dict(n, inner), Value::Map(dict)) => {
-            build_dict(alloc, plan, mode, levels, begun, *n, inner.get(), dict, b)?;
-            Ok(Outputs::Empty)
-        }
-        (ClosedType::DictE(n, inner), Value::Map(dict)) => {
-            build_dict_e(alloc, plan, mode, levels, begun, *n, inner.get(), dict, b)?;
-            Ok(Outputs::Empty)
-        }
-        (ClosedType::Whole, Value::Rest(rest)) => {
-            put_rest(alloc, rest, b)?;
-            Ok(Outputs::Empty)
-        }
-        _ => Err(stop_here(alloc, Cause::Shape)),
+            ),
+            _ => Err(stop_here(alloc, Cause::Shape)),
+        },
+        Value::Unknown(hidden) => match ty {
+            ClosedType::Ref(_) => put_hidden(alloc, mode, *hidden, b),
+            _ => Err(stop_here(alloc, Cause::Shape)),
+        },
+        Value::Map(dict) => match ty {
+            ClosedType::Dict(n, inner) => {
+                build_dict(alloc, plan, mode, levels, begun, *n, inner.get(), dict, b)
+            }
+            ClosedType::DictE(n, inner) => {
+                build_dict_e(alloc, plan, mode, levels, begun, *n, inner.get(), dict, b)
+            }
+            _ => Err(stop_here(alloc, Cause::Shape)),
+        },
+        Value::Rest(rest) => match ty {
+            ClosedType::Whole => put_rest(alloc, rest, b),
+            _ => Err(stop_here(alloc, Cause::Shape)),
+        },
+        Value::Absent | Value::Raw(_) => Err(stop_here(alloc, Cause::Shape)),
     }
 }
 
+/// The reference to a cell that holds just the value.
+#[cycle(build)]
+fn build_ref(
+    alloc: Global,
+    plan: &Plan,
+    mode: Mode,
+    levels: u32,
+    begun: &mut u32,
+    inner: &ClosedType,
+    value: &Value,
+    b: &mut Growing,
+) -> Result<Outputs, StopError>
+    ensures gives { (h : Spot) → Gives h (made b.new) result
+        (plain.make_child (maker_of levels mode plan.now.0) h (goals.under_ref (type_view inner.now)) begun.old
+        (value_view value.now) (grown b.old)) }
+    ensures counts { OnOk result (begun.new ≡ begun.old + forms.parts (value_view value.now)) }
+{
+    let cell = build_cell(alloc, plan, mode, levels, begun, inner, value)?;
+    put_ref(alloc, cell, b)?;
+    Ok(Outputs::Empty)
+}
+
 /// The cell of `^Any` and `^Cell`: one that would be read as hidden does not fit.
-fn whole_cell(alloc: Global, mode: Mode, value: &Value) -> Result<Cell, StopError> {
+fn whole_cell(alloc: Global, mode: Mode, value: &Value) -> Result<Cell, StopError>
+    ensures gives { (schema : CoreSchema) (R : plain.Maker) (h : Spot) (q : ℕ) → Gives h (λ c. c) result
+        (cell_of_shape mode schema R h q (value_view value.now)) }
+    ensures one { OnOk result (forms.parts (value_view value.now) ≡ 1) }
+{
     let Value::Raw(cell) = value else {
         return Err(stop_here(alloc, Cause::Shape));
     };
@@ -338,6 +358,31 @@ pub(crate) fn build_cell(
     Ok(content.finish(alloc)?)
 }
 
+/// So many values one after the other.
+#[cycle(build)]
+fn build_list(
+    alloc: Global,
+    plan: &Plan,
+    mode: Mode,
+    levels: u32,
+    begun: &mut u32,
+    count: u32,
+    inner: &ClosedType,
+    items: &[Value],
+    b: &mut Growing,
+) -> Result<Outputs, StopError>
+    ensures gives { (h : Spot) → Gives h (made b.new) result
+        (plain.list_at (maker_of levels mode plan.now.0) h (goals.typed (closed.repeat count (type_view inner.now)))
+        begun.old (list_of items.now) (grown b.old)) }
+    ensures counts { OnOk result (begun.new ≡ begun.old + forms.parts_in (list_of items.now)) }
+{
+    if items.len() != count as usize {
+        return Err(stop_here(alloc, Cause::Shape));
+    }
+    build_items(alloc, plan, mode, levels, begun, inner, items, b)?;
+    Ok(Outputs::Empty)
+}
+
 /// Values one after the other, each of which takes a bit or a reference.
 #[cycle(build)]
 fn build_items(
@@ -358,7 +403,7 @@ fn build_items(
     for item in items {
         let before = b.size();
         build_closed(alloc, plan, mode, levels, begun, inner, item, b)?;
-        if b.size() == before {
+        if !grew(before, b) {
             return Err(stop_here(alloc, Cause::Idle));
         }
     }
@@ -377,9 +422,9 @@ fn build_dict(
     inner: &ClosedType,
     dict: &Dict,
     b: &mut Growing,
-) -> Result<(), StopError>
+) -> Result<Outputs, StopError>
     requires { n ≤ 1023 }
-    ensures gives { (h : Spot) → Gives h (λ _. ([], grown b.new)) result
+    ensures gives { (h : Spot) → Gives h (made b.new) result
         (plain.make_dict mode (maker_of levels mode plan.now.0) h n (type_view inner.now) begun.old
         (pairs_of (map pair_of dict.now.pairs)) dict.now.unknown (grown b.old)) }
     ensures counts { OnOk result (begun.new ≡ begun.old + forms.parts_by (pairs_of (map pair_of dict.now.pairs))) }
@@ -405,9 +450,9 @@ fn build_dict_e(
     inner: &ClosedType,
     dict: &Dict,
     b: &mut Growing,
-) -> Result<(), StopError>
+) -> Result<Outputs, StopError>
     requires { n ≤ 1023 }
-    ensures gives { (h : Spot) → Gives h (λ _. ([], grown b.new)) result
+    ensures gives { (h : Spot) → Gives h (made b.new) result
         (plain.make_dict_e mode (maker_of levels mode plan.now.0) h n (type_view inner.now) begun.old
         (pairs_of (map pair_of dict.now.pairs)) dict.now.unknown (grown b.old)) }
     ensures counts { OnOk result (begun.new ≡ begun.old + forms.parts_by (pairs_of (map pair_of dict.now.pairs))) }
@@ -457,16 +502,19 @@ fn build_declared(
     begun: &mut u32,
     name: &Name,
     args: &[ClosedArg],
-    shown: &Name,
-    fields: &[(Name, Value)],
+    record: &Record,
     b: &mut Growing,
 ) -> Result<Outputs, StopError>
     ensures gives { (h : Spot) → Gives h (made b.new) result
-        (plain.make_declared (maker_of levels mode plan.now.0) h
-        (plain.choose (core_of plan.now.0) name.now shown.now (closed_args args.now)) begun.old
-        (names_in (map pair_of fields.now)) (values_of fields.now) (grown b.old)) }
-    ensures counts { OnOk result (begun.new ≡ begun.old + forms.parts_in (values_of fields.now)) }
+        (plain.record_at (core_of plan.now.0) (maker_of levels mode plan.now.0) h
+        (goals.typed (closed.named name.now (closed_args args.now))) begun.old record.now.name
+        (names_in (map pair_of record.now.fields)) (values_of record.now.fields) (grown b.old)) }
+    ensures counts { OnOk result (begun.new ≡ begun.old + forms.parts_in (values_of record.now.fields)) }
 {
+    let Some(shown) = &record.name else {
+        return Err(stop_here(alloc, Cause::Shape));
+    };
+    let fields = record.fields.as_slice();
     let Some(c) = plan.named(name, args, shown) else {
         return Err(stop_here(alloc, Cause::NoConstructor));
     };
@@ -511,7 +559,6 @@ fn build_constructor(
     if let Err(error) = put_bits(alloc, plan.tag(c), b) {
         return Err(in_tag(error));
     }
-    let top = count_of(flat.types.len())?;
     let ops = flat.operations(entry.first, entry.count);
     build_fields(
         alloc,
@@ -519,7 +566,6 @@ fn build_constructor(
         mode,
         levels,
         begun,
-        top,
         ops,
         &mut slots.numbers,
         slots.types.as_slice(),
@@ -532,17 +578,6 @@ fn build_constructor(
     }
 }
 
-/// A length as a number of the lists, or memory has run out before.
-fn count_of(len: usize) -> Result<u32, NoMemory>
-    ensures { IfOk result (λ n. n ≡ len) }
-{
-    if len < u32::MAX as usize {
-        Ok(len as u32)
-    } else {
-        Err(NoMemory)
-    }
-}
-
 /// The fields of a record, of which the operations are these. The slots that they bind are set.
 #[cycle(build)]
 fn build_fields(
@@ -551,15 +586,13 @@ fn build_fields(
     mode: Mode,
     levels: u32,
     begun: &mut u32,
-    top: u32,
     ops: &[PlanOp],
     env: &mut Env,
     types: &[Option<ClosedType>],
     fields: &[(Name, Value)],
     b: &mut Growing,
 ) -> Result<(), StopError>
-    requires there { top ≤ length plan.now.1.types }
-    requires sound { OpsAreSound plan.now.1 top ops.now }
+    requires { OpsAreSound plan.now.1 (length plan.now.1.types) ops.now }
     ensures gives { (h : Spot) → Gives h (λ _. (scope_of env.new types.now, grown b.new)) result
         (plain.make_fields (maker_of levels mode plan.now.0) h
         (items_in plan.now.1 (type_at plan.now.1) None ops.now) (scope_of env.old types.now) begun.old
@@ -570,7 +603,7 @@ fn build_fields(
     let mut due = fields;
     for op in ops {
         let step = build_op(
-            alloc, plan, mode, levels, begun, top, *op, condition, env, types, due, b,
+            alloc, plan, mode, levels, begun, *op, condition, env, types, due, b,
         )?;
         condition = step.condition;
         due = step.due;
@@ -589,7 +622,6 @@ fn build_op<'a>(
     mode: Mode,
     levels: u32,
     begun: &mut u32,
-    top: u32,
     op: PlanOp,
     condition: Option<(u32, u32)>,
     env: &mut Env,
@@ -597,8 +629,7 @@ fn build_op<'a>(
     fields: &'a [(Name, Value)],
     b: &mut Growing,
 ) -> Result<Step<'a>, StopError>
-    requires there { top ≤ length plan.now.1.types }
-    requires sound { OpIsSound plan.now.1 top op }
+    requires sound { OpIsSound plan.now.1 (length plan.now.1.types) op }
     requires condition { GovernIsSound plan.now.1 condition }
     ensures turn { (h : Spot) → Gives h
         (λ x. (
