@@ -1,1 +1,4 @@
 pub mod Laying
+pub mod Ranging
+pub mod PlantSteps
+pub mod Planting

@@ -1,19 +1,24 @@
 //! Dictionaries: which keys and hidden parts fit, and the tree of the contents.
-ghost use Rattle.std.specs.Prelude.{◌≡◌, ◌≤◌, ◌<◌, ◌+◌, [], ℕ, IfOk, IsTrue, ◌↔◌, length, map};
+ghost use Rattle.std.specs.Prelude.{◌≡◌, ◌≤◌, ◌<◌, ◌+◌, ℕ, IfOk, IsTrue, ◌↔◌, length, map};
 ghost use Rattle.building.specs.MapTests as tests;
 ghost use Rattle.building.specs.PlainBuilder as plain;
+ghost use Rattle.building.specs.Planting.{planting};
+ghost use Rattle.cell_nodes.specs.declared.tree.Mode.{Mode as Reading};
+ghost use Rattle.hashmap_tree.specs.Entries.{Entries, hidden_in};
 ghost use Rattle.hashmap_tree.specs.Merged.{merged};
 ghost use Rattle.hashmap_tree.specs.Order.{AreInOrder};
 ghost use Rattle.hashmap_tree.specs.Placed.{AllPlaced};
-ghost use Rattle.hashmap_tree.specs.Plants.{leaf_of as plant_leaf};
+ghost use Rattle.hashmap_tree.specs.Plants.{held_of, leaf_of as plant_leaf};
 ghost use Rattle.plan_reading.specs.Stops.{Gives};
 ghost use Rattle.spelling.specs.Places.{Spot};
+ghost use Rattle.typed_value.specs.Values.{PlainPairs};
 ghost use Rattle.typed_value.specs.View.{pair_of, pairs_of};
 ghost use Rattle.plan_building.specs.View.{grown, leaf_of, made};
 
 use crate::growing::{Growing, put_content, put_empty, put_hidden_root, put_root};
 use crate::halves::plant_parts;
 use crate::outputs::Outputs;
+use crate::ranges::are_hashes;
 use bit_slice::BitString;
 use cell_nodes::{CellBuilder, Hidden, Mode};
 use hashmap_tree::{PlantError, are_entries, plant};
@@ -41,15 +46,16 @@ pub fn with_keys(
 }
 
 // Whether hidden parts may stand in this mode, if there are any.
-fn admits(mode: Mode, unknown: &[(BitString, Hidden)]) -> bool {
+fn admits(mode: Mode, unknown: &[(BitString, Hidden)]) -> bool
+    ensures { (es : Entries) → hidden_in es ≡ unknown.now → IsTrue result ↔ tests.Admits mode es }
+{
     match mode {
         Mode::Partial => true,
         Mode::Whole | Mode::Lax => unknown.is_empty(),
     }
 }
 
-// Whether these are keys of `n` bits and hidden parts in order, each hidden part a child of a fork: those of a
-// dictionary with these keys and empty contents, which is planted where there are hidden parts.
+// Whether each hidden part of these entries has a place. Their tree is planted where there are hidden parts.
 fn are_placed(
     alloc: Global,
     n: u32,
@@ -71,7 +77,7 @@ fn are_placed(
     }
 }
 
-/// Whether these keys and hidden parts are those of a `Hashmap` with keys of `n` bits.
+/// Whether these keys, with empty contents, and hidden parts are those of a `Hashmap` with keys of `n` bits.
 pub fn fits_edge(
     alloc: Global,
     mode: Mode,
@@ -80,8 +86,8 @@ pub fn fits_edge(
     unknown: &[(BitString, Hidden)],
 ) -> Result<bool, NoMemory>
     requires { n ≤ 1023 }
-    ensures { IfOk result (λ fits. fits
-        ≡ tests.fits_edge mode n (merged (map plant_leaf leaves.items) unknown.now)) }
+    ensures { (ps : PlainPairs) → map plant_leaf leaves.items ≡ tests.keys_of ps
+        → IfOk result (λ fits. fits ≡ tests.fits_edge mode n (tests.outline ps unknown.now)) }
 {
     if leaves.is_empty() && unknown.is_empty() || !admits(mode, unknown) {
         return Ok(false);
@@ -100,7 +106,7 @@ fn is_hidden_alone(leaves: &[(BitString, CellBuilder)], unknown: &[(BitString, H
     }
 }
 
-/// Whether these keys and hidden parts are those of a `HashmapE` with keys of `n` bits.
+/// Whether these keys, with empty contents, and hidden parts are those of a `HashmapE` with keys of `n` bits.
 pub fn fits_root(
     alloc: Global,
     mode: Mode,
@@ -109,8 +115,8 @@ pub fn fits_root(
     unknown: &[(BitString, Hidden)],
 ) -> Result<bool, NoMemory>
     requires { n ≤ 1023 }
-    ensures { IfOk result (λ fits. fits
-        ≡ tests.fits_root mode n (merged (map plant_leaf leaves.items) unknown.now)) }
+    ensures { (ps : PlainPairs) → map plant_leaf leaves.items ≡ tests.keys_of ps
+        → IfOk result (λ fits. fits ≡ tests.fits_root mode n (tests.outline ps unknown.now)) }
 {
     if !admits(mode, unknown) || !are_entries(alloc, n, leaves.as_slice(), unknown)? {
         return Ok(false);
@@ -148,12 +154,30 @@ fn contents(
     Ok(contents)
 }
 
-// Where no tree was planted. The hidden parts have their places.
-pub(crate) fn stop_of(alloc: Global, error: PlantError) -> StopError {
-    match error {
-        PlantError::Form(_) | PlantError::NoMemory => StopError::NoMemory,
-        PlantError::Full(_) => stop_here(alloc, Cause::Full),
-        PlantError::TooDeep => stop_here(alloc, Cause::TooDeep),
+// The content of the first edge.
+fn planted(
+    alloc: Global,
+    n: u32,
+    leaves: Vec<(BitString, CellBuilder)>,
+    unknown: &[(BitString, Hidden)],
+) -> Result<CellBuilder, StopError>
+    requires short { n ≤ 1023 }
+    requires order { AreInOrder n (merged (map plant_leaf leaves.items) unknown.now) }
+    requires some { 0 < length leaves.items + length unknown.now }
+    requires placed { AllPlaced (merged (map plant_leaf leaves.items) unknown.now) }
+    ensures { (h : Spot) → Gives h held_of result
+        (plain.planted h (planting n (merged (map plant_leaf leaves.items) unknown.now))) }
+{
+    are_hashes(unknown);
+    match plant(alloc, n, leaves, unknown) {
+        Ok(content) => {
+            let _length = content.content().bits.len();
+            Ok(content)
+        }
+        Err(PlantError::Form(_)) => unreachable!(),
+        Err(PlantError::Full(_)) => Err(stop_here(alloc, Cause::Full)),
+        Err(PlantError::TooDeep) => Err(stop_here(alloc, Cause::TooDeep)),
+        Err(PlantError::NoMemory) => Err(StopError::NoMemory),
     }
 }
 
@@ -165,7 +189,9 @@ pub fn plant_here(
     unknown: &[(BitString, Hidden)],
     b: &mut Growing,
 ) -> Result<Outputs, StopError>
-    requires { n ≤ 1023 }
+    requires short { n ≤ 1023 }
+    requires fits { (mode : Reading)
+        × tests.FitEdge mode n (plain.entries_of (map leaf_of leaves.items) unknown.now) }
     ensures { (h : Spot) → Gives h (made b.new) result
         (plain.plant_here h n (plain.entries_of (map leaf_of leaves.items) unknown.now)
         (plain.is_last (map leaf_of leaves.items) unknown.now) (grown b.old)) }
@@ -177,10 +203,8 @@ pub fn plant_here(
         plant_parts(alloc, n, leaves, unknown)?;
         return Err(stop_here(alloc, Cause::AfterRest));
     }
-    match plant(alloc, n, leaves, unknown) {
-        Ok(content) => put_content(alloc, &content, last, b),
-        Err(error) => Err(stop_of(alloc, error)),
-    }
+    let content = planted(alloc, n, leaves, unknown)?;
+    put_content(alloc, &content, last, b)
 }
 
 /// Adds the bit and the reference of a `HashmapE` with these contents by key and these hidden parts, which fit.
@@ -191,21 +215,23 @@ pub fn plant_root(
     unknown: &[(BitString, Hidden)],
     b: &mut Growing,
 ) -> Result<Outputs, StopError>
-    requires { n ≤ 1023 }
+    requires short { n ≤ 1023 }
+    requires fits { (mode : Reading)
+        × tests.FitRoot mode n (plain.entries_of (map leaf_of leaves.items) unknown.now) }
     ensures { (h : Spot) → Gives h (made b.new) result
         (plain.plant_root h n (plain.entries_of (map leaf_of leaves.items) unknown.now) (grown b.old)) }
 {
     let leaves = contents(alloc, leaves)?;
-    if leaves.is_empty() && unknown.is_empty() {
-        return put_empty(alloc, b);
-    }
-    if let [(prefix, hidden)] = unknown {
-        if leaves.is_empty() && prefix.slice().len() == 0 {
-            return put_hidden_root(alloc, *hidden, b);
+    if leaves.is_empty() {
+        match unknown.split_first() {
+            None => return put_empty(alloc, b),
+            Some(((prefix, hidden), _)) => {
+                if prefix.slice().len() == 0 {
+                    return put_hidden_root(alloc, *hidden, b);
+                }
+            }
         }
     }
-    match plant(alloc, n, leaves, unknown) {
-        Ok(content) => put_root(alloc, content.finish(alloc)?, b),
-        Err(error) => Err(stop_of(alloc, error)),
-    }
+    let content = planted(alloc, n, leaves, unknown)?;
+    put_root(alloc, content.finish(alloc)?, b)
 }

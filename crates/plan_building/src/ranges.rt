@@ -67,7 +67,7 @@ fn is_hash(hidden: &Hidden)
     let _hash = hidden.hash;
 }
 
-fn are_hashes(unknown: &[(BitString, Hidden)])
+pub(crate) fn are_hashes(unknown: &[(BitString, Hidden)])
     ensures { AreHashes unknown.now }
 {
     for (_, hidden) in unknown {
