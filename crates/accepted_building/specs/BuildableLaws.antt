@@ -1,5 +1,5 @@
 -- An accepted schema has all that the laws of building need, so what is built of a value in range is its one tree.
-use Rattle.std.proofs.Common.{◌≡◌, ◌⊎◌, inl, inr, sym, ◌∙◌, Result, Ok, Err, refl}
+use Rattle.std.proofs.Common.{◌≡◌, Ok, Err}
 use Rattle.cell_nodes.specs.declared.tree.Mode.{Mode}
 use Rattle.cell_nodes.specs.declared.tree.Tree.{Tree}
 use Rattle.hashmap_labels.specs.declared.forms.Forms.TheVariants.{Required}

@@ -1,7 +1,8 @@
 -- In an accepted schema two constructors of one type are shown by different names.
-use Rattle.std.proofs.Common.{◌≡◌, ◌⊎◌, inl, inr, ℕ, zero, suc, ◌+◌, ◌<◌, ◌≤◌, ◌^◌, List, [], ◌∷◌, ◌++◌, length, length-append}
+use Rattle.std.proofs.Common.{◌≡◌, ◌⊎◌, inl, inr, ℕ, zero, suc, ◌+◌, ◌<◌, ◌≤◌, ◌^◌, List, [], ◌∷◌, ◌++◌, length}
+use Rattle.std.proofs.Common.{length-append}
 use Rattle.std.proofs.Common.{Option, Some, None, Bool, true, false, cond, refl, sym, ap, ◌∙◌, subst, arith, slice_get}
-use Rattle.std.specs.Prelude.{bytes_eq, codes, decimal, filter, nat_lt}
+use Rattle.std.specs.Prelude.{bytes_eq, filter, nat_lt}
 use Rattle.std.specs.List.{list_any}
 use Rattle.std.proofs.lemmas.Bool.{ltb-false, ltb-true, or_parts}
 use Rattle.std.proofs.lemmas.Fmt.{decimal_injective}
@@ -10,16 +11,16 @@ use Rattle.std.proofs.lemmas.Slice.Eq.{bytes_eq-Decides}
 use Rattle.tlb_lexer.specs.Spelling.{is_name}
 use Rattle.tlb_syntax.specs.Limits.{IsWord, IsWordOrNone, IsConstructor, AreConstructors}
 use Rattle.tlb_syntax.specs.Tree.{ConstructorView, SchemaView}
-use Rattle.kind_terms.specs.Dictionaries.{of_type, without_dictionaries}
+use Rattle.kind_terms.specs.Dictionaries.{of_type}
 use Rattle.kind_terms.specs.Words.{Word}
 use Rattle.kind_declarations.specs.declared.error.Cause.TheVariants.{TwiceNamed}
-use Rattle.kind_declarations.specs.Headings.{Heading, is_constructor_twice, same_name, is_word}
-use Rattle.kind_declarations.specs.Nodes.{a_heading, heading_nodes}
+use Rattle.kind_declarations.specs.Headings.{is_constructor_twice, same_name}
+use Rattle.kind_declarations.specs.Nodes.{heading_nodes}
 use Rattle.kind_declarations.specs.Faults.{faults}
 use Rattle.kinded_core.specs.Clean.{AreClean}
 use Rattle.kinded_core.specs.CleanLaws.{clean_nodes, append_none, map_none}
 use Rattle.tlb_kinds.specs.Laws.{KeptStaysWithin}
-use Rattle.tlb_kinds.specs.Refusals.{IsKinded, kept_of, ordinary, refusals, refusals_within, of_headings}
+use Rattle.tlb_kinds.specs.Refusals.{IsKinded, kept_of, ordinary, refusals, of_headings}
 use Rattle.tlb_kinds.specs.Spots.{heading, refusal_at}
 use Rattle.core_form.specs.Core.{Declaration}
 use Rattle.schema_core.specs.Cores.{cores_after, declaration_of, shown_name, number_after}
@@ -55,23 +56,21 @@ same-name name b c x e f = rw (e, f) ((bytes_eq-Decides x x).1 refl)
 none-named : (before : SchemaView) (c : ConstructorView) → list_any (same_name c.name) (of_type before c.result) ≡ false
     → NoneNamed before c
 none-named [] c h = tt
-none-named (b ∷ bs) c h = by_type (bytes_eq b.result c.result) refl h
+none-named (b ∷ bs) c h = by_type (bytes_eq b.result c.result) refl h (none-named bs c)
   where
     by_type : (t : Bool) → bytes_eq b.result c.result ≡ t
         → list_any (same_name c.name) (cond t (b ∷ of_type bs c.result) (of_type bs c.result)) ≡ false
-        → NoneNamed (b ∷ bs) c
-    by_type true e g =
+        → (list_any (same_name c.name) (of_type bs c.result) ≡ false → NoneNamed bs c) → NoneNamed (b ∷ bs) c
+    by_type true e g rest =
         let p = or_parts (same_name c.name b) (list_any (same_name c.name) (of_type bs c.result)) g in
-        let other : AreBothNamed b c → ⊥ = λ s.
-            let t = same-name c.name b c s.name s.second s.first in
-            let f = p.0 in
-            absurd (cc) in
-        (other, none-named bs c p.1)
-    by_type false e g =
-        let other : AreBothNamed b c → ⊥ = λ s.
-            let t = (bytes_eq-Decides b.result c.result).1 s.type in
-            absurd (cc) in
-        (other, none-named bs c g)
+        (named_not p.0, rest p.1)
+      where
+        named_not : same_name c.name b ≡ false → AreBothNamed b c → ⊥
+        named_not f s = let t = same-name c.name b c s.name s.second s.first in cc
+    by_type false e g rest = (typed_not, rest g)
+      where
+        typed_not : AreBothNamed b c → ⊥
+        typed_not s = let t = (bytes_eq-Decides b.result c.result).1 s.type in cc
 
 pub headings-apart : (before cs : SchemaView) → of_headings before cs ≡ [] → AllApart before cs × AreNamedApart cs
 headings-apart before [] h = (none before, tt)
@@ -83,7 +82,7 @@ headings-apart before (c ∷ cs) h =
     let here = heading before c in
     let p = append_none _ (of_headings (before ++ c ∷ []) cs) h in
     let clean : AreClean (heading_nodes here) = clean_nodes (heading_nodes here)
-        (map_none (refusal_at here) (faults (heading_nodes here)) p.0) in
+    (map_none (refusal_at here) (faults (heading_nodes here)) p.0) in
     let alone : is_constructor_twice here ≡ false = clean.0 TwiceNamed in
     let rest = headings-apart (before ++ c ∷ []) cs p.1 in
     let both = apart-both before (c ∷ []) cs rest.0 in
@@ -94,19 +93,21 @@ headings-apart before (c ∷ cs) h =
 apart-filtered : (test : ConstructorView → Bool) (c : ConstructorView) (cs : SchemaView) → IsNamedApart c cs
     → IsNamedApart c (filter test cs)
 apart-filtered test c [] h = tt
-apart-filtered test c (d ∷ ds) h = by_test (test d)
+apart-filtered test c (d ∷ ds) h = by_test (test d) (apart-filtered test c ds h.1)
   where
-    by_test : (b : Bool) → IsNamedApart c (cond b (d ∷ filter test ds) (filter test ds))
-    by_test true = (h.0, apart-filtered test c ds h.1)
-    by_test false = apart-filtered test c ds h.1
+    by_test : (b : Bool) → IsNamedApart c (filter test ds)
+        → IsNamedApart c (cond b (d ∷ filter test ds) (filter test ds))
+    by_test true rest = (h.0, rest)
+    by_test false rest = rest
 
 all-filtered : (test : ConstructorView → Bool) (cs : SchemaView) → AreNamedApart cs → AreNamedApart (filter test cs)
 all-filtered test [] h = tt
-all-filtered test (c ∷ cs) h = by_test (test c)
+all-filtered test (c ∷ cs) h = by_test (test c) (all-filtered test cs h.1)
   where
-    by_test : (b : Bool) → AreNamedApart (cond b (c ∷ filter test cs) (filter test cs))
-    by_test true = (apart-filtered test c cs h.0, all-filtered test cs h.1)
-    by_test false = all-filtered test cs h.1
+    by_test : (b : Bool) → AreNamedApart (filter test cs)
+        → AreNamedApart (cond b (c ∷ filter test cs) (filter test cs))
+    by_test true rest = (apart-filtered test c cs h.0, rest)
+    by_test false rest = rest
 
 pub kept_named_apart : (s : SchemaView) → IsKinded s → AreNamedApart (kept_of s)
 unfolding refusals
@@ -172,11 +173,12 @@ of_type_one before c r same =
 
 of_type_few : (cs : SchemaView) (r : Word) → length (of_type cs r) ≤ length cs
 of_type_few [] r = omega arith
-of_type_few (c ∷ cs) r = by_test (bytes_eq c.result r)
+of_type_few (c ∷ cs) r = by_test (bytes_eq c.result r) (of_type_few cs r)
   where
-    by_test : (b : Bool) → length (cond b (c ∷ of_type cs r) (of_type cs r)) ≤ suc (length cs)
-    by_test true = let l = of_type_few cs r in omega (arith, l)
-    by_test false = let l = of_type_few cs r in omega (arith, l)
+    by_test : (b : Bool) → length (of_type cs r) ≤ length cs
+        → length (cond b (c ∷ of_type cs r) (of_type cs r)) ≤ suc (length cs)
+    by_test true l = omega (arith, l)
+    by_test false l = omega (arith, l)
 
 -- the constructor of a declaration after these, and its number among those of its type
 record IsShown (before cs : SchemaView) (i : ℕ) (d : Declaration) : Type 0 where
@@ -254,20 +256,23 @@ shown_apart types tag before (c ∷ cs) a n few zero (suc j) d e less p q same a
     let l = length-append before (c ∷ []) in
     let y = shown_at types tag (before ++ c ∷ []) cs j e q in
     let is : declaration_of types (tag c) before c ≡ d = cc in
-    let x = first_shown types (tag c) before c cs d is in
-    let one : c.result ≡ y.constructor.result = sym x.type ∙ same ∙ y.type in
+    let type : c.result ≡ d.of_type = ap (λ (x : Declaration). x.of_type) is in
+    let shown : shown_name c.name (number_after before c) ≡ d.shown = ap (λ (x : Declaration). x.shown) is in
+    let one : c.result ≡ y.constructor.result = type ∙ same ∙ y.type in
     let low = y.below in
     let far = y.above in
     let few_before = of_type_few before c.result in
     let count = of_type_one before c y.constructor.result one in
     let there = ap (λ r. length (of_type before r)) one in
-    not_alike c cs j y.constructor (number_after before c) y.number n.0 y.there (omega (arith, far, count, there))
+    not_alike c cs j y.constructor (number_after before c) y.number n.0 y.there
+    (omega (arith, far, count, there))
     (shown_alike c y.constructor (number_after before c) y.number a.0.name
-    (constructor_at cs j y.constructor a.1 y.there).name (omega (arith, few, few_before)) (omega (arith, few, low, l)) one
-    (sym x.shown ∙ alike ∙ y.shown))
+    (constructor_at cs j y.constructor a.1 y.there).name (omega (arith, few, few_before)) (omega (arith, few, low, l))
+    one (shown ∙ alike ∙ y.shown))
 shown_apart types tag before (c ∷ cs) a n few (suc i) (suc j) d e less p q same alike =
     let l = length-append before (c ∷ []) in
-    shown_apart types tag (before ++ c ∷ []) cs a.1 n.1 (omega (arith, few, l)) i j d e (omega (arith, less)) p q same alike
+    shown_apart types tag (before ++ c ∷ []) cs a.1 n.1 (omega (arith, few, l)) i j d e (omega (arith, less)) p q same
+    alike
 
 by_order : (i j : ℕ) (a b : Bool) → nat_lt i j ≡ a → nat_lt j i ≡ b → (i < j → ⊥) → (j < i → ⊥) → i ≡ j
 by_order i j true b e f x y = absurd (x (ltb-true i j e))
