@@ -2,3 +2,4 @@ pub mod View
 pub mod StopsLaws
 pub mod Begun
 pub mod Numbers
+pub mod FieldNames

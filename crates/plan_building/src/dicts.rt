@@ -8,7 +8,7 @@ ghost use Rattle.hashmap_tree.specs.Entries.{Entries, hidden_in};
 ghost use Rattle.hashmap_tree.specs.Merged.{merged};
 ghost use Rattle.hashmap_tree.specs.Order.{AreInOrder};
 ghost use Rattle.hashmap_tree.specs.Placed.{AllPlaced};
-ghost use Rattle.hashmap_tree.specs.Plants.{held_of, leaf_of as plant_leaf};
+ghost use Rattle.hashmap_tree.specs.Plants.{IsHiddenAlone, held_of, leaf_of as plant_leaf};
 ghost use Rattle.plan_reading.specs.Stops.{Gives};
 ghost use Rattle.spelling.specs.Places.{Spot};
 ghost use Rattle.typed_value.specs.Values.{PlainPairs};
@@ -55,6 +55,30 @@ fn admits(mode: Mode, unknown: &[(BitString, Hidden)]) -> bool
     }
 }
 
+// Whether there are keys or hidden parts.
+fn has_some(leaves: &[(BitString, CellBuilder)], unknown: &[(BitString, Hidden)]) -> bool
+    ensures { IsTrue result ↔ (0 < length leaves.now + length unknown.now) }
+{
+    !(leaves.is_empty() && unknown.is_empty())
+}
+
+// Whether these keys and hidden parts are in order, and may stand in this mode.
+fn are_in_order(
+    alloc: Global,
+    mode: Mode,
+    n: u32,
+    leaves: &[(BitString, CellBuilder)],
+    unknown: &[(BitString, Hidden)],
+) -> Result<bool, NoMemory>
+    ensures { IfOk result (λ b. IsTrue b ↔ (AreInOrder n (merged (map plant_leaf leaves.now) unknown.now)
+        × tests.Admits mode (merged (map plant_leaf leaves.now) unknown.now))) }
+{
+    if !admits(mode, unknown) {
+        return Ok(false);
+    }
+    are_entries(alloc, n, leaves, unknown)
+}
+
 // Whether each hidden part of these entries has a place. Their tree is planted where there are hidden parts.
 fn are_placed(
     alloc: Global,
@@ -64,7 +88,6 @@ fn are_placed(
 ) -> Result<bool, NoMemory>
     requires short { n ≤ 1023 }
     requires order { AreInOrder n (merged (map plant_leaf leaves.items) unknown.now) }
-    requires some { 0 < length leaves.items + length unknown.now }
     ensures { IfOk result (λ placed. IsTrue placed ↔ AllPlaced (merged (map plant_leaf leaves.items) unknown.now)) }
 {
     if unknown.is_empty() {
@@ -89,17 +112,19 @@ pub fn fits_edge(
     ensures { (ps : PlainPairs) → map plant_leaf leaves.items ≡ tests.keys_of ps
         → IfOk result (λ fits. fits ≡ tests.fits_edge mode n (tests.outline ps unknown.now)) }
 {
-    if leaves.is_empty() && unknown.is_empty() || !admits(mode, unknown) {
+    if !has_some(leaves.as_slice(), unknown) {
         return Ok(false);
     }
-    if !are_entries(alloc, n, leaves.as_slice(), unknown)? {
+    if !are_in_order(alloc, mode, n, leaves.as_slice(), unknown)? {
         return Ok(false);
     }
     are_placed(alloc, n, leaves, unknown)
 }
 
 // Whether there is one hidden part in place of all keys.
-fn is_hidden_alone(leaves: &[(BitString, CellBuilder)], unknown: &[(BitString, Hidden)]) -> bool {
+fn is_hidden_alone(leaves: &[(BitString, CellBuilder)], unknown: &[(BitString, Hidden)]) -> bool
+    ensures { IsTrue result ↔ IsHiddenAlone (merged (map plant_leaf leaves.now) unknown.now) }
+{
     match unknown {
         [(prefix, _)] => leaves.is_empty() && prefix.slice().len() == 0,
         _ => false,
@@ -118,10 +143,10 @@ pub fn fits_root(
     ensures { (ps : PlainPairs) → map plant_leaf leaves.items ≡ tests.keys_of ps
         → IfOk result (λ fits. fits ≡ tests.fits_root mode n (tests.outline ps unknown.now)) }
 {
-    if !admits(mode, unknown) || !are_entries(alloc, n, leaves.as_slice(), unknown)? {
+    if !are_in_order(alloc, mode, n, leaves.as_slice(), unknown)? {
         return Ok(false);
     }
-    if is_hidden_alone(leaves.as_slice(), unknown) || leaves.is_empty() && unknown.is_empty() {
+    if is_hidden_alone(leaves.as_slice(), unknown) {
         return Ok(true);
     }
     are_placed(alloc, n, leaves, unknown)

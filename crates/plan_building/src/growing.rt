@@ -1,11 +1,12 @@
 //! A content that grows.
 ghost use Rattle.std.specs.Prelude.{◌≡◌, ◌+◌, ◌≤◌, ◌<◌, ◌^◌, ◌&&◌, ◌||◌, ◌++◌, ◌∷◌, [], ℕ, Bool, IfOk, OnOk, false, length, nat_eq, nat_lt, not, true};
-ghost use Rattle.bit_slice.specs.Bits.{InSignedRange, signed_spelled, spelled};
+ghost use Rattle.bit_slice.specs.Bits.{spelled};
 ghost use Rattle.building.specs.Growing as growing;
 ghost use Rattle.building.specs.Growing.{Grown};
 ghost use Rattle.building.specs.PlainBuilder as plain;
 ghost use Rattle.cell_nodes.specs.Constructed.{pruned_of};
 ghost use Rattle.cell_nodes.specs.HeldLaws.{AreBelow};
+ghost use Rattle.cell_nodes.specs.Tree.{deepest};
 ghost use Rattle.hashmap_tree.specs.Entries.{Slice, cell_of};
 ghost use Rattle.hashmap_tree.specs.Plants.{held_of};
 ghost use Rattle.plan_reading.specs.Stops.{Gives};
@@ -14,6 +15,7 @@ ghost use Rattle.spelling.specs.Slices.{only_bits, only_ref};
 ghost use Rattle.plan_building.specs.View.{grown, laid, made};
 
 use crate::outputs::Outputs;
+use crate::ranges::is_hash;
 use bit_slice::BitSlice;
 use cell_nodes::{Cell, CellBuilder, Hidden, Mode, RefSlice};
 use plan_reading::{StopError, stop_here};
@@ -98,13 +100,73 @@ fn admit(alloc: Global, b: &Growing, bits: u32, refs: usize, deep: bool) -> Resu
     Ok(())
 }
 
+// Adds bits that there is room for.
+fn add_bits(bits: BitSlice<'_>, cell: &mut CellBuilder)
+    requires { length cell.old.bits + length bits ≤ 1023 }
+    ensures bits { cell.new.bits ≡ cell.old.bits ++ bits.entry }
+    ensures refs { cell.new.refs ≡ cell.old.refs }
+{
+    let _ = cell.push_bits(bits);
+}
+
+// Adds the lowest `width` bits of a number, for which there is room.
+fn add_number(number: u128, width: u32, cell: &mut CellBuilder)
+    requires room { length cell.old.bits + width ≤ 1023 }
+    requires wide { width ≤ 128 }
+    requires fits { number < 2 ^ width }
+    ensures bits { cell.new.bits ≡ cell.old.bits ++ spelled width number }
+    ensures refs { cell.new.refs ≡ cell.old.refs }
+{
+    let _ = cell.push_number(number, width);
+}
+
+// Adds a reference, for which there is room.
+fn add_ref(child: Cell, cell: &mut CellBuilder)
+    requires room { length cell.old.refs < 4 }
+    requires below { deepest child < 1024 }
+    ensures bits { cell.new.bits ≡ cell.old.bits }
+    ensures refs { cell.new.refs ≡ cell.old.refs ++ child ∷ [] }
+{
+    let _ = cell.push_ref(child);
+}
+
+// Adds references that there is room for.
+fn add_refs(refs: &[Cell], cell: &mut CellBuilder) -> Result<(), NoMemory>
+    requires room { length cell.old.refs + length refs.now ≤ 4 }
+    requires below { AreBelow refs.now }
+    ensures bits { OnOk result (cell.new.bits ≡ cell.old.bits) }
+    ensures refs { OnOk result (cell.new.refs ≡ cell.old.refs ++ refs.now) }
+{
+    let mut left = refs;
+    while let Some((child, more)) = left.split_first() {
+        add_ref(child.share()?, cell);
+        left = more;
+    }
+    Ok(())
+}
+
+// Adds references that there is room for.
+fn add_held(refs: RefSlice<'_>, cell: &mut CellBuilder) -> Result<(), NoMemory>
+    requires room { length cell.old.refs + length refs ≤ 4 }
+    requires below { AreBelow refs }
+    ensures bits { OnOk result (cell.new.bits ≡ cell.old.bits) }
+    ensures refs { OnOk result (cell.new.refs ≡ cell.old.refs ++ refs.entry) }
+{
+    let mut left = refs;
+    while let Some((child, more)) = left.first() {
+        add_ref(child.share()?, cell);
+        left = more;
+    }
+    Ok(())
+}
+
 /// Adds bits.
 pub fn put_bits(alloc: Global, bits: BitSlice<'_>, b: &mut Growing) -> Result<(), StopError>
     ensures { (h : Spot) → Gives h (λ _. grown b.new) result
         (plain.put h (only_bits bits.entry) false false (grown b.old)) }
 {
     admit(alloc, b, bits.len(), 0, false)?;
-    let _ = b.cell.push_bits(bits);
+    add_bits(bits, &mut b.cell);
     Ok(())
 }
 
@@ -116,30 +178,14 @@ pub fn put_number(alloc: Global, number: u128, width: u32, b: &mut Growing) -> R
         (plain.put h (only_bits (spelled width number)) false false (grown b.old)) }
 {
     admit(alloc, b, width, 0, false)?;
-    let _ = b.cell.push_number(number, width);
+    add_number(number, width, &mut b.cell);
     Ok(())
 }
 
-/// Adds the `width` bits of an integer in two's complement.
-pub fn put_signed(
-    alloc: Global,
-    integer: i128,
-    width: u32,
-    b: &mut Growing,
-) -> Result<(), StopError>
-    requires wide { width ≤ 128 }
-    requires range { InSignedRange width integer }
-    ensures { (h : Spot) → Gives h (λ _. grown b.new) result
-        (plain.put h (only_bits (signed_spelled width integer)) false false (grown b.old)) }
-{
-    admit(alloc, b, width, 0, false)?;
-    let _ = b.cell.push_signed(integer, width);
-    Ok(())
-}
-
-/// Whether the cell can't stand below another.
-pub fn is_deep(cell: &Cell) -> bool
-    ensures { result ≡ growing.is_deep cell.now }
+// Whether the cell can't stand below another.
+fn is_deep(cell: &Cell) -> bool
+    ensures is { result ≡ growing.is_deep cell.now }
+    ensures below { result ≡ false → deepest cell.now < 1024 }
 {
     cell.good();
     cell.depth(0)
@@ -149,6 +195,19 @@ pub fn is_deep(cell: &Cell) -> bool
         > 1023
 }
 
+// Whether one of the cells can't stand below another.
+fn some_deep(cells: &[Cell]) -> bool
+    ensures is { result ≡ growing.some_deep cells.now }
+    ensures below { result ≡ false → AreBelow cells.now }
+{
+    for cell in cells {
+        if is_deep(cell) {
+            return true;
+        }
+    }
+    false
+}
+
 /// Adds a reference.
 pub fn put_ref(alloc: Global, cell: Cell, b: &mut Growing) -> Result<(), StopError>
     ensures { (h : Spot) → Gives h (λ _. grown b.new) result
@@ -156,7 +215,31 @@ pub fn put_ref(alloc: Global, cell: Cell, b: &mut Growing) -> Result<(), StopErr
 {
     let deep = is_deep(&cell);
     admit(alloc, b, 0, 1, deep)?;
-    let _ = b.cell.push_ref(cell);
+    add_ref(cell, &mut b.cell);
+    Ok(())
+}
+
+// The pruned branch of a hidden part that can stand below a cell.
+fn pruned(alloc: Global, hidden: Hidden) -> Result<Cell, NoMemory>
+    requires { hidden.depth ≤ 1023 }
+    ensures is { IfOk result (λ c. c ≡ pruned_of hidden.hash hidden.depth) }
+    ensures below { IfOk result (λ c. deepest c < 1024) }
+{
+    is_hash(&hidden);
+    match Cell::pruned(alloc, &hidden.hash, hidden.depth) {
+        Ok(cell) => Ok(cell),
+        Err(_) => Err(NoMemory),
+    }
+}
+
+// Adds the pruned branch of a hidden part.
+fn put_pruned(alloc: Global, hidden: Hidden, b: &mut Growing) -> Result<(), StopError>
+    ensures { (h : Spot) → Gives h (λ _. grown b.new) result
+        (plain.put h (only_ref (pruned_of hidden.hash hidden.depth)) (nat_lt 1023 hidden.depth) false (grown b.old)) }
+{
+    let deep = hidden.depth > 1023;
+    admit(alloc, b, 0, 1, deep)?;
+    add_ref(pruned(alloc, hidden)?, &mut b.cell);
     Ok(())
 }
 
@@ -170,37 +253,12 @@ pub fn put_hidden(
     ensures { (h : Spot) → Gives h (made b.new) result (plain.make_hidden mode h hidden (grown b.old)) }
 {
     match mode {
-        Mode::Partial => {}
-        Mode::Whole | Mode::Lax => return Err(stop_here(alloc, Cause::Shape)),
-    }
-    admit(alloc, b, 0, 1, hidden.depth > 1023)?;
-    match Cell::pruned(alloc, &hidden.hash, hidden.depth) {
-        Ok(cell) => {
-            let _ = b.cell.push_ref(cell);
+        Mode::Partial => {
+            put_pruned(alloc, hidden, b)?;
             Ok(Outputs::Empty)
         }
-        Err(_) => Err(StopError::NoMemory),
+        Mode::Whole | Mode::Lax => Err(stop_here(alloc, Cause::Shape)),
     }
-}
-
-// Adds references that there is room for.
-fn add_refs(refs: &[Cell], cell: &mut CellBuilder) -> Result<(), NoMemory>
-    requires room { length cell.old.refs + length refs.now ≤ 4 }
-    requires below { AreBelow refs.now }
-    ensures bits { OnOk result (cell.new.bits ≡ cell.old.bits) }
-    ensures refs { OnOk result (cell.new.refs ≡ cell.old.refs ++ refs.now) }
-{
-    for child in refs {
-        let _ = cell.push_ref(child.share()?);
-    }
-    Ok(())
-}
-
-// Whether one of the cells can't stand below another.
-fn some_deep(cells: &[Cell]) -> bool
-    ensures { result ≡ growing.some_deep cells.now }
-{
-    cells.iter().any(is_deep)
 }
 
 /// Adds all that a rest has. Nothing may follow it.
@@ -213,25 +271,16 @@ pub fn put_rest(alloc: Global, rest: &RestPart, b: &mut Growing) -> Result<Outpu
     let refs = rest.refs.as_slice();
     let deep = some_deep(refs);
     admit(alloc, b, bits.len(), refs.len(), deep)?;
-    let _ = b.cell.push_bits(bits);
+    add_bits(bits, &mut b.cell);
     add_refs(refs, &mut b.cell)?;
     b.shut = true;
     Ok(Outputs::Empty)
 }
 
-// Adds references that there is room for.
-fn add_held(refs: RefSlice<'_>, cell: &mut CellBuilder) -> Result<(), NoMemory>
-    requires room { length cell.old.refs + length refs ≤ 4 }
-    requires below { AreBelow refs }
-    ensures bits { OnOk result (cell.new.bits ≡ cell.old.bits) }
-    ensures refs { OnOk result (cell.new.refs ≡ cell.old.refs ++ refs.entry) }
+fn either(a: bool, b: bool) -> bool
+    ensures { result ≡ (a || b) }
 {
-    let mut left = refs;
-    while let Some((child, more)) = left.first() {
-        let _ = cell.push_ref(child.share()?);
-        left = more;
-    }
-    Ok(())
+    a || b
 }
 
 /// Adds a content, whose references are not too deep. Where it is the last, nothing may follow it.
@@ -247,9 +296,9 @@ pub(crate) fn put_content(
     content.within();
     let held = content.content();
     admit(alloc, b, held.bits.len(), held.refs.len() as usize, false)?;
-    let _ = b.cell.push_bits(held.bits);
+    add_bits(held.bits, &mut b.cell);
     add_held(held.refs, &mut b.cell)?;
-    b.shut = b.shut || last;
+    b.shut = either(b.shut, last);
     Ok(Outputs::Empty)
 }
 
@@ -268,8 +317,8 @@ pub(crate) fn put_root(alloc: Global, cell: Cell, b: &mut Growing) -> Result<Out
 {
     let deep = is_deep(&cell);
     admit(alloc, b, 1, 1, deep)?;
-    let _ = b.cell.push_number(1, 1);
-    let _ = b.cell.push_ref(cell);
+    add_number(1, 1, &mut b.cell);
+    add_ref(cell, &mut b.cell);
     Ok(Outputs::Empty)
 }
 
@@ -282,13 +331,10 @@ pub(crate) fn put_hidden_root(
     ensures { (h : Spot) → Gives h (made b.new) result
         (plain.put_root h (pruned_of hidden.hash hidden.depth) (nat_lt 1023 hidden.depth) (grown b.old)) }
 {
-    admit(alloc, b, 1, 1, hidden.depth > 1023)?;
-    match Cell::pruned(alloc, &hidden.hash, hidden.depth) {
-        Ok(cell) => {
-            let _ = b.cell.push_number(1, 1);
-            let _ = b.cell.push_ref(cell);
-            Ok(Outputs::Empty)
-        }
-        Err(_) => Err(StopError::NoMemory),
-    }
+    let deep = hidden.depth > 1023;
+    admit(alloc, b, 1, 1, deep)?;
+    let cell = pruned(alloc, hidden)?;
+    add_number(1, 1, &mut b.cell);
+    add_ref(cell, &mut b.cell);
+    Ok(Outputs::Empty)
 }

@@ -11,7 +11,7 @@ mod ranges;
 mod records;
 
 pub use dicts::{fits_edge, fits_root, plant_here, plant_root, with_keys};
-pub use growing::{Growing, grew, put_bits, put_hidden, put_number, put_ref, put_rest, put_signed};
+pub use growing::{Growing, grew, put_bits, put_hidden, put_number, put_ref, put_rest};
 pub use numbers::{make_number, make_string};
 pub use outputs::{Outputs, bind_outputs};
 pub use ranges::in_range;

@@ -1,30 +1,24 @@
 //! Numbers and bit strings.
-ghost use Rattle.std.specs.Prelude.{◌≡◌, ◌-◌, ◌+◌, ◌≤◌, ◌^◌, ◌⊎◌, ℕ, Bool, List, MatchOption, false, nat_lt, true};
-ghost use Rattle.bit_slice.specs.Bits as bits;
+ghost use Rattle.std.specs.Prelude.{◌≡◌, ◌-◌, ◌<◌, ◌≤◌, ◌^◌, ℕ, Bool, false, nat_lt, true};
 ghost use Rattle.closed_type.specs.View.{closed_type as type_view};
 ghost use Rattle.building.specs.PlainBuilder as plain;
-ghost use Rattle.plan_reading.specs.Stops.{Gives};
+ghost use Rattle.building.specs.Growing.{Grown};
+ghost use Rattle.plan_reading.specs.Stops.{Gives, Stops};
 ghost use Rattle.spelling.specs.Goals as goals;
 ghost use Rattle.spelling.specs.Places.{Spot};
 ghost use Rattle.spelling.specs.Spells.{own};
-ghost use Rattle.plan_building.specs.Numbers.{IsInteger};
+ghost use Rattle.plan_building.specs.Numbers.{IsComplement, width_of};
 ghost use Rattle.plan_building.specs.View.{grown, made};
 
-use crate::growing::{Growing, put_bits, put_number, put_signed};
+use crate::growing::{Growing, put_bits, put_number};
 use crate::outputs::Outputs;
 use bit_slice::BitSlice;
 use closed_type::ClosedType;
+use hashmap_labels::length_width;
 use plan_reading::{StopError, stop_here};
 use spelling::Cause;
 use std::alloc::Global;
 use typed_value::Number;
-
-// The number of binary digits.
-fn bit_length(n: u32) -> u32
-    ensures { result ≡ bits.bit_length n }
-{
-    32 - n.leading_zeros()
-}
 
 // Whether a number has at most so many bits.
 fn fits(number: u128, width: u32) -> bool
@@ -33,8 +27,11 @@ fn fits(number: u128, width: u32) -> bool
     width >= 128 || number < 1u128 << width
 }
 
-// The cause where a number is negative: 0 has no sign.
-fn refuse_negative(alloc: Global, number: Number) -> StopError {
+// Where a negative number stops at a type of naturals: 0 has no sign.
+fn refuse_negative(alloc: Global, number: Number) -> StopError
+    ensures { (h : Spot) (width bound : ℕ) (named : Bool) (b : Grown)
+        → Stops h result (plain.make_natural h width bound named true number.size b) }
+{
     if number.size == 0 {
         stop_here(alloc, Cause::Shape)
     } else {
@@ -86,24 +83,34 @@ fn make_unsigned(
     Ok(Outputs::Empty)
 }
 
-// The integer of a number, if it has at most so many bits in two's complement.
-fn integer_of(number: Number, width: u32) -> Option<i128>
-    requires { width ≤ 128 }
-    ensures { IsInteger number.negative number.size width result }
+// Half of the numbers of so many bits.
+fn half(width: u32) -> u128
+    requires some { 0 < width }
+    requires wide { width ≤ 128 }
+    ensures { result ≡ 2 ^ (width - 1) }
+{
+    1u128 << (width - 1)
+}
+
+// The number with the bits of an integer in two's complement, if it has at most so many bits.
+fn complement(number: Number, width: u32) -> Option<u128>
+    requires wide { width ≤ 128 }
+    requires sign { number.negative ≡ true → 0 < number.size }
+    ensures { IsComplement number.negative number.size width result }
 {
     if width == 0 {
         return if number.size == 0 { Some(0) } else { None };
     }
-    let limit = 1u128 << (width - 1);
-    if !number.negative {
-        return if number.size < limit {
-            Some(number.size as i128)
+    let half = half(width);
+    if number.negative {
+        return if number.size <= half {
+            Some(half - number.size + half)
         } else {
             None
         };
     }
-    if number.size <= limit {
-        Some(-1 - (number.size - 1) as i128)
+    if number.size < half {
+        Some(number.size)
     } else {
         None
     }
@@ -123,10 +130,10 @@ fn make_signed(
     if number.negative && number.size == 0 {
         return Err(stop_here(alloc, Cause::Shape));
     }
-    let Some(integer) = integer_of(number, width) else {
+    let Some(bits) = complement(number, width) else {
         return Err(stop_here(alloc, Cause::OutOfRange));
     };
-    put_signed(alloc, integer, width, b)?;
+    put_number(alloc, bits, width, b)?;
     Ok(Outputs::Empty)
 }
 
@@ -147,13 +154,13 @@ pub fn make_number(
         ClosedType::Below(n) => {
             make_natural(
                 alloc,
-                bit_length(n.saturating_sub(1)),
+                length_width(n.saturating_sub(1)),
                 u64::from(*n),
                 number,
                 b,
             )
         }
-        ClosedType::UpTo(n) => make_natural(alloc, bit_length(*n), u64::from(*n) + 1, number, b),
+        ClosedType::UpTo(n) => make_natural(alloc, length_width(*n), u64::from(*n) + 1, number, b),
         ClosedType::Uint(n) if *n <= 128 => make_unsigned(alloc, *n, number, b),
         ClosedType::Int(n) if *n <= 128 => make_signed(alloc, *n, number, b),
         _ => Err(stop_here(alloc, Cause::Shape)),
@@ -161,7 +168,9 @@ pub fn make_number(
 }
 
 // How many bits the type takes as they are, if it takes bits so.
-fn string_width(ty: &ClosedType) -> Option<u32> {
+fn string_width(ty: &ClosedType) -> Option<u32>
+    ensures { result ≡ width_of (goals.row (type_view ty.now)) }
+{
     match ty {
         ClosedType::BitStr(n) => Some(*n),
         ClosedType::Uint(n) | ClosedType::Int(n) if *n > 128 => Some(*n),

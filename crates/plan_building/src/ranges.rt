@@ -1,6 +1,7 @@
 //! The numbers of a value are in range.
-ghost use Rattle.std.specs.Prelude.{map};
+ghost use Rattle.std.specs.Prelude.{◌≡◌, length, map};
 ghost use Rattle.building.specs.Buildable.{AllInRange, AreHashes, InRange, IsHash, PairsInRange};
+ghost use Rattle.cell_nodes.specs.BytesLaws.{AreBytes};
 ghost use Rattle.cell_nodes.specs.Good.{AllGood};
 ghost use Rattle.typed_value.specs.View.{pair_of, pairs_of, value as value_view, vals_in, vals_of};
 
@@ -61,10 +62,17 @@ fn pairs_in_range(pairs: &[(BitString, Value)])
     }
 }
 
-fn is_hash(hidden: &Hidden)
+pub(crate) fn is_hash(hidden: &Hidden)
     ensures { IsHash hidden.now }
 {
-    let _hash = hidden.hash;
+    are_bytes(&hidden.hash);
+}
+
+fn are_bytes(hash: &[u8; 32])
+    ensures whole { length hash.now ≡ 32 }
+    ensures bytes { AreBytes hash.now }
+{
+    let _first = hash[0];
 }
 
 pub(crate) fn are_hashes(unknown: &[(BitString, Hidden)])

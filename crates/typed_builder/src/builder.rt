@@ -639,6 +639,8 @@ fn build_op<'a>(
         (turn (maker_of levels mode plan.now.0) h plan.now.1 (governed plan.now.1 condition) op
         (scope_of env.old types.now) begun.old (values_of fields.now) (grown b.old)) }
     ensures condition { IfOk result (λ x. GovernIsSound plan.now.1 x.condition) }
+    ensures counts { IfOk result (λ x. begun.new + forms.parts_in (values_of x.due.now)
+        ≡ begun.old + forms.parts_in (values_of fields.now)) }
 {
     let flat = plan.flat();
     match op {
