@@ -1,17 +1,18 @@
 //! The table of commands.
-ghost use Rattle.std.specs.Prelude.{◌≡◌, map, string_bytes};
+ghost use Rattle.std.specs.Prelude.{◌≡◌, map, string_bytes, true};
 ghost use Rattle.tlb_files.specs.Contents.{AreShort};
 ghost use Rattle.tlb_files.specs.View.{contents_of};
 ghost use Rattle.cli_stages.specs.Stage.{Answers};
 ghost use Rattle.cli_commands.specs.Command.{at};
 ghost use Rattle.cli_commands.specs.Commands.{CommandAnswers, command_of, verb_of};
-ghost use Rattle.cli_commands.specs.Forms.{files_in};
+ghost use Rattle.cli_commands.specs.Forms.{are_taken, files_in};
 ghost use Rattle.cli_commands.specs.View.{text_by};
 
 use crate::check::check;
 use crate::hash::hash;
 use crate::read::read;
 use crate::slot::Slot;
+use cell_nodes::Mode;
 use cli_stages::Stop;
 use std::alloc::Global;
 
@@ -19,6 +20,7 @@ use std::alloc::Global;
 #[derive(Clone, Copy, Debug, PartialEq, Eq)]
 pub enum Verb {
     Read,
+    Lax,
     Hash,
     Check,
 }
@@ -30,6 +32,7 @@ impl Verb {
     {
         match word {
             "read" => Some(Verb::Read),
+            "lax" => Some(Verb::Lax),
             "hash" => Some(Verb::Hash),
             "check" => Some(Verb::Check),
             _ => None,
@@ -41,7 +44,7 @@ impl Verb {
         ensures { result.now ≡ (command_of self).slots }
     {
         match self {
-            Verb::Read => &[Slot::Schema, Slot::TypeWord, Slot::Bag],
+            Verb::Read | Verb::Lax => &[Slot::Schema, Slot::TypeWord, Slot::Bag],
             Verb::Hash => &[Slot::Bag],
             Verb::Check => &[Slot::Schema],
         }
@@ -54,13 +57,22 @@ impl Verb {
         words: &[String],
         contents: &[Vec<u8>],
     ) -> Result<Vec<u8>, Stop>
-        requires { AreShort (files_in (command_of self).slots (map string_bytes words.now)) (contents_of contents.now) }
+        requires words { are_taken (command_of self).slots (map string_bytes words.now) ≡ true }
+        requires files { AreShort (files_in (command_of self).slots (map string_bytes words.now)) (contents_of contents.now) }
         ensures { Answers (CommandAnswers self (map string_bytes words.now) (contents_of contents.now))
             text_by result }
     {
         match self {
             Verb::Read => read(
                 alloc,
+                Mode::Whole,
+                bytes_at(contents, 0),
+                word_at(words, 1),
+                bytes_at(contents, 1),
+            ),
+            Verb::Lax => read(
+                alloc,
+                Mode::Lax,
                 bytes_at(contents, 0),
                 word_at(words, 1),
                 bytes_at(contents, 1),

@@ -1,4 +1,3 @@
 mod Layers
 mod StageFacts
-mod Stopped
 mod Whole
