@@ -1,6 +1,6 @@
 -- The signs of an expression, form by form.
 use Rattle.std.proofs.Common.{◌≡◌, ◌<◌, ◌≤◌, ◌+◌, ℕ, ap, sym, ◌∙◌, List, [], ◌∷◌, ◌++◌, length, drop, get_or, refl, Bool, true, false}
-use Rattle.std.proofs.Common.{Some, None, map}
+use Rattle.std.proofs.Common.{map}
 use Rattle.std.specs.Prelude.{not, ◌||◌}
 use Rattle.std.proofs.lemmas.List.{append_assoc}
 use Rattle.tlb_syntax.specs.declared.tree.Expr.{Expr}

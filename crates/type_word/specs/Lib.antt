@@ -2,3 +2,8 @@ pub mod Signs
 pub mod Scanning
 pub mod Views
 pub mod Resolving
+pub mod InSchema
+pub mod Laws
+pub mod SchemaLaws
+pub mod NamedLaws
+pub mod AnswerLaws

@@ -1,6 +1,6 @@
 -- What a word for a type is answered with.
--- Source: the TON documentation on the TL-B language; the refusals and their order, and the limit of 4,096 nodes, are this
--- project's own.
+-- Source: the TON documentation on the TL-B language; the refusals and their order, and the limit of 4,096 nodes, are
+-- this project's own.
 use Rattle.std.specs.Prelude.{ℕ, ◌≡◌, ◌≢◌, ◌⊎◌, List, Option, Some, None, Result, Ok, Err, nat_lt, if◌then◌else◌}
 use Rattle.tlb_lexer.specs.declared.LexError.{LexError}
 use Rattle.tlb_lexer.specs.declared.LexError.TheVariants as tokens
@@ -9,6 +9,8 @@ use Rattle.tlb_syntax.specs.Written.{WritesWord}
 use Rattle.tlb_grammar.specs.Answer.{RefusesWord}
 use Rattle.tlb_grammar.specs.declared.error.GrammarError.{GrammarError}
 use Rattle.tlb_grammar.specs.declared.error.GrammarError.TheVariants as grammar
+use Rattle.closed_type.specs.declared.tree.ClosedType.{ClosedType}
+use Rattle.closed_type.specs.View.{closed_type}
 use Rattle.core_form.specs.Closed.{Closed, nodes}
 use Rattle.type_closing.specs.Closing.{closed_of}
 use Rattle.type_closing.specs.Faults.{DeclaredKinds, Fault, unknown_type, arity, output, kind_mismatch, too_wide}
@@ -51,8 +53,8 @@ abbrev pub after_signs : Option ℕ → Result Closed TypeError → Result Close
 after_signs (Some place) later = Err (errors.TypeSyntax place)
 after_signs None later = later
 
--- Of an expression whose signs stand at these places: first a sign that is refused, then a fault, and last a closed type that is
--- too large.
+-- Of an expression whose signs stand at these places: first a sign that is refused, then a fault, and last a closed
+-- type that is too large.
 abbrev pub resolved : DeclaredKinds → List ℕ → ExprView → Result Closed TypeError
 resolved d places e =
     after_signs (first_refused (refused_signs e) places) (after_faults (type_fault d None e) (bounded (closed_of e)))
@@ -67,3 +69,7 @@ Resolves d word r =
 abbrev pub IfResolved : {X : Type 0} → Result X TypeError → (X → Type 0) → (TypeError → Type 0) → Type 0
 IfResolved (Ok x) P Q = P x
 IfResolved (Err e) P Q = e ≢ errors.NoMemory → Q e
+
+-- what a call answers for the word, unless out of memory
+abbrev pub Answers : DeclaredKinds → List ℕ → Result ClosedType TypeError → Type 0
+Answers d word r = IfResolved r (λ t. Resolves d word (Ok (closed_type t))) (λ error. Resolves d word (Err error))

@@ -1,5 +1,5 @@
--- The tokens that a type word has no place for, though its grammar has: `~`, `[`, `+`, and a `*` whose left factor is no literal or
--- whose right factor is one.
+-- The tokens that a type word has no place for, though its grammar has: `~`, `[`, `+`, and a `*` whose left factor is
+-- no literal or whose right factor is one.
 -- Source: these refusals are this project's own; the grammar is that of the TON documentation on the TL-B language.
 use Rattle.std.specs.Prelude.{ℕ, ◌==◌, ◌&&◌, ◌||◌, not, Bool, true, false, List, [], ◌∷◌, ◌++◌, Option, Some, None}
 use Rattle.std.specs.Prelude.{slice_get, if◌then◌else◌}
@@ -7,15 +7,15 @@ use Rattle.std.specs.List.{flat_map}
 use Rattle.tlb_lexer.specs.declared.Token.{Token}
 use Rattle.tlb_lexer.specs.declared.TokenKind.{TokenKind}
 use Rattle.tlb_lexer.specs.declared.TokenKind.TheVariants as kinds
-use Rattle.tlb_syntax.specs.Tree.{ExprView, ExprList, ItemView, ItemList, TypeView, lit, named, nat32, bits, below, up_to}
-use Rattle.tlb_syntax.specs.Tree.{plus, star, out, ref, group, no_exprs, an_expr, plain, when, when_bit, implicit, check}
-use Rattle.tlb_syntax.specs.Tree.{explicit, no_items, an_item}
+use Rattle.tlb_syntax.specs.Tree.{ExprView, ExprList, ItemView, ItemList, TypeView, lit, named, nat32, bits, below}
+use Rattle.tlb_syntax.specs.Tree.{up_to, plus, star, out, ref, group, no_exprs, an_expr, plain, when, when_bit}
+use Rattle.tlb_syntax.specs.Tree.{implicit, check, explicit, no_items, an_item}
 use Rattle.kind_terms.specs.Params.{is_literal}
 
 -- ---- in a tree
 
--- For each `~`, `[`, `+` and `*` of the expression, in the order of the text, whether it is refused. Parentheses leave no trace
--- for the factors of `*` either.
+-- For each `~`, `[`, `+` and `*` of the expression, in the order of the text, whether it is refused. Parentheses leave
+-- no trace for the factors of `*` either.
 abbrev mutual
   pub refused_signs : ExprView → List Bool
   refused_signs (lit n) = []

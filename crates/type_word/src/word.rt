@@ -1,10 +1,12 @@
 //! What a word for a type is answered with.
 ghost use Rattle.std.specs.Prelude.{◌≡◌, ◌≤◌, Err, IfOk, Ok, length, option_map};
 ghost use Rattle.closed_type.specs.View.{closed_type};
+ghost use Rattle.tlb_syntax.specs.Tree.{SchemaView};
 ghost use Rattle.tlb_syntax.specs.View.{expr};
-ghost use Rattle.type_index.specs.Index.{kinds_at};
+ghost use Rattle.type_index.specs.Index.{IsTypeIndex, kinds_at};
 ghost use Rattle.type_closing.specs.Views.{fault_by};
-ghost use Rattle.type_word.specs.Resolving.{IfResolved, Resolves, fault_error, grammar_error, resolved as answered};
+ghost use Rattle.type_word.specs.InSchema.{kinds_of};
+ghost use Rattle.type_word.specs.Resolving.{Answers, IfResolved, fault_error, grammar_error, resolved as answered};
 ghost use Rattle.type_word.specs.Resolving.{token_error as error_of_token};
 
 use crate::error::TypeError;
@@ -31,7 +33,7 @@ fn token_error(error: LexError) -> TypeError
     }
 }
 
-fn word_error(error: GrammarError) -> TypeError
+pub(crate) fn word_error(error: GrammarError) -> TypeError
     ensures { result ≡ grammar_error error }
 {
     match error {
@@ -74,8 +76,8 @@ fn resolve_expr(
     e: &Expr,
     places: &[u64],
 ) -> Result<ClosedType, TypeError>
-    ensures { IfResolved result (λ t. Ok (closed_type t) ≡ answered (kinds_at types.now) places.now (expr e.now)) (λ error. Err
-        error ≡ answered (kinds_at types.now) places.now (expr e.now)) }
+    ensures { let answer = answered (kinds_at types.now) places.now (expr e.now) in
+        IfResolved result (λ t. Ok (closed_type t) ≡ answer) (λ error. Err error ≡ answer) }
 {
     if let Some(place) = refused_sign(e, places) {
         return Err(TypeError::TypeSyntax(place));
@@ -94,8 +96,9 @@ fn resolve_expr(
 /// grammar or a sign refuses at its place, then the first fault of a name or a number, and last too large a type.
 pub fn resolve(alloc: Global, types: &TypeIndex, word: &str) -> Result<ClosedType, TypeError>
     requires { length word.now ≤ 1048576 }
-    ensures { IfResolved result (λ t. Resolves (kinds_at types.now) word.now (Ok (closed_type t))) (λ error.
-        Resolves (kinds_at types.now) word.now (Err error)) }
+    ensures answer { Answers (kinds_at types.now) word.now result }
+    // And so, with the index of a schema, what the word is answered with in the schema.
+    ensures schema { (s : SchemaView) → IsTypeIndex types.now s → Answers (kinds_of s) word.now result }
 {
     let e = match read_type(alloc, word) {
         Ok(e) => e,
