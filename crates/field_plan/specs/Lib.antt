@@ -1,4 +1,5 @@
 pub mod Choosing
 pub mod ChoosingLaws
 pub mod Names
+pub mod Placed
 pub mod Planned

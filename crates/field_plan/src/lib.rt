@@ -5,6 +5,7 @@ mod choosing;
 mod names;
 mod place;
 mod plan;
+mod word;
 
 pub use closed_type::{ClosedArg, ClosedType};
 pub use field_path::FieldPath;
@@ -13,3 +14,5 @@ pub use place::{Holder, Place};
 pub use plan::{Plan, compile};
 pub use plan_closing::CloseError;
 pub use spelling::Cause;
+pub use type_word::TypeError;
+pub use word::resolve;

@@ -1,0 +1,12 @@
+pub mod Choices
+pub mod Declared
+pub mod Dicts
+pub mod Fields
+pub mod Leaves
+pub mod Levels
+pub mod Refs
+pub mod Repeats
+pub mod Roots
+pub mod Rows
+pub mod Steps
+pub mod Turning

@@ -1,0 +1,4 @@
+pub mod Begun
+pub mod Promise
+pub mod Turns
+pub mod View
