@@ -4,3 +4,4 @@ pub mod Apart
 pub mod Fitting
 pub mod Choice
 pub mod Naming
+pub mod Named

@@ -1,7 +1,7 @@
 //! Words for types, in the schema of a plan.
 ghost use Rattle.std.specs.Prelude.{◌≤◌, IfOk, length};
 ghost use Rattle.closed_type.specs.View.{closed_type as type_view};
-ghost use Rattle.core_form.specs.Closed.{ClosedOf};
+ghost use Rattle.core_form.specs.Closed.{ClosedOf, nodes};
 ghost use Rattle.schema_leads.specs.Tags.{cores};
 ghost use Rattle.tlb_syntax.specs.View.{schema as schema_view};
 ghost use Rattle.type_word.specs.InSchema.{kinds_of};
@@ -20,6 +20,7 @@ pub fn resolve(alloc: Global, plan: &Plan, word: &str) -> Result<ClosedType, Typ
     requires { length word.now ≤ 1048576 }
     ensures answer { Answers (kinds_of (schema_view plan.now.0)) word.now result }
     ensures closed { IfOk result (λ t. ClosedOf (cores (schema_view plan.now.0)) (type_view t)) }
+    ensures few { IfOk result (λ t. nodes (type_view t) ≤ 4096) }
 {
     named_is_closed();
     type_word::resolve(alloc, plan.index(), word)
