@@ -3,8 +3,24 @@ use std::alloc::Global;
 use std::process::Abort;
 use value_parse::{TextError, parse, print};
 
+// The text of a whole message.
+const MESSAGE: &str =
+    "message{info:int_msg_info{ihr_disabled:bool_true{},bounce:bool_true{},bounced:bool_false{},\
+src:addr_std{anycast:nothing{},workchain_id:0,\
+address:x{1111111111111111111111111111111111111111111111111111111111111111}},\
+dest:addr_std{anycast:nothing{},workchain_id:0,\
+address:x{2222222222222222222222222222222222222222222222222222222222222222}},\
+value:currencies{grams:nanograms{amount:var_uint{len:4,value:1000000000}},other:extra_currencies{dict:<>}},\
+ihr_fee:nanograms{amount:var_uint{len:0,value:0}},fwd_fee:nanograms{amount:var_uint{len:0,value:0}},\
+created_lt:0,created_at:0},init:just{value:left{value:_1{split_depth:nothing{},special:nothing{},\
+code:just{value:^(x{FF00})},data:just{value:^(x{})},library:nothing{}}}},body:right{value:^(x{00000000})}}";
+
+// The text of an update, whose layout says nothing of the hashes.
+const UPDATE: &str = "!(x{041111111111111111111111111111111111111111111111111111111111111111\
+222222222222222222222222222222222222222222222222222222222222222200000000},(x{}),(x{}))";
+
 // A text, and what is printed of its value.
-static TEXTS: [(&str, &str); 25] = [
+static TEXTS: [(&str, &str); 30] = [
     ("0", "0"),
     ("-0", "-0"),
     (" \t\r\n-17 ", "-17"),
@@ -51,6 +67,20 @@ static TEXTS: [(&str, &str); 25] = [
     ),
     ("[(x{},(x{})),%(x{}),~,x{}]", "[(x{},(x{})),%(x{}),~,x{}]"),
     ("a{b:c{d:[^<x{}:(x{})>]}}", "a{b:c{d:[^<x{}:(x{})>]}}"),
+    (
+        "!(x{010111111111111111111111111111111111111111111111111111111111111111110400})",
+        "!(x{010111111111111111111111111111111111111111111111111111111111111111110400})",
+    ),
+    (
+        "(x{},!(x{0101111111111111111111111111111111111111111111111111111111111111111103FF}))",
+        "(x{},!(x{0101111111111111111111111111111111111111111111111111111111111111111103FF}))",
+    ),
+    (
+        "!(x{0311111111111111111111111111111111111111111111111111111111111111110000},(x{}))",
+        "!(x{0311111111111111111111111111111111111111111111111111111111111111110000},(x{}))",
+    ),
+    (UPDATE, UPDATE),
+    (MESSAGE, MESSAGE),
 ];
 
 fn shown(rt: &impl Abort, error: TextError) -> (&'static str, u64) {
@@ -81,7 +111,7 @@ fn texts_write_values(rt: HostRuntime) {
 }
 
 // A text, the cause of its refusal and the place.
-static REFUSED: [(&str, &str, u64); 40] = [
+static REFUSED: [(&str, &str, u64); 45] = [
     ("", "Syntax", 0),
     ("  ", "Syntax", 2),
     ("x", "Syntax", 0),
@@ -123,6 +153,31 @@ static REFUSED: [(&str, &str, u64); 40] = [
     (" (x{},(x{}),(x{}),(x{}),(x{}),(x{}))", "Range", 1),
     ("! (x{})", "Range", 2),
     ("[!(x{05})]", "Range", 2),
+    (
+        "!(x{010111111111111111111111111111111111111111111111111111111111111111110401})",
+        "DeepText",
+        1,
+    ),
+    (
+        "(x{},!(x{010111111111111111111111111111111111111111111111111111111111111111110400}))",
+        "DeepText",
+        0,
+    ),
+    (
+        "[(x{},(x{},!(x{0101111111111111111111111111111111111111111111111111111111111111111103FF})))]",
+        "DeepText",
+        1,
+    ),
+    (
+        "(x{},!(x{010111111111111111111111111111111111111111111111111111111111111111110400}),(x{}),(x{}),(x{}),(x{}))",
+        "DeepText",
+        0,
+    ),
+    (
+        "!(x{05},!(x{010111111111111111111111111111111111111111111111111111111111111111110400}))",
+        "Range",
+        1,
+    ),
     ("<x{6_}:1, x{2_}:1>", "KeyOrder", 10),
     ("<x{2_}:1,x{2_}:1>", "KeyOrder", 9),
     ("<x{2_}:1,x{3}:1>", "KeyOrder", 9),
@@ -164,7 +219,7 @@ fn repeated(
 }
 
 // What comes before, a part and how many of it, what comes after, and the refusal.
-static LONG: [(&str, &str, usize, &str, &str, u64); 16] = [
+static LONG: [(&str, &str, usize, &str, &str, u64); 21] = [
     ("", "^", 2303, "~", "Ok", 0),
     ("", "^", 2304, "~", "DeepText", 2304),
     ("", "^", 2304, "x ", "Syntax", 2304),
@@ -181,6 +236,18 @@ static LONG: [(&str, &str, usize, &str, &str, u64); 16] = [
     ("[", "(x{}),", 262_144, "(x{})]", "BulkText", 1_572_865),
     ("%(x{}", ",(x{})", 262_144, ")", "Ok", 0),
     ("%(x{}", ",(x{})", 262_145, ")", "BulkText", 1_572_870),
+    ("x{", "0", 255, "1_}", "Ok", 0),
+    ("x{", "0", 256, "}", "Range", 0),
+    ("<x{2_}:1,x{", "0", 255, "}:1>", "KeyOrder", 9),
+    ("<x{2_}:1,x{", "0", 256, "}:1>", "Range", 9),
+    (
+        "",
+        "^",
+        2304,
+        "340282366920938463463374607431768211456",
+        "DeepText",
+        2304,
+    ),
 ];
 
 #[test]
@@ -193,4 +260,13 @@ fn long_texts_are_refused(rt: HostRuntime) {
             "{before}, {count} of {part} and {after}"
         );
     }
+}
+
+#[test]
+fn cells_stand_in_one_another(rt: HostRuntime) {
+    let mut text = repeated(&rt, rt.alloc(), "", "(x{},", 1024, "(x{}");
+    let ends = repeated(&rt, rt.alloc(), "", ")", 1025, "");
+    text.extend_from_slice(ends.as_slice())
+        .expect(&rt, "memory");
+    assert!(rt; refused(&rt, rt.alloc(), text.as_slice()).0 == "Ok");
 }

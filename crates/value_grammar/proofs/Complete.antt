@@ -1,6 +1,6 @@
 -- A text that writes a value is gone through to that value.
-use Rattle.std.proofs.Common.{◌≡◌, ℕ, zero, suc, ◌+◌, true, false, ◌&&◌, List, [], ◌∷◌, drop, refl, sym, ap, ◌∙◌, arith, append-nil, cond}
-use Rattle.std.proofs.Math.Seq.{drop-nil}
+use Rattle.std.proofs.Common.{◌≡◌, ℕ, suc, ◌+◌, true, false, ◌&&◌, List, [], ◌∷◌, drop, refl, sym, ap, ◌∙◌, arith, append-nil, cond}
+use Rattle.std.proofs.lemmas.List.{drop-drop}
 use Rattle.std.specs.List.{list_all, prefix_len}
 use Rattle.typed_value.specs.Values.{Plain, parts}
 use Rattle.value_text.specs.Division.{Divides, Placed, none, one, space_before, without_space}
@@ -12,12 +12,6 @@ use Rattle.value_grammar.specs.Steps.{Held, held_of, run, start}
 use Rattle.value_grammar.specs.Reading.{Finishes}
 use Rattle.value_grammar.proofs.Apart.{whole_stands}
 use Rattle.value_grammar.proofs.Maps.{value_goes}
-
-pub drop_drop : (m n : ℕ) (xs : List ℕ) → drop n (drop m xs) ≡ drop (m + n) xs
-drop_drop zero n xs = ap (λ (k : ℕ). drop k xs) (let e : n ≡ 0 + n = omega arith in e)
-drop_drop (suc m) n [] = drop-nil n ∙ sym (drop-nil (suc m + n))
-drop_drop (suc m) n (x ∷ xs) =
-    drop_drop m n xs ∙ ap (λ (k : ℕ). drop k (x ∷ xs)) (let e : suc (m + n) ≡ suc m + n = omega arith in e)
 
 -- what is left after a division
 pub record Left (place : ℕ) (text : List ℕ) (end : ℕ) (rest : List ℕ) : Type 0 where
@@ -34,7 +28,7 @@ divided_left place end text rest (l ∷ ls) (one {n = n} {l = m} {ls = ms} st d)
     record {
       count = s + n + r.count;
       far = omega (arith, f);
-      left = r.left ∙ ap (drop r.count) (drop_drop s n text) ∙ drop_drop (s + n) r.count text;
+      left = r.left ∙ ap (drop r.count) (drop-drop n s text) ∙ drop-drop r.count (s + n) text;
     }
 
 spaces_alone : (text : List ℕ) → list_all is_space text ≡ true → drop (prefix_len is_space text) text ≡ []
@@ -59,7 +53,7 @@ written_finishes file v w =
     let goes = value_goes v w.writable.formed [] 0 0 (omega (arith, levels)) (omega (arith, parts_few)) (omega (arith, cells_few)) d.ls [] d.are_tokens in
     let left : drop place file ≡ without_space d.rest =
     ap (λ (k : ℕ). drop k file) (let e : d.end + space_before d.rest ≡ l.count + space_before d.rest = omega (arith, far) in e)
-    ∙ sym (drop_drop l.count (space_before d.rest) file) ∙ ap (drop (space_before d.rest)) (sym l.left) in
+    ∙ sym (drop-drop (space_before d.rest) l.count file) ∙ ap (drop (space_before d.rest)) (sym l.left) in
     record {
       place = place;
       held = h;

@@ -24,3 +24,4 @@ mod Leads
 mod Opens
 mod OpenSpots
 mod Stopped
+mod Total

@@ -1,6 +1,6 @@
 -- Where a text is refused, the steps stop with that refusal.
 use Rattle.std.proofs.Common.{◌≡◌, ℕ, zero, suc, ◌+◌, Bool, true, false, ◌&&◌, if◌then◌else◌, List, [], ◌∷◌, ◌++◌, map, take, drop, length, Option, Some, None, Result, Ok, Err, refl, sym, ap, ◌∙◌, subst, arith, length-append}
-use Rattle.std.proofs.lemmas.List.{length-map, map-append}
+use Rattle.std.proofs.lemmas.List.{drop-drop, length-map, map-append}
 use Rattle.cell_nodes.specs.declared.tree.Tree.{Tree}
 use Rattle.typed_value.specs.Values.{Slice}
 use Rattle.value_text.specs.declared.lexeme.Sign.TheVariants.{CloseParen, OpenParen}
@@ -28,7 +28,7 @@ use Rattle.value_grammar.proofs.Kept.{IsLexeme, spelled_lexeme}
 use Rattle.value_grammar.proofs.Sound.{passes}
 use Rattle.value_grammar.proofs.Tied.{Fails, Tied, arounds, is_based, no_cell, no_step, state_of, tied, where_of}
 use Rattle.value_grammar.proofs.Parens.{ParenOf, paren_of}
-use Rattle.value_grammar.proofs.Complete.{divided_left, drop_drop}
+use Rattle.value_grammar.proofs.Complete.{divided_left}
 use Rattle.value_grammar.proofs.First.{Shaped, There, lexemes_push, reached_goes_on, reached_there, there_step}
 use Rattle.value_grammar.proofs.OpenSpots.{Like, LikeCell, open_leads}
 
@@ -51,7 +51,7 @@ led file rest before end spot below d e w =
     let far = k.far in
     let left : drop place file ≡ without_space rest =
     ap (λ (n : ℕ). drop n file) (let f : place ≡ k.count + space_before rest = omega (arith, far) in f)
-    ∙ sym (drop_drop k.count (space_before rest) file) ∙ ap (drop (space_before rest)) (sym k.left) in
+    ∙ sym (drop-drop (space_before rest) k.count file) ∙ ap (drop (space_before rest)) (sym k.left) in
     let r : Reaches file place (held_of q.0 (parts_begun (at spot below)) (cells_begun (at spot below))) =
     record { before = before; end = end; rest = rest; divides = d; spaced = refl; left = left; ran = q.2 } in
     record { o = q.0; like = q.1; reaches = r; left = left; there = reached_there file place (held_of q.0 (parts_begun (at spot below)) (cells_begun (at spot below))) r }

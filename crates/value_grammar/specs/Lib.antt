@@ -5,3 +5,4 @@ pub mod Within
 pub mod Refused
 pub mod Steps
 pub mod Reading
+pub mod ReadingLaws

@@ -65,7 +65,7 @@ is_paren l = false
 abbrev pub is_deep_value : ℕ → Lexeme → Bool
 is_deep_value around l = nat_le most_levels around && begins_value l
 
--- how many cells stand in one another
+-- the levels of cells in one another, that of the cell itself included
 abbrev pub cell_levels_step : Tree-F ℕ → ℕ
 cell_levels_step n = 1 + greatest n.children
 

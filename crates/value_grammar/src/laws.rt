@@ -1,5 +1,5 @@
 //! Laws of the texts of values: functions of no parameters, whose contracts speak of the definitions alone.
-ghost use Rattle.std.specs.Prelude.{◌≡◌, ℕ, List};
+ghost use Rattle.std.specs.Prelude.{◌≡◌, ◌⊎◌, ℕ, List};
 ghost use Rattle.typed_value.specs.Values.{Plain};
 ghost use Rattle.value_text.specs.Writes.{TextWrites};
 ghost use Rattle.value_grammar.specs.declared.cause.Cause.{Cause};
@@ -37,10 +37,16 @@ pub fn at_most_one_refusal()
         → TextRefused file other further → (cause ≡ other) × (byte ≡ further) }
 {}
 
-/// A text that writes a value has no refusal.
-pub fn value_or_refusal()
+/// A text that has a refusal writes no value.
+pub fn refused_writes_none()
     ensures { (file : List ℕ) (v : Plain) (cause : Cause) (byte : ℕ) → TextWrites file v
         → TextRefused file cause byte → ⊥ }
+{}
+
+/// Each text writes a value or has a refusal.
+pub fn value_or_refusal()
+    ensures { (file : List ℕ) → ((v : Plain) × TextWrites file v)
+        ⊎ ((cause : Cause) × (byte : ℕ) × TextRefused file cause byte) }
 {}
 
 /// The steps don't both lead through a text to a value and stop in it.

@@ -18,8 +18,8 @@ use crate::steps::step;
 use std::alloc::Global;
 use typed_value::Value;
 use value_grammar::laws::{
-    at_most_one_refusal, at_most_one_value, finish_or_stop, finished_is_written, stop_is_refusal,
-    value_or_refusal, written_is_finished,
+    at_most_one_refusal, at_most_one_value, finish_or_stop, finished_is_written,
+    refused_writes_none, stop_is_refusal, written_is_finished,
 };
 use value_text::lexeme_at;
 
@@ -149,6 +149,6 @@ pub fn parse(alloc: Global, text: &[u8]) -> Result<Value, TextError>
     at_most_one_value();
     finish_or_stop();
     at_most_one_refusal();
-    value_or_refusal();
+    refused_writes_none();
     read(alloc, text)
 }

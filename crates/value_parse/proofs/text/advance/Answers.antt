@@ -3,7 +3,8 @@ use Rattle.value_text.specs.Division.{space_before}
 use Rattle.value_text.specs.Lexemes.{NothingStands, Stands}
 use Rattle.value_grammar.specs.Reading.{at_nothing}
 use Rattle.value_parse.specs.View.{held}
-use Rattle.value_parse.proofs.Reach.{reaches_step, some_left, stays_within, step_stops}
+use Rattle.value_grammar.specs.ReadingLaws.{reaches_step}
+use Rattle.value_parse.proofs.Reach.{some_left, stays_within, step_stops}
 use Rattle.value_parse.proofs.text.advance.Goals as goal
 
 pub returns-in-None : goal.returns-in-None

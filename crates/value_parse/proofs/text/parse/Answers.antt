@@ -23,5 +23,5 @@ pub returns-clause-refused : goal.returns-clause-refused
 returns-clause-refused c = λ cause byte r.
     let text = c.args.text.now in
     parsed_so c.read.result (λ v. Finishes text (value v)) (λ v. ⊥) (Stops text) (λ found place. (found ≡ cause) × (place ≡ byte))
-    (λ v h. c.value_or_refusal.ensures text (value v) cause byte (c.finished_is_written.ensures text (value v) h) r)
+    (λ v h. c.refused_writes_none.ensures text (value v) cause byte (c.finished_is_written.ensures text (value v) h) r)
     (λ found place h. c.at_most_one_refusal.ensures text found cause place byte (c.stop_is_refusal.ensures text found place h) r) c.read.ensures

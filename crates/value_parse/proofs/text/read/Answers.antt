@@ -1,5 +1,5 @@
 use Rattle.value_parse.specs.View.{held}
-use Rattle.value_parse.proofs.Reach.{reaches_start}
+use Rattle.value_grammar.specs.ReadingLaws.{reaches_start}
 use Rattle.value_parse.proofs.text.read.Goals as goal
 
 pub lexemes-init : goal.lexemes-init
