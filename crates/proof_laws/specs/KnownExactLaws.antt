@@ -1,6 +1,6 @@
 -- Where spots are hidden, a path is not known exactly where one of them stands on its way; what else is known is as it was.
 use Rattle.std.specs.Prelude.{filter, bytes_eq}
-use Rattle.std.proofs.Common.{◌≡◌, ℕ, zero, suc, ◌+◌, ◌≤◌, Bool, true, false, cond, ◌&&◌, ◌||◌, List, [], ◌∷◌, ◌++◌}
+use Rattle.std.proofs.Common.{◌≡◌, ℕ, zero, suc, ◌+◌, Bool, true, false, cond, ◌||◌, List, [], ◌∷◌, ◌++◌}
 use Rattle.std.proofs.Common.{length, Option, Some, None, refl, sym, ap, ◌∙◌, subst, arith, append_assoc}
 use Rattle.std.proofs.lemmas.List.{append-nil}
 use Rattle.std.proofs.lemmas.Slice.Eq.{bytes_eq-Decides}
@@ -17,7 +17,7 @@ use Rattle.pruning.specs.Laid.{below, plain, plain_all, plain_pairs, trees}
 use Rattle.pruning.specs.SpellsLaid.{LaidRoot, as_it_is, laid, plain_root}
 use Rattle.pruning.specs.Spots.{Spot, Where, at_root, stepped, past, in_edge, in_ref, spot, spots, spots_fields}
 use Rattle.pruning.specs.Spots.{spots_items, edge_spots, value_spots, spots_of}
-use Rattle.pruning.specs.Blanked.{hidden_of, some_begin, Blanked}
+use Rattle.pruning.specs.Blanked.{hidden_of, some_begin}
 use Rattle.pruning.specs.Knowing.{is_hidden, hides, known_at, known, as_named}
 use Rattle.pruning.specs.Cut.{Choice}
 use Rattle.pruning_laws.specs.BlankedLaws.{RootApart, blanks}
@@ -30,7 +30,7 @@ use Rattle.pruning_laws.specs.KnownLaws.{is_prefix-append, left_part, right_part
 use Rattle.pruning_laws.specs.NamesLaws.{root_apart}
 use Rattle.pruning_laws.specs.PlaceLaws.{NamesApart, FieldsApart, ItemsApart, EdgeApart, All, all-append, all-map}
 use Rattle.pruning_laws.specs.PlaceLaws.{within, below-spots, in-fields, in-items, in-values, edges-at, IsBelow}
-use Rattle.pruning_laws.specs.PlaceLaws.{AtEdges, InValues}
+use Rattle.pruning_laws.specs.PlaceLaws.{AtEdges}
 use Rattle.proof_laws.specs.Laws.{KnowsExactly}
 use Rattle.proof_laws.specs.Ways.{on_way, some_on_way}
 use Rattle.proof_laws.specs.WayLaws.{met, met-append, met-none, met-first, met-off, or-false, OffWay, GoesElsewhere}

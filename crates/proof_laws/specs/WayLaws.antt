@@ -1,7 +1,7 @@
 -- Spots on the way of a path: which of the spots of a value are, by where they stand.
 use Rattle.std.specs.Prelude.{filter, bytes_eq}
-use Rattle.std.proofs.Common.{◌≡◌, inl, inr, ℕ, suc, ◌+◌, ◌<◌, ◌≤◌, Bool, true, false, cond, ◌&&◌, ◌||◌, nat_eq}
-use Rattle.std.proofs.Common.{List, [], ◌∷◌, ◌++◌, length, Option, Some, None, refl, sym, ap, ◌∙◌, subst, arith}
+use Rattle.std.proofs.Common.{◌≡◌, ℕ, suc, Bool, true, false, cond, ◌&&◌, ◌||◌, nat_eq}
+use Rattle.std.proofs.Common.{List, [], ◌∷◌, ◌++◌, Option, Some, None, refl, ap, ◌∙◌, arith}
 use Rattle.std.proofs.Common.{append_assoc}
 use Rattle.std.proofs.lemmas.Bool.{eqb-true}
 use Rattle.std.proofs.lemmas.Slice.Eq.{bytes_eq-Decides}
@@ -11,7 +11,7 @@ use Rattle.pruning.specs.Cut.{Choice}
 use Rattle.pruning.specs.Names.{NotAmong}
 use Rattle.pruning.specs.Spots.{Spot, same_stride, is_prefix, takes_key, enters}
 use Rattle.pruning_laws.specs.KeyLaws.{begins-same, begins-other, same-bytes, bytes-other, stripped}
-use Rattle.pruning_laws.specs.PlaceLaws.{All, chosen-append, stride-self, among-apart, IsAmong, all-map, InFields}
+use Rattle.pruning_laws.specs.PlaceLaws.{All, chosen-append, stride-self, among-apart, all-map, InFields}
 use Rattle.pruning_laws.specs.PlaceLaws.{InItems, InValues, AtEdges}
 use Rattle.proof_laws.specs.Ways.{on_way, some_on_way}
 
