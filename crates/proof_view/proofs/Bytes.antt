@@ -1,5 +1,6 @@
 -- The bytes of bits.
-use Rattle.std.proofs.Common.{◌≡◌, ℕ, zero, suc, ◌+◌, ◌*◌, ◌^◌, ◌<◌, ◌≤◌, List, [], ◌∷◌, ◌++◌, length, take, drop, map, get_or, ap, sym, ◌∙◌, refl, arith}
+use Rattle.std.proofs.Common.{◌≡◌, ℕ, zero, suc, ◌+◌, ◌*◌, ◌^◌, ◌<◌, ◌≤◌, List, [], ◌∷◌, ◌++◌, length, take, drop}
+use Rattle.std.proofs.Common.{map, get_or, ap, sym, ◌∙◌, refl, arith}
 use Rattle.std.specs.List.{range_with_len}
 use Rattle.std.proofs.lemmas.List.{get_or-take, get_or-drop, drop-drop, length-take, length-drop}
 use Rattle.std.proofs.Math.Seq.{take-add}
@@ -12,7 +13,8 @@ inside : (bits : List ℕ) (j : ℕ) → j < length bits → get_or bits j 0 ≡
 inside bits j h = grind arith
 
 -- bits by their places
-window : (bits : List ℕ) (s n : ℕ) → s + n ≤ length bits → take n (drop s bits) ≡ map (λ k. completed_bit bits (s + k)) (range_with_len 0 n)
+window : (bits : List ℕ) (s n : ℕ) → s + n ≤ length bits
+    → take n (drop s bits) ≡ map (λ k. completed_bit bits (s + k)) (range_with_len 0 n)
 window bits s n h =
     fill_by_all (λ k. completed_bit bits (s + k)) (take n (drop s bits)) n 0
     (omega (arith, length-take n (drop s bits), length-drop s bits))
@@ -48,7 +50,8 @@ pub hash_bytes : (bits hash : List ℕ) (first : ℕ) → length hash ≡ 32
     → ((k : ℕ) → k < 32 → get_or hash k 0 ≡ byte_of (first + k) bits) → hash ≡ hash_from (8 * first) bits
 hash_bytes bits hash first h all =
     fill_by_all (λ k. byte_of (first + k) bits) hash 32 0 h all
-    ∙ sym (fill_by_all (λ k. byte_of (first + k) bits) (hash_from (8 * first) bits) 32 0 (length-groups 32 (drop (8 * first) bits))
+    ∙ sym (fill_by_all (λ k. byte_of (first + k) bits) (hash_from (8 * first) bits) 32 0
+    (length-groups 32 (drop (8 * first) bits))
     (λ k below. groups-index 32 (drop (8 * first) bits) k below ∙ byte_of-drop bits first k))
 
 number_onto-from : (a : ℕ) (ys : List ℕ) → number_onto a ys ≡ a * 2 ^ length ys + number_onto 0 ys
@@ -64,7 +67,8 @@ number_onto-append a [] ys = refl
 number_onto-append a (x ∷ xs) ys = number_onto-append (2 * a + x) xs ys
 
 -- two bytes, the high one first
-two_bytes : (bits : List ℕ) → 16 ≤ length bits → number_of (take 16 bits) ≡ number_of (take 8 bits) * 256 + number_of (take 8 (drop 8 bits))
+two_bytes : (bits : List ℕ) → 16 ≤ length bits
+    → number_of (take 16 bits) ≡ number_of (take 8 bits) * 256 + number_of (take 8 (drop 8 bits))
 two_bytes bits h =
     let e : length (take 8 (drop 8 bits)) ≡ 8 = omega (arith, length-take 8 (drop 8 bits), length-drop 8 bits) in
     ap number_of (take-add 8 8 bits)
@@ -78,5 +82,6 @@ pub depth_bytes : (bits : List ℕ) (first : ℕ) → 8 * first + 16 ≤ length 
 depth_bytes bits first h =
     let z : first + 0 ≡ first = omega arith in
     ap (λ n. byte_of first bits * 256 + n) (sym (byte_of-drop bits first 1))
-    ∙ ap (λ n. n * 256 + number_of (take 8 (drop 8 (drop (8 * first) bits)))) (sym (ap (λ n. byte_of n bits) z) ∙ sym (byte_of-drop bits first 0))
+    ∙ ap (λ n. n * 256 + number_of (take 8 (drop 8 (drop (8 * first) bits))))
+    (sym (ap (λ n. byte_of n bits) z) ∙ sym (byte_of-drop bits first 0))
     ∙ sym (two_bytes (drop (8 * first) bits) (omega (arith, length-drop (8 * first) bits)))
