@@ -1,7 +1,7 @@
 -- What the laws say, for every accepted schema: facts about the definitions alone. The schema stands in them by the
 -- core forms of its declarations without those that are passed over.
 use Rattle.std.specs.Prelude.{filter}
-use Rattle.std.specs.Prelude.{◌≡◌, ◌⊎◌, ℕ, List, Option, Some, slice_get}
+use Rattle.std.specs.Prelude.{◌≡◌, ◌⊎◌, if◌then◌else◌, ℕ, List, Option, Some, slice_get}
 use Rattle.tlb_syntax.specs.Tree.{SchemaView}
 use Rattle.cell_nodes.specs.Constructed.{stub}
 use Rattle.cell_nodes.specs.Good.{IsGood}
@@ -11,12 +11,13 @@ use Rattle.cell_nodes.specs.declared.tree.Mode.TheVariants.{Whole}
 use Rattle.cell_nodes.specs.declared.tree.Tree.{Tree}
 use Rattle.core_form.specs.Closed.{Closed}
 use Rattle.spelling.specs.Spells.{Reading}
-use Rattle.typed_value.specs.Paths.{Stride}
+use Rattle.typed_value.specs.Paths.{Stride, at_path}
 use Rattle.typed_value.specs.Values.{Plain}
 use Rattle.accepted_schema.specs.Accepted.{IsAccepted, kept_cores}
 use Rattle.pruning.specs.Blanked.{Blanked}
-use Rattle.pruning.specs.Cut.{cut_root}
-use Rattle.pruning.specs.Knowing.{NamesSomething}
+use Rattle.pruning.specs.declared.Knowledge.TheVariants.{NotKnown}
+use Rattle.pruning.specs.Cut.{Choice, cut_root}
+use Rattle.pruning.specs.Knowing.{known, as_named, NamesSomething}
 use Rattle.pruning.specs.SpellsLaid.{LaidRoot, plain_root, IsLaidRoot, LaidReading}
 use Rattle.pruning.specs.Names.{NamesFieldsApart}
 use Rattle.pruning.specs.Spots.{unless_kept, unkept, spots_of}
@@ -25,6 +26,7 @@ use Rattle.pruning_laws.specs.Laws.{Commutes, KnowsNamed}
 use Rattle.proof_laws.specs.Laws.{ExactlyOne, IsProofOf}
 use Rattle.proof_laws.specs.Proving.{proved, ProveAnswers}
 use Rattle.proof_laws.specs.Viewing.{ViewAnswers}
+use Rattle.proof_laws.specs.Ways.{some_on_way}
 
 -- no two fields of a record are shown by one name
 abbrev pub AcceptedNamesApart : Type 0
@@ -54,6 +56,15 @@ NamedIsKnown =
     → (paths : List (List Stride)) (i : ℕ) (path : List Stride) → slice_get paths i ≡ Some path
     → NamesSomething (plain_root r) path
     → KnowsNamed (plain_root r) (Blanked (plain_root r) (unkept paths (spots_of r))) path
+
+-- Where spots of a value are hidden, a path is not known exactly where one of these stands on its way. Of every other path
+-- it is known whether it leads to a value.
+abbrev pub KnowsExactly : Type 0
+KnowsExactly =
+    (s : SchemaView) → IsAccepted s → (t : Closed) (c : Tree) (r : LaidRoot) → IsLaidRoot (kept_cores s) t c r
+    → (f : Choice) (path : List Stride)
+    → known (Blanked (plain_root r) (filter f (spots_of r))) path
+    ≡ (if some_on_way path (filter f (spots_of r)) then NotKnown else as_named (at_path (plain_root r) path))
 
 -- a root cell has at most one laid reading at a type
 abbrev pub OneLaid : Type 0

@@ -1,6 +1,6 @@
 //! What follows from the definitions alone, for every accepted schema. Each function states one law.
-ghost use Rattle.accepted_pruning.specs.Laws.{AcceptedNamesApart, NamedIsKnown, OneLaid, OneProveAnswer, OneViewAnswer};
-ghost use Rattle.accepted_pruning.specs.Laws.{ProveThenView, PrunedTreeReads, PruningCommutes};
+ghost use Rattle.accepted_pruning.specs.Laws.{AcceptedNamesApart, KnowsExactly, NamedIsKnown, OneLaid, OneProveAnswer};
+ghost use Rattle.accepted_pruning.specs.Laws.{OneViewAnswer, ProveThenView, PrunedTreeReads, PruningCommutes};
 
 use accepted_spelling::laws::accepted_is_acceptable;
 use tlb_kinds::laws::kept_stays_within;
@@ -36,6 +36,14 @@ pub fn named_is_known()
 {
     accepted_names_apart();
     pruning_laws::laws::named_is_known();
+}
+
+/// Where references of a value are hidden, a path is not known exactly where one of these stands on its way.
+pub fn knows_exactly()
+    ensures { KnowsExactly }
+{
+    accepted_names_apart();
+    proof_laws::laws::knows_exactly();
 }
 
 /// A root cell has at most one laid reading at a type.

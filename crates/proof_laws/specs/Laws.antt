@@ -1,5 +1,5 @@
 -- What the laws say: facts about the definitions alone.
-use Rattle.std.specs.Prelude.{◌≡◌, ℕ, ◌+◌, ◌≤◌, List, [], ◌∷◌, map, Option, Some, slice_get}
+use Rattle.std.specs.Prelude.{◌≡◌, if◌then◌else◌, ℕ, ◌+◌, ◌≤◌, List, [], ◌∷◌, filter, map, Option, Some, slice_get}
 use Rattle.cell_hash.specs.declared.Content.TheVariants.{Data}
 use Rattle.cell_nodes.specs.Constructed.{proof_bits, proof_of}
 use Rattle.cell_nodes.specs.Good.{IsGood}
@@ -12,13 +12,19 @@ use Rattle.core_form.specs.Core.{CoreSchema}
 use Rattle.core_form.specs.Closed.{Closed}
 use Rattle.spelling.specs.Acceptable.{IsAcceptable}
 use Rattle.spelling.specs.Spells.{Reading}
-use Rattle.typed_value.specs.Paths.{Stride}
+use Rattle.typed_value.specs.Paths.{Stride, at_path}
 use Rattle.typed_value.specs.Values.{Plain}
+use Rattle.pruning.specs.declared.Knowledge.TheVariants.{NotKnown}
+use Rattle.pruning.specs.Blanked.{Blanked}
+use Rattle.pruning.specs.Cut.{Choice}
+use Rattle.pruning.specs.Knowing.{known, as_named}
 use Rattle.pruning.specs.Names.{NamesFieldsApart}
-use Rattle.pruning.specs.SpellsLaid.{LaidRoot, plain_root, LaidReading}
+use Rattle.pruning.specs.SpellsLaid.{LaidRoot, plain_root, IsLaidRoot, LaidReading}
+use Rattle.pruning.specs.Spots.{unkept, spots_of}
 use Rattle.pruning_laws.specs.Laws.{KnowsNamed}
 use Rattle.proof_laws.specs.Nodes.{StandsIn}
 use Rattle.proof_laws.specs.Proving.{shown_for, proved, ProveAnswers}
+use Rattle.proof_laws.specs.Ways.{some_on_way}
 use Rattle.proof_laws.specs.Viewing.{IsRoot, viewed, IsSealed, ViewAnswers}
 
 -- ---- laid readings
@@ -75,11 +81,23 @@ OneViewAnswer =
     (schema : CoreSchema) → IsAcceptable schema → (t : Closed) (c : Tree) → IsGood c → (root : Option (List ℕ))
     → ExactlyOne (ViewAnswers schema t c root)
 
+-- ---- what is known
+
+-- Where spots of a value are hidden, a path is not known exactly where one of these stands on its way. Of every other path
+-- it is known whether it leads to a value.
+abbrev pub KnowsExactly : Type 0
+KnowsExactly =
+    (schema : CoreSchema) → NamesFieldsApart schema → (t : Closed) (c : Tree) (r : LaidRoot) → IsLaidRoot schema t c r
+    → (f : Choice) (path : List Stride)
+    → known (Blanked (plain_root r) (filter f (spots_of r))) path
+    ≡ (if some_on_way path (filter f (spots_of r)) then NotKnown else as_named (at_path (plain_root r) path))
+
 -- ---- proving and then reading
 
 -- The proof stands over a pruned tree with the hash and the depth of the tree. It is read as the value with just the
--- references unknown that no path keeps, where the tree's hash or none is given. Of each path it is known whether it
--- leads to a value or names an absence.
+-- references unknown that no path keeps, where the tree's hash or none is given. A path is not known exactly where one
+-- of these references stands on its way, and of each chosen path it is known whether it leads to a value or names an
+-- absence.
 pub record IsProofOf (schema : CoreSchema) (t : Closed) (c : Tree) (paths : List (List Stride)) (proof : Tree)
     (shown : Plain) : Type 0 where
   pub child : Tree
@@ -94,6 +112,9 @@ pub record IsProofOf (schema : CoreSchema) (t : Closed) (c : Tree) (paths : List
   pub shows : shown ≡ shown_for paths laid
   pub views : (root : Option (List ℕ)) → IsRoot root (hash c 0)
       → ViewAnswers schema t proof root (viewed shown (hash c 0))
+  pub hides : (path : List Stride)
+      → known shown path
+      ≡ (if some_on_way path (unkept paths (spots_of laid)) then NotKnown else as_named (at_path (plain_root laid) path))
   pub knows : (i : ℕ) (path : List Stride) → slice_get paths i ≡ Some path → KnowsNamed (plain_root laid) shown path
 
 abbrev pub ProveThenView : Type 0

@@ -1,4 +1,5 @@
 pub mod CellLaws
+pub mod KnownExactLaws
 pub mod LaidReadsLaws
 pub mod Laws
 pub mod Nodes
@@ -8,3 +9,5 @@ pub mod ProvingLaws
 pub mod ThenViewLaws
 pub mod Viewing
 pub mod ViewingLaws
+pub mod WayLaws
+pub mod Ways

@@ -15,9 +15,11 @@ use Rattle.typed_value.specs.Paths.{Stride}
 use Rattle.typed_value.specs.Values.{Plain}
 use Rattle.pruning.specs.Names.{NamesFieldsApart}
 use Rattle.pruning.specs.SpellsLaid.{LaidRoot, plain_root, LaidReading}
+use Rattle.pruning.specs.Spots.{unless_kept}
 use Rattle.pruning_laws.specs.AbsenceLaws.{named_known}
 use Rattle.pruning_laws.specs.CommutesLaws.{commutes}
 use Rattle.proof_laws.specs.CellLaws.{pruned_is_low, seals, good-proof_of}
+use Rattle.proof_laws.specs.KnownExactLaws.{knows_exactly}
 use Rattle.proof_laws.specs.LaidReadsLaws.{laid_reads}
 use Rattle.proof_laws.specs.Laws.{IsProofOf, ProveThenView}
 use Rattle.proof_laws.specs.Nodes.{here}
@@ -57,6 +59,7 @@ proves_so schema names t c sound paths r reading can shallow =
       shows = refl;
       views = viewed_so schema t (pruned_for paths r c) (shown_for paths r) (hash c 0) x.good level x.reads
           (sym x.same_hash);
+      hides = λ path. knows_exactly schema names t c r reading.lies (unless_kept paths) path;
       knows = λ i path at. named_known schema names t c r reading.lies paths i path at (can.named i path at);
     }
 

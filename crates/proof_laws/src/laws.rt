@@ -1,6 +1,6 @@
 //! What follows from the definitions alone. Each function states one law; its body is empty.
-ghost use Rattle.proof_laws.specs.Laws.{LaidIsRead, OneLaid, OneProveAnswer, OneViewAnswer, ProofCell, ProveThenView};
-ghost use Rattle.proof_laws.specs.Laws.{PrunedIsLow};
+ghost use Rattle.proof_laws.specs.Laws.{KnowsExactly, LaidIsRead, OneLaid, OneProveAnswer, OneViewAnswer, ProofCell};
+ghost use Rattle.proof_laws.specs.Laws.{ProveThenView, PrunedIsLow};
 
 /// A laid reading is a reading of its plain value, and each reading in mode Whole is one of a laid value.
 pub fn laid_is_read()
@@ -30,6 +30,11 @@ pub fn one_prove_answer()
 /// Reading a proof has exactly one answer.
 pub fn one_view_answer()
     ensures { OneViewAnswer }
+{}
+
+/// Where references of a value are hidden, a path is not known exactly where one of these stands on its way.
+pub fn knows_exactly()
+    ensures { KnowsExactly }
 {}
 
 /// What is proved is read as the value with just the references unknown that no path keeps, and with the tree's hash.

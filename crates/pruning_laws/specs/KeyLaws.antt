@@ -31,7 +31,7 @@ stripped-some (b ∷ p) (c ∷ k) r e = go (nat_eq b c) refl e (stripped-some p 
     go true f h ih = λ i. (sym (eqb-true b c f)) i ∷ ih h i
     go false f h ih = absurd (cc)
 
-begins-other : (p u k : List ℕ) → stripped p k ≡ None → begins (p ++ u) k ≡ false
+pub begins-other : (p u k : List ℕ) → stripped p k ≡ None → begins (p ++ u) k ≡ false
 begins-other [] u k e = absurd (cc)
 begins-other (b ∷ p) u [] e = refl
 begins-other (b ∷ p) u (c ∷ k) e = go (nat_eq b c) e (begins-other p u k)
@@ -96,7 +96,7 @@ entry-join (a_pair l v ps) qs k = go (bytes_eq l k) (entry-join ps qs k)
 bytes-self : (k : List ℕ) → bytes_eq k k ≡ true
 bytes-self k = (bytes_eq-Decides k k).1 refl
 
-bytes-other : (p l k : List ℕ) → stripped p k ≡ None → bytes_eq (p ++ l) k ≡ false
+pub bytes-other : (p l k : List ℕ) → stripped p k ≡ None → bytes_eq (p ++ l) k ≡ false
 bytes-other p l k e = go (bytes_eq (p ++ l) k) refl
   where
     never : stripped p (p ++ l) ≡ Some l
@@ -113,7 +113,7 @@ bytes-other p l k e = go (bytes_eq (p ++ l) k) refl
         absurd (let n = never in cc)
     go false f = refl
 
-same-bytes : (p l k : List ℕ) → bytes_eq (p ++ l) (p ++ k) ≡ bytes_eq l k
+pub same-bytes : (p l k : List ℕ) → bytes_eq (p ++ l) (p ++ k) ≡ bytes_eq l k
 same-bytes [] l k = refl
 same-bytes (b ∷ p) l k = go (bytes_eq l k) refl
   where

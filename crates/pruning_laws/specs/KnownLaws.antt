@@ -340,7 +340,7 @@ stride-self (named x) = (bytes_eq-Decides x x).1 refl
 stride-self (item i) = eq-eqb i i refl
 stride-self (keyed k) = (bytes_eq-Decides k k).1 refl
 
-is_prefix-append : (m steps : List Stride) → is_prefix m (m ++ steps) ≡ true
+pub is_prefix-append : (m steps : List Stride) → is_prefix m (m ++ steps) ≡ true
 is_prefix-append [] steps = refl
 is_prefix-append (s ∷ m) steps = λ i. stride-self s i && is_prefix-append m steps i
 

@@ -50,7 +50,7 @@ abbrev mutual
   EdgeApart (a_leaf l d) = NamesApart d
   EdgeApart (a_fork l z a o b) = EdgeApart a × EdgeApart b
 
-among-apart : (x y : List ℕ) (names : List (List ℕ)) → NotAmong x names → IsAmong y names → y ≡ x → ⊥
+pub among-apart : (x y : List ℕ) (names : List (List ℕ)) → NotAmong x names → IsAmong y names → y ≡ x → ⊥
 among-apart x y [] h k e = k
 among-apart x y (z ∷ zs) h (inl k) e = h.0 (sym e ∙ k)
 among-apart x y (z ∷ zs) h (inr k) e = among-apart x y zs h.1 k e
@@ -61,11 +61,11 @@ abbrev pub All : (Spot → Type 0) → List Spot → Type 0
 All P [] = Unit {0}
 All P (x ∷ xs) = P x × All P xs
 
-all-append : (P : Spot → Type 0) (xs ys : List Spot) → All P xs → All P ys → All P (xs ++ ys)
+pub all-append : (P : Spot → Type 0) (xs ys : List Spot) → All P xs → All P ys → All P (xs ++ ys)
 all-append P [] ys a b = b
 all-append P (x ∷ xs) ys a b = (a.0, all-append P xs ys a.1 b)
 
-all-map : (P Q : Spot → Type 0) → ((x : Spot) → P x → Q x) → (xs : List Spot) → All P xs → All Q xs
+pub all-map : (P Q : Spot → Type 0) → ((x : Spot) → P x → Q x) → (xs : List Spot) → All P xs → All Q xs
 all-map P Q f [] a = tt
 all-map P Q f (x ∷ xs) a = (f x a.0, all-map P Q f xs a.1)
 
@@ -99,7 +99,7 @@ stride-same (keyed k) (named y) e = absurd (cc)
 stride-same (keyed k) (item j) e = absurd (cc)
 stride-same (keyed k) (keyed l) e = ap keyed ((bytes_eq-Decides k l).0 e)
 
-stride-self : (s : Stride) → same_stride s s ≡ true
+pub stride-self : (s : Stride) → same_stride s s ≡ true
 stride-self (named x) = (bytes_eq-Decides x x).1 refl
 stride-self (item i) = eq-eqb i i refl
 stride-self (keyed k) = (bytes_eq-Decides k k).1 refl
@@ -153,7 +153,7 @@ under-ref m k n j (inl h) = let l = h.1 in inl (h.0, omega (arith, l))
 under-ref m k n j (inr h) = inr h
 
 -- one step on
-within : (m : List Stride) (s : Stride) (n : List Stride) (j : ℕ) → Under (m ++ s ∷ []) 0 n j
+pub within : (m : List Stride) (s : Stride) (n : List Stride) (j : ℕ) → Under (m ++ s ∷ []) 0 n j
     → (steps : List Stride) × (n ≡ m ++ s ∷ steps)
 within m s n j (inl h) = ([], h.0)
 within m s n j (inr h) = (h.0 ∷ h.1, h.2 ∙ append_assoc m (s ∷ []) (h.0 ∷ h.1))
@@ -291,16 +291,16 @@ ref-foreign w c = record { refs = λ n j u. refs n j u; edges = λ n j u. edges 
 abbrev pub IsBelow : List Stride → ℕ → Spot → Type 0
 IsBelow m k x = Under m k x.path x.around
 
-abbrev InFields : List Stride → List (List ℕ) → Spot → Type 0
+abbrev pub InFields : List Stride → List (List ℕ) → Spot → Type 0
 InFields m names x = (y : List ℕ) × (steps : List Stride) × (x.path ≡ m ++ named y ∷ steps) × IsAmong y names
 
-abbrev InItems : List Stride → ℕ → Spot → Type 0
+abbrev pub InItems : List Stride → ℕ → Spot → Type 0
 InItems m i x = (j : ℕ) × (steps : List Stride) × (x.path ≡ m ++ item j ∷ steps) × (i ≤ j)
 
-abbrev InValues : List Stride → List ℕ → Spot → Type 0
+abbrev pub InValues : List Stride → List ℕ → Spot → Type 0
 InValues m q x = (r : List ℕ) × (steps : List Stride) × (x.path ≡ m ++ keyed (q ++ r) ∷ steps)
 
-abbrev AtEdges : List Stride → ℕ → List ℕ → Spot → Type 0
+abbrev pub AtEdges : List Stride → ℕ → List ℕ → Spot → Type 0
 AtEdges m k q x = (x.path ≡ m) × (x.around ≡ k) × ((r : List ℕ) × (x.prefix ≡ Some (q ++ r)))
 
 values-deeper : (m : List Stride) (q p : List ℕ) (x : Spot) → InValues m (q ++ p) x → InValues m q x
@@ -313,7 +313,7 @@ edges-deeper m k q p x h = (h.0, h.1, (p ++ h.2.0, h.2.1 ∙ ap Some (append_ass
 edge-first : (w : Where) (q p : List ℕ) (c : Tree) → AtEdges w.path w.around q (spot w (Some (q ++ p)) c)
 edge-first w q p c = (refl, refl, (p, refl))
 
-edges-at : (w : Where) (q : List ℕ) (e : LaidEdge) → All (AtEdges w.path w.around q) (edge_spots w q e)
+pub edges-at : (w : Where) (q : List ℕ) (e : LaidEdge) → All (AtEdges w.path w.around q) (edge_spots w q e)
 edges-at w q (a_leaf l d) = tt
 edges-at w q (a_fork l z a o b) =
     let x = l ++ 0 ∷ [] in
@@ -337,7 +337,7 @@ values-below : (m : List Stride) (k : ℕ) (q : List ℕ) (x : Spot) → InValue
 values-below m k q x h = inr (keyed (q ++ h.0), h.1, h.2)
 
 mutual
-  below-spots : (w : Where) (d : Laid) → NamesApart d → All (IsBelow w.path w.around) (spots w d)
+  pub below-spots : (w : Where) (d : Laid) → NamesApart d → All (IsBelow w.path w.around) (spots w d)
   below-spots w (number negative size) apart = tt
   below-spots w (bit_string bits) apart = tt
   below-spots w (record_of name names ds) apart =
@@ -371,7 +371,7 @@ mutual
       (in-values w [] e apart))
   below-spots w (rest s) apart = tt
 
-  in-fields : (w : Where) (names : List (List ℕ)) (ds : Laids) → FieldsApart names ds
+  pub in-fields : (w : Where) (names : List (List ℕ)) (ds : Laids) → FieldsApart names ds
       → All (InFields w.path names) (spots_fields w names ds)
   in-fields w names no_laids apart = tt
   in-fields w [] (a_laid d ds) apart = absurd apart
@@ -384,7 +384,7 @@ mutual
       (all-map (InFields w.path names) (InFields w.path (y ∷ names)) (λ x h. (h.0, h.1, h.2, inr h.3))
       (spots_fields (past w (length (trees d))) names ds) (in-fields (past w (length (trees d))) names ds apart.2))
 
-  in-items : (w : Where) (i : ℕ) (ds : Laids) → ItemsApart ds → All (InItems w.path i) (spots_items w i ds)
+  pub in-items : (w : Where) (i : ℕ) (ds : Laids) → ItemsApart ds → All (InItems w.path i) (spots_items w i ds)
   in-items w i no_laids apart = tt
   in-items w i (a_laid d ds) apart =
       all-append (InItems w.path i) (spots (stepped w (item i)) d) (spots_items (past w (length (trees d))) (suc i) ds)
@@ -394,7 +394,7 @@ mutual
       (all-map (InItems w.path (suc i)) (InItems w.path i) (λ x h. let l = h.3 in (h.0, h.1, h.2, omega (arith, l)))
       (spots_items (past w (length (trees d))) (suc i) ds) (in-items (past w (length (trees d))) (suc i) ds apart.1))
 
-  in-values : (w : Where) (q : List ℕ) (e : LaidEdge) → EdgeApart e → All (InValues w.path q) (value_spots w q e)
+  pub in-values : (w : Where) (q : List ℕ) (e : LaidEdge) → EdgeApart e → All (InValues w.path q) (value_spots w q e)
   in-values w q (a_leaf l d) apart =
       all-map (IsBelow (w.path ++ keyed (q ++ l) ∷ []) 0) (InValues w.path q)
       (λ x h. let u = within w.path (keyed (q ++ l)) x.path x.around h in (l, u.0, u.1))

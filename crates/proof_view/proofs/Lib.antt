@@ -1,0 +1,4 @@
+mod Bytes
+mod Layouts
+mod One
+mod Sealing
