@@ -4,6 +4,7 @@ pub mod Dicts
 pub mod Fields
 pub mod Leaves
 pub mod Levels
+pub mod Records
 pub mod Refs
 pub mod Repeats
 pub mod Roots
