@@ -9,5 +9,6 @@ pub mod Refs
 pub mod Repeats
 pub mod Roots
 pub mod Rows
+pub mod Seen
 pub mod Steps
 pub mod Turning

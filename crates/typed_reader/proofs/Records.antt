@@ -1,5 +1,6 @@
 -- The shape of a field's type, and a record in a record.
-use Rattle.std.proofs.Common.{◌≡◌, ℕ, true, false, cond, List, [], Option, None, Result, Ok, Err, refl, ap, sym, ◌∙◌, subst, arith, ◌<◌, length}
+use Rattle.std.proofs.Common.{◌≡◌, ℕ, true, false, cond, List, [], Option, None, Result, Ok, Err, refl, ap, sym, ◌∙◌, subst}
+use Rattle.std.proofs.Common.{arith, ◌<◌, length}
 use Rattle.cell_nodes.specs.declared.tree.Kind.TheVariants as kinds
 use Rattle.cell_nodes.specs.declared.tree.Mode.{Mode}
 use Rattle.cell_nodes.specs.declared.tree.Tree.{Tree, out-Tree}
@@ -15,49 +16,56 @@ use Rattle.hashmap_tree.specs.Dict.{unseen}
 use Rattle.hashmap_tree.specs.Entries.{Slice, content}
 use Rattle.nat_solver.specs.Number.{Numbers}
 use Rattle.plan_closing.specs.Counted.{scope_of}
-use Rattle.plan_reading.specs.Shaped.{IsRecord, Refuses, governed, shape_view}
+use Rattle.plan_reading.specs.Shaped.{IsRecord, Refuses, ShapeIsSound, governed, shape_view}
 use Rattle.plan_reading.specs.StopLaws.{stops_at, stops_then}
 use Rattle.plan_reading.specs.Stops.{Stops, StopsAt}
 use Rattle.plan_reading.specs.declared.shapes.FlatShape.{FlatShape}
+use Rattle.plan_reading.specs.declared.shapes.FlatShape.TheVariants.{Here, Under}
 use Rattle.plan_reading.specs.declared.shapes.ShapeError.{ShapeError}
 use Rattle.plan_reading.specs.declared.shapes.ShapeError.TheVariants as errors
 use Rattle.plan_reading.specs.declared.stop.StopError.{StopError}
 use Rattle.spelling.specs.Goals.{Goal, Shape, at_field, at_fields, fields_here, shape_of}
 use Rattle.spelling.specs.Places.{Place, Spot, stuck}
-use Rattle.spelling.specs.PlainReader.{◌>>=◌, Found, Got, Reader, cell_value, read_fields, read_ref, read_shape, reading, whole_of}
+use Rattle.spelling.specs.PlainReader.{◌>>=◌, Found, Got, Reader, cell_value, read_fields, read_ref, read_shape, reading}
+use Rattle.spelling.specs.PlainReader.{whole_of}
 use Rattle.spelling.specs.Slices.{is_nothing}
 use Rattle.spelling.specs.declared.Cause.{Cause}
 use Rattle.spelling.specs.declared.Cause.TheVariants.{Exotic, Leftover}
 use Rattle.typed_value.specs.Values.{Plain, Plains, most_parts, record_of, ref_to}
 use Rattle.typed_reader.specs.Begun.{starting}
 use Rattle.typed_reader.proofs.Levels.{begin_stops, reading_refused, reading_shaped, within}
-use Rattle.typed_reader.proofs.Refs.{as_record, fields_begin, ref_read, ref_stops, under_exotic, under_held, whole_left, whole_read}
+use Rattle.typed_reader.proofs.Refs.{as_record, fields_begin, ref_read, ref_stops, under_exotic, under_held, whole_left}
+use Rattle.typed_reader.proofs.Refs.{whole_read}
 use Rattle.typed_reader.proofs.Steps.{stops_same}
 
 -- ---- the shape of a field
 
-pub field_shaped : (n : ℕ) (mode : Mode) (schema : CoreSchema) (h : Spot) (f p : Flat) (c : Option (ℕ × ℕ)) (ty : ℕ) (scope : Scope)
+pub field_shaped : (n : ℕ) (mode : Mode) (schema : CoreSchema) (h : Spot) (f p : Flat) (c : Option (ℕ × ℕ)) (ty : ℕ)
+    (scope : Scope)
     (q k : ℕ) (s : Slice) (x y : FlatShape) → f ≡ p → starting n q h ≡ Ok k
     → shape_of (at_field (governed f c) (type_at f ty) scope) ≡ Ok (shape_view f scope x) → x ≡ y
     → reading n most_parts mode schema h (at_field (governed p c) (type_at p ty) scope) q s
     ≡ read_shape mode schema (within n mode schema) h (shape_view p scope y) k s
 field_shaped n mode schema h f p c ty scope q k s x y same begun shape is =
     let P : Flat → Type 0 = λ z. shape_of (at_field (governed z c) (type_at z ty) scope) ≡ Ok (shape_view z scope x) in
-    reading_shaped n mode schema h (at_field (governed p c) (type_at p ty) scope) q k s (shape_view p scope x) begun (subst P same shape)
+    reading_shaped n mode schema h (at_field (governed p c) (type_at p ty) scope) q k s (shape_view p scope x) begun
+    (subst P same shape)
     ∙ ap (λ z. read_shape mode schema (within n mode schema) h (shape_view p scope z) k s) is
 
-pub field_refused : (n : ℕ) (mode : Mode) (schema : CoreSchema) (h : Spot) (f p : Flat) (c : Option (ℕ × ℕ)) (ty : ℕ) (scope : Scope)
+pub field_refused : (n : ℕ) (mode : Mode) (schema : CoreSchema) (h : Spot) (f p : Flat) (c : Option (ℕ × ℕ)) (ty : ℕ)
+    (scope : Scope)
     (q k : ℕ) (s : Slice) (e : ShapeError) (why : Cause) → f ≡ p → starting n q h ≡ Ok k
     → Refuses e (shape_of (at_field (governed f c) (type_at f ty) scope)) → e ≡ errors.Refused why
     → reading n most_parts mode schema h (at_field (governed p c) (type_at p ty) scope) q s ≡ Err (stuck h why)
 field_refused n mode schema h f p c ty scope q k s e why same begun refused is =
     let P : ShapeError → Type 0 = λ z. Refuses z (shape_of (at_field (governed f c) (type_at f ty) scope)) in
     let Q : Flat → Type 0 = λ z. shape_of (at_field (governed z c) (type_at z ty) scope) ≡ Err why in
-    reading_refused n mode schema h (at_field (governed p c) (type_at p ty) scope) q k s why begun (subst Q same (subst P is refused))
+    reading_refused n mode schema h (at_field (governed p c) (type_at p ty) scope) q k s why begun (subst Q same
+    (subst P is refused))
 
 -- ---- the operations of a record
 
-pub record_within : (f p : Flat) (ty first count : ℕ) → f ≡ p → ty < length p.types → IsRecord f ty first count
+record_within : (f p : Flat) (ty first count : ℕ) → f ≡ p → ty < length p.types → IsRecord f ty first count
     → IsRecord p (length p.types) first count
 record_within f p ty first count same low is =
     let P : Flat → Type 0 = λ z. IsRecord z ty first count in
@@ -66,6 +74,18 @@ record_within f p ty first count same low is =
       there = r.there;
       sound = ops_higher p ty (length p.types) (range p.ops first count) (omega arith) r.sound;
     }
+
+pub here_within : (f p : Flat) (ty first count : ℕ) (x : FlatShape) → f ≡ p → ty < length p.types → ShapeIsSound f ty x
+    → x ≡ Here first count → IsRecord p (length p.types) first count
+here_within f p ty first count x same low sound is =
+    let P : FlatShape → Type 0 = λ z. ShapeIsSound f ty z in
+    record_within f p ty first count same low (subst P is sound)
+
+pub under_within : (f p : Flat) (ty first count : ℕ) (x : FlatShape) → f ≡ p → ty < length p.types → ShapeIsSound f ty x
+    → x ≡ Under first count → IsRecord p (length p.types) first count
+under_within f p ty first count x same low sound is =
+    let P : FlatShape → Type 0 = λ z. ShapeIsSound f ty z in
+    record_within f p ty first count same low (subst P is sound)
 
 pub ops_within : (f p : Flat) (first count : ℕ) (ops : List PlanOp) → f ≡ p → ops ≡ range f.ops first count
     → IsRecord p (length p.types) first count → OpsAreSound p (length p.types) ops
@@ -80,15 +100,18 @@ pub items_there : (f p : Flat) (first count : ℕ) (ops : List PlanOp) → f ≡
 items_there f p first count ops same there =
     ap (λ z. items_in p (type_at p) None z) (there ∙ ap (λ (z : Flat). range z.ops first count) same)
 
-pub fields_stop : (R : Reader) (h : Spot) (is js : Items) (types : List (Option ClosedType)) (a b : Numbers) (q : ℕ) (s : Slice) (e : StopError)
+pub fields_stop : (R : Reader) (h : Spot) (is js : Items) (types : List (Option ClosedType)) (a b : Numbers) (q : ℕ)
+    (s : Slice) (e : StopError)
     → is ≡ js → a ≡ b → Stops h e (read_fields R h is (scope_of a types) q s)
     → Stops h e (read_fields R h js (scope_of b types) q s >>= as_record js)
 fields_stop R h is js types a b q s e same copied stop =
     stops_then h e (read_fields R h js (scope_of b types) q s) (as_record js)
     (stops_same h e _ _
-    (ap (λ z. read_fields R h js (scope_of z types) q s) (sym copied) ∙ ap (λ z. read_fields R h z (scope_of a types) q s) (sym same)) stop)
+    (ap (λ z. read_fields R h js (scope_of z types) q s) (sym copied) ∙ ap (λ z. read_fields R h z (scope_of a types) q s)
+    (sym same)) stop)
 
-pub fields_found : (R : Reader) (h : Spot) (is js : Items) (types : List (Option ClosedType)) (a b : Numbers) (q : ℕ) (s rest : Slice)
+pub fields_found : (R : Reader) (h : Spot) (is js : Items) (types : List (Option ClosedType)) (a b : Numbers) (q : ℕ)
+    (s rest : Slice)
     (names : List Word) (vs : Plains) (scope : Scope) (v : Plain) (found : Found)
     → is ≡ js → a ≡ b → read_fields R h is (scope_of a types) q s ≡ Ok (vs, scope, rest)
     → names ≡ field_names is → v ≡ record_of None names vs → found ≡ (v, [], rest)
@@ -103,7 +126,8 @@ fields_found R h is js types a b q s rest names vs scope v found same copied rea
 
 -- ---- a record under `^`
 
-under_at : (R : Reader) (h : Spot) (is : Items) (scope : Scope) (q : ℕ) (c : Tree) (s : Slice) → (out-Tree c).kind ≡ kinds.Ordinary
+under_at : (R : Reader) (h : Spot) (is : Items) (scope : Scope) (q : ℕ) (c : Tree) (s : Slice) →
+    (out-Tree c).kind ≡ kinds.Ordinary
     → s ≡ content c → cell_value R h (at_fields is scope) q c ≡ whole_of R h (at_fields is scope) q s
 under_at R h is scope q c s ordinary same =
     under_held R h is scope q c ordinary ∙ ap (λ z. whole_of R h (at_fields is scope) q z) (sym same)
@@ -119,13 +143,16 @@ under_stops R h is scope q c s e ordinary same stop =
 module _ (n : ℕ) (mode : Mode) (schema : CoreSchema) (h : Spot) (q : ℕ) (bits : List ℕ) (refs more : List Tree) (c : Tree)
     (there : refs ≡ c ∷ more) (seen : unseen mode c ≡ None) where
   pub under_not_ordinary : (is : Items) (scope : Scope) (e : StopError) → ((out-Tree c).kind ≡ kinds.Ordinary → ⊥)
-      → StopsAt h e (stuck h Exotic) → Stops h e (read_ref mode (reading n most_parts mode schema) h (at_fields is scope) q bits refs)
+      → StopsAt h e (stuck h Exotic) → Stops h e (read_ref mode (reading n most_parts mode schema) h
+      (at_fields is scope) q bits refs)
   under_not_ordinary is scope e other stop =
       ref_stops mode (reading n most_parts mode schema) h (at_fields is scope) q bits refs more c e there seen
       (stops_at h e (stuck h Exotic) _ stop (under_exotic (reading n most_parts mode schema) h is scope q c other))
 
-  pub under_none_begins : (is : Items) (scope : Scope) (s : Slice) (e : StopError) → (out-Tree c).kind ≡ kinds.Ordinary → s ≡ content c
-      → Stops h e (starting n q h) → Stops h e (read_ref mode (reading n most_parts mode schema) h (at_fields is scope) q bits refs)
+  pub under_none_begins : (is : Items) (scope : Scope) (s : Slice) (e : StopError) →
+  (out-Tree c).kind ≡ kinds.Ordinary → s ≡ content c
+      → Stops h e (starting n q h) → Stops h e (read_ref mode (reading n most_parts mode schema) h
+      (at_fields is scope) q bits refs)
   under_none_begins is scope s e ordinary same stop =
       ref_stops mode (reading n most_parts mode schema) h (at_fields is scope) q bits refs more c e there seen
       (under_stops (reading n most_parts mode schema) h is scope q c s e ordinary same
@@ -139,7 +166,8 @@ module _ (n : ℕ) (mode : Mode) (schema : CoreSchema) (h : Spot) (q : ℕ) (bit
       (under_stops (reading n most_parts mode schema) h is scope q c s e ordinary same
       (stops_same h e _ _ (fields_begin n mode schema h is scope q k s begun) stop))
 
-  pub under_left_over : (is : Items) (scope : Scope) (k : ℕ) (s : Slice) (x : Found) (e : StopError) → (out-Tree c).kind ≡ kinds.Ordinary
+  pub under_left_over : (is : Items) (scope : Scope) (k : ℕ) (s : Slice) (x : Found) (e : StopError) →
+  (out-Tree c).kind ≡ kinds.Ordinary
       → s ≡ content c → starting n q h ≡ Ok k → (read_fields (within n mode schema) h is scope k s >>= as_record is) ≡ Ok x
       → is_nothing x.2 ≡ false → StopsAt h e (stuck h Leftover)
       → Stops h e (read_ref mode (reading n most_parts mode schema) h (at_fields is scope) q bits refs)

@@ -24,7 +24,8 @@ use Rattle.typed_reader.specs.declared.error.ReadError.TheVariants as errors
 use Rattle.field_plan.specs.Placed.{place_view}
 use Rattle.typed_reader.specs.Promise.{Answers, IsReading, IsStuck, Placed}
 
-module _ (exact : ReadIsExact) (one : ReadOrStuck) (mode : Mode) (s : SchemaView) (accepted : IsAccepted s) (kept : kept_of s ≡ s)
+module _ (exact : ReadIsExact) (one : ReadOrStuck) (mode : Mode) (s : SchemaView) (accepted : IsAccepted s)
+    (kept : kept_of s ≡ s)
     (t : Closed) (c : Tree) where
   by_kept : (r : Result Plain Place) → read mode (cores s) t c ≡ r → read mode (kept_cores s) t c ≡ r
   by_kept r e = ap (λ z. read mode (cores z) t c) kept ∙ e
