@@ -41,8 +41,7 @@ use Rattle.typed_reader.proofs.Steps.{stops_same}
 -- ---- the shape of a field
 
 pub field_shaped : (n : ℕ) (mode : Mode) (schema : CoreSchema) (h : Spot) (f p : Flat) (c : Option (ℕ × ℕ)) (ty : ℕ)
-    (scope : Scope)
-    (q k : ℕ) (s : Slice) (x y : FlatShape) → f ≡ p → starting n q h ≡ Ok k
+    (scope : Scope) (q k : ℕ) (s : Slice) (x y : FlatShape) → f ≡ p → starting n q h ≡ Ok k
     → shape_of (at_field (governed f c) (type_at f ty) scope) ≡ Ok (shape_view f scope x) → x ≡ y
     → reading n most_parts mode schema h (at_field (governed p c) (type_at p ty) scope) q s
     ≡ read_shape mode schema (within n mode schema) h (shape_view p scope y) k s
@@ -53,8 +52,7 @@ field_shaped n mode schema h f p c ty scope q k s x y same begun shape is =
     ∙ ap (λ z. read_shape mode schema (within n mode schema) h (shape_view p scope z) k s) is
 
 pub field_refused : (n : ℕ) (mode : Mode) (schema : CoreSchema) (h : Spot) (f p : Flat) (c : Option (ℕ × ℕ)) (ty : ℕ)
-    (scope : Scope)
-    (q k : ℕ) (s : Slice) (e : ShapeError) (why : Cause) → f ≡ p → starting n q h ≡ Ok k
+    (scope : Scope) (q k : ℕ) (s : Slice) (e : ShapeError) (why : Cause) → f ≡ p → starting n q h ≡ Ok k
     → Refuses e (shape_of (at_field (governed f c) (type_at f ty) scope)) → e ≡ errors.Refused why
     → reading n most_parts mode schema h (at_field (governed p c) (type_at p ty) scope) q s ≡ Err (stuck h why)
 field_refused n mode schema h f p c ty scope q k s e why same begun refused is =
@@ -149,8 +147,8 @@ module _ (n : ℕ) (mode : Mode) (schema : CoreSchema) (h : Spot) (q : ℕ) (bit
       ref_stops mode (reading n most_parts mode schema) h (at_fields is scope) q bits refs more c e there seen
       (stops_at h e (stuck h Exotic) _ stop (under_exotic (reading n most_parts mode schema) h is scope q c other))
 
-  pub under_none_begins : (is : Items) (scope : Scope) (s : Slice) (e : StopError) →
-  (out-Tree c).kind ≡ kinds.Ordinary → s ≡ content c
+  pub under_none_begins : (is : Items) (scope : Scope) (s : Slice) (e : StopError)
+      → (out-Tree c).kind ≡ kinds.Ordinary → s ≡ content c
       → Stops h e (starting n q h) → Stops h e (read_ref mode (reading n most_parts mode schema) h
       (at_fields is scope) q bits refs)
   under_none_begins is scope s e ordinary same stop =
@@ -166,8 +164,8 @@ module _ (n : ℕ) (mode : Mode) (schema : CoreSchema) (h : Spot) (q : ℕ) (bit
       (under_stops (reading n most_parts mode schema) h is scope q c s e ordinary same
       (stops_same h e _ _ (fields_begin n mode schema h is scope q k s begun) stop))
 
-  pub under_left_over : (is : Items) (scope : Scope) (k : ℕ) (s : Slice) (x : Found) (e : StopError) →
-  (out-Tree c).kind ≡ kinds.Ordinary
+  pub under_left_over : (is : Items) (scope : Scope) (k : ℕ) (s : Slice) (x : Found) (e : StopError)
+      → (out-Tree c).kind ≡ kinds.Ordinary
       → s ≡ content c → starting n q h ≡ Ok k → (read_fields (within n mode schema) h is scope k s >>= as_record is) ≡ Ok x
       → is_nothing x.2 ≡ false → StopsAt h e (stuck h Leftover)
       → Stops h e (read_ref mode (reading n most_parts mode schema) h (at_fields is scope) q bits refs)
