@@ -1,5 +1,5 @@
 -- The shape of a field's type, and a record in a record.
-use Rattle.std.proofs.Common.{◌≡◌, ℕ, true, false, cond, List, [], Option, None, Result, Ok, Err, refl, ap, sym, ◌∙◌, subst}
+use Rattle.std.proofs.Common.{◌≡◌, ℕ, true, false, cond, List, [], ◌∷◌, Option, None, Result, Ok, Err, refl, ap, sym, ◌∙◌, subst}
 use Rattle.std.proofs.Common.{arith, ◌<◌, length}
 use Rattle.cell_nodes.specs.declared.tree.Kind.TheVariants as kinds
 use Rattle.cell_nodes.specs.declared.tree.Mode.{Mode}
@@ -60,6 +60,9 @@ field_refused n mode schema h f p c ty scope q k s e why same begun refused is =
     let Q : Flat → Type 0 = λ z. shape_of (at_field (governed z c) (type_at z ty) scope) ≡ Err why in
     reading_refused n mode schema h (at_field (governed p c) (type_at p ty) scope) q k s why begun (subst Q same
     (subst P is refused))
+
+pub stopped_for : (h : Spot) (e : StopError) (a b : Cause) → a ≡ b → StopsAt h e (stuck h a) → StopsAt h e (stuck h b)
+stopped_for h e a b same stop = let P : Cause → Type 0 = λ z. StopsAt h e (stuck h z) in subst P same stop
 
 -- ---- the operations of a record
 

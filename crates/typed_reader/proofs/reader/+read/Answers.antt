@@ -20,7 +20,7 @@ use Rattle.typed_reader.specs.View.{core_of, found_view, reader_of, values_of}
 use Rattle.typed_reader.proofs.Dicts.{as_map, as_pair, bit_one_short, bit_short, dict_leaf, first_stops, root_given, root_stops}
 use Rattle.typed_reader.proofs.Levels.{begin_stops, reading_too_wide, reading_typed, within}
 use Rattle.typed_reader.proofs.Records.{field_refused, field_shaped, fields_found, fields_stop, here_within, items_there}
-use Rattle.typed_reader.proofs.Records.{ops_within, under_within}
+use Rattle.typed_reader.proofs.Records.{ops_within, stopped_for, under_within}
 use Rattle.typed_reader.proofs.Records.{under_fields_stop, under_found, under_left_over, under_none_begins, under_not_ordinary}
 use Rattle.typed_reader.proofs.Refs.{cell_exotic, cell_raw, cell_stops, ref_short, whole_left}
 use Rattle.typed_reader.proofs.Seen.{absent_seen, raw_seen, ref_seen}
@@ -183,7 +183,8 @@ read_field-read_fields_under-requires t c =
 
 pub read_field-returns-in-Err-Refused-clause-gives : goal.read_field-returns-in-Err-Refused-clause-gives
 read_field-returns-in-Err-Refused-clause-gives t c =
-    λ h. stops_at h c.stop_here.result (stuck h c.in-Err-Refused.cause) _ (c.stop_here.ensures h)
+    λ h. stops_at h c.stop_here.result (stuck h c.in-Err-Refused.cause) _
+    (stopped_for h c.stop_here.result _ c.in-Err-Refused.cause c.in-Err-Refused.cause-is (c.stop_here.ensures h))
     (field_refused c.args.levels c.args.mode (core_of c.args.plan.now.0) h c.flat.result.now c.args.plan.now.1 c.args.condition
     c.args.ty
     (scope_of c.args.env.now c.args.types.now) c.args.begun.now c.begin.new.begun
