@@ -1,5 +1,5 @@
 -- The shape of a field's type, and a record in a record.
-use Rattle.std.proofs.Common.{◌≡◌, ℕ, true, false, cond, List, [], ◌∷◌, Option, None, Result, Ok, Err, refl, ap, sym, ◌∙◌, subst}
+use Rattle.std.proofs.Common.{◌≡◌, ℕ, true, false, cond, List, [], ◌∷◌, Option, None, Result, Ok, Err, ap, sym, ◌∙◌, subst}
 use Rattle.std.proofs.Common.{arith, ◌<◌, length}
 use Rattle.cell_nodes.specs.declared.tree.Kind.TheVariants as kinds
 use Rattle.cell_nodes.specs.declared.tree.Mode.{Mode}
@@ -24,9 +24,9 @@ use Rattle.plan_reading.specs.declared.shapes.FlatShape.TheVariants.{Here, Under
 use Rattle.plan_reading.specs.declared.shapes.ShapeError.{ShapeError}
 use Rattle.plan_reading.specs.declared.shapes.ShapeError.TheVariants as errors
 use Rattle.plan_reading.specs.declared.stop.StopError.{StopError}
-use Rattle.spelling.specs.Goals.{Goal, Shape, at_field, at_fields, fields_here, shape_of}
+use Rattle.spelling.specs.Goals.{at_field, at_fields, shape_of}
 use Rattle.spelling.specs.Places.{Place, Spot, stuck}
-use Rattle.spelling.specs.PlainReader.{◌>>=◌, Found, Got, Reader, cell_value, read_fields, read_ref, read_shape, reading}
+use Rattle.spelling.specs.PlainReader.{◌>>=◌, Found, Reader, cell_value, read_fields, read_ref, read_shape, reading}
 use Rattle.spelling.specs.PlainReader.{whole_of}
 use Rattle.spelling.specs.Slices.{is_nothing}
 use Rattle.spelling.specs.declared.Cause.{Cause}

@@ -1,5 +1,5 @@
 -- What the plain reader gives of a root, in the words of the promise.
-use Rattle.std.proofs.Common.{◌≡◌, true, false, Option, Some, None, Result, Ok, Err, ap, sym, ◌∙◌, subst}
+use Rattle.std.proofs.Common.{◌≡◌, true, false, Some, None, Result, Ok, Err, ap, sym, ◌∙◌}
 use Rattle.accepted_schema.specs.Accepted.{IsAccepted, kept_cores}
 use Rattle.accepted_spelling.specs.Laws.{ReadIsExact, ReadOrStuck}
 use Rattle.cell_nodes.specs.declared.tree.Hidden.{Hidden}

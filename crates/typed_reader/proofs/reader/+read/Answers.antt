@@ -1,4 +1,4 @@
-use Rattle.std.proofs.Common.{rules, arith, ◌≡◌, ◌++◌, ◌∷◌, ◌∙◌, map, sym, ap, refl, [], None, Some, Ok, Err}
+use Rattle.std.proofs.Common.{arith, ◌≡◌, ◌++◌, ◌∷◌, ◌∙◌, map, sym, ap, refl, [], None, Ok, Err}
 use Rattle.std.proofs.lemmas.Result.{err_from_is_err_and}
 use Rattle.closed_type.specs.View.{closed_type as type_view}
 use Rattle.flat_form.specs.Stands.{record_at, type_at}
