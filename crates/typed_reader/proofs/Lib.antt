@@ -4,9 +4,11 @@ pub mod Dicts
 pub mod Fields
 pub mod Leaves
 pub mod Levels
+pub mod Records
 pub mod Refs
 pub mod Repeats
 pub mod Roots
 pub mod Rows
+pub mod Seen
 pub mod Steps
 pub mod Turning

@@ -107,6 +107,8 @@ pub fn read(
 {
     read_is_exact();
     read_or_stuck();
+    // The laws hold of the schema of a plan, which is accepted.
+    plan.schema();
     match read_root(alloc, plan, ty, cell, mode) {
         Ok(value) => Ok(value),
         Err(StopError::Stuck(stop)) => Err(placed(alloc, stop)),
