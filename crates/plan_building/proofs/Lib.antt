@@ -5,3 +5,5 @@ pub mod Naming
 pub mod Beginning
 pub mod PlantSteps
 pub mod Planting
+pub mod Halving
+pub mod Numbering

@@ -3,3 +3,4 @@ pub mod StopsLaws
 pub mod Begun
 pub mod Numbers
 pub mod FieldNames
+pub mod Sides

@@ -2,13 +2,12 @@
 ghost use Rattle.std.specs.Prelude.{◌≡◌, ◌≤◌, ◌<◌, ◌+◌, ℕ, IfOk, IsTrue, ◌↔◌, length, map};
 ghost use Rattle.building.specs.MapTests as tests;
 ghost use Rattle.building.specs.PlainBuilder as plain;
-ghost use Rattle.building.specs.Planting.{planting};
 ghost use Rattle.cell_nodes.specs.declared.tree.Mode.{Mode as Reading};
 ghost use Rattle.hashmap_tree.specs.Entries.{Entries, hidden_in};
 ghost use Rattle.hashmap_tree.specs.Merged.{merged};
 ghost use Rattle.hashmap_tree.specs.Order.{AreInOrder};
 ghost use Rattle.hashmap_tree.specs.Placed.{AllPlaced};
-ghost use Rattle.hashmap_tree.specs.Plants.{IsHiddenAlone, held_of, leaf_of as plant_leaf};
+ghost use Rattle.hashmap_tree.specs.Plants.{leaf_of as plant_leaf};
 ghost use Rattle.plan_reading.specs.Stops.{Gives};
 ghost use Rattle.spelling.specs.Places.{Spot};
 ghost use Rattle.typed_value.specs.Values.{PlainPairs};
@@ -18,7 +17,7 @@ ghost use Rattle.plan_building.specs.View.{grown, leaf_of, made};
 use crate::growing::{Growing, put_content, put_empty, put_hidden_root, put_root};
 use crate::halves::plant_parts;
 use crate::outputs::Outputs;
-use crate::ranges::are_hashes;
+use crate::planted::{hidden_alone, planted};
 use bit_slice::BitString;
 use cell_nodes::{CellBuilder, Hidden, Mode};
 use hashmap_tree::{PlantError, are_entries, plant};
@@ -55,11 +54,11 @@ fn admits(mode: Mode, unknown: &[(BitString, Hidden)]) -> bool
     }
 }
 
-// Whether there are keys or hidden parts.
-fn has_some(leaves: &[(BitString, CellBuilder)], unknown: &[(BitString, Hidden)]) -> bool
-    ensures { IsTrue result ↔ (0 < length leaves.now + length unknown.now) }
+// Whether there are no keys and no hidden parts.
+fn has_none(leaves: &[(BitString, CellBuilder)], unknown: &[(BitString, Hidden)]) -> bool
+    ensures { IsTrue result ↔ (length leaves.now + length unknown.now ≡ 0) }
 {
-    !(leaves.is_empty() && unknown.is_empty())
+    leaves.is_empty() && unknown.is_empty()
 }
 
 // Whether these keys and hidden parts are in order, and may stand in this mode.
@@ -73,10 +72,10 @@ fn are_in_order(
     ensures { IfOk result (λ b. IsTrue b ↔ (AreInOrder n (merged (map plant_leaf leaves.now) unknown.now)
         × tests.Admits mode (merged (map plant_leaf leaves.now) unknown.now))) }
 {
-    if !admits(mode, unknown) {
-        return Ok(false);
+    if admits(mode, unknown) {
+        return are_entries(alloc, n, leaves, unknown);
     }
-    are_entries(alloc, n, leaves, unknown)
+    Ok(false)
 }
 
 // Whether each hidden part of these entries has a place. Their tree is planted where there are hidden parts.
@@ -94,7 +93,9 @@ fn are_placed(
         return Ok(true);
     }
     match plant(alloc, n, leaves, unknown) {
-        Ok(_) | Err(PlantError::Full(_)) | Err(PlantError::TooDeep) => Ok(true),
+        Ok(_) => Ok(true),
+        Err(PlantError::Full(_)) => Ok(true),
+        Err(PlantError::TooDeep) => Ok(true),
         Err(PlantError::Form(_)) => Ok(false),
         Err(PlantError::NoMemory) => Err(NoMemory),
     }
@@ -112,23 +113,14 @@ pub fn fits_edge(
     ensures { (ps : PlainPairs) → map plant_leaf leaves.items ≡ tests.keys_of ps
         → IfOk result (λ fits. fits ≡ tests.fits_edge mode n (tests.outline ps unknown.now)) }
 {
-    if !has_some(leaves.as_slice(), unknown) {
+    if has_none(leaves.as_slice(), unknown) {
         return Ok(false);
     }
-    if !are_in_order(alloc, mode, n, leaves.as_slice(), unknown)? {
-        return Ok(false);
+    let fits = are_in_order(alloc, mode, n, leaves.as_slice(), unknown)?;
+    if fits {
+        return are_placed(alloc, n, leaves, unknown);
     }
-    are_placed(alloc, n, leaves, unknown)
-}
-
-// Whether there is one hidden part in place of all keys.
-fn is_hidden_alone(leaves: &[(BitString, CellBuilder)], unknown: &[(BitString, Hidden)]) -> bool
-    ensures { IsTrue result ↔ IsHiddenAlone (merged (map plant_leaf leaves.now) unknown.now) }
-{
-    match unknown {
-        [(prefix, _)] => leaves.is_empty() && prefix.slice().len() == 0,
-        _ => false,
-    }
+    Ok(false)
 }
 
 /// Whether these keys, with empty contents, and hidden parts are those of a `HashmapE` with keys of `n` bits.
@@ -143,23 +135,30 @@ pub fn fits_root(
     ensures { (ps : PlainPairs) → map plant_leaf leaves.items ≡ tests.keys_of ps
         → IfOk result (λ fits. fits ≡ tests.fits_root mode n (tests.outline ps unknown.now)) }
 {
-    if !are_in_order(alloc, mode, n, leaves.as_slice(), unknown)? {
-        return Ok(false);
+    let fits = are_in_order(alloc, mode, n, leaves.as_slice(), unknown)?;
+    if fits {
+        return match hidden_alone(leaves.as_slice(), unknown) {
+            Some(_) => Ok(true),
+            None => are_placed(alloc, n, leaves, unknown),
+        };
     }
-    if is_hidden_alone(leaves.as_slice(), unknown) {
-        return Ok(true);
-    }
-    are_placed(alloc, n, leaves, unknown)
+    Ok(false)
 }
 
 // Whether the one value stands in place, and takes all that is left.
 fn is_last(leaves: &[(BitString, Growing)], unknown: &[(BitString, Hidden)]) -> bool
     ensures { result ≡ plain.is_last (map leaf_of leaves.now) unknown.now }
 {
-    match leaves {
-        [(_, content)] => unknown.is_empty() && content.shut,
-        _ => false,
+    let Some(((_, content), rest)) = leaves.split_first() else {
+        return false;
+    };
+    if rest.len() > 0 {
+        return false;
     }
+    if unknown.len() > 0 {
+        return false;
+    }
+    content.shut
 }
 
 // The contents alone.
@@ -167,43 +166,13 @@ fn contents(
     alloc: Global,
     leaves: Vec<(BitString, Growing)>,
 ) -> Result<Vec<(BitString, CellBuilder)>, NoMemory>
-    ensures { IfOk result (λ contents. map plant_leaf contents.items
-        ≡ plain.contents_of (map leaf_of leaves.items)) }
+    ensures { IfOk result (λ contents. contents.items ≡ map (λ x. (x.0, x.1.cell)) leaves.items) }
 {
-    let mut contents = Vec::new(alloc);
-    for (key, content) in leaves {
-        contents
-            .push((key, content.cell))
-            .map_err(AllocError::from)?;
-    }
+    let contents = leaves
+        .into_iter()
+        .map(|(key, content)| (key, content.cell))
+        .collect(alloc)?;
     Ok(contents)
-}
-
-// The content of the first edge.
-fn planted(
-    alloc: Global,
-    n: u32,
-    leaves: Vec<(BitString, CellBuilder)>,
-    unknown: &[(BitString, Hidden)],
-) -> Result<CellBuilder, StopError>
-    requires short { n ≤ 1023 }
-    requires order { AreInOrder n (merged (map plant_leaf leaves.items) unknown.now) }
-    requires some { 0 < length leaves.items + length unknown.now }
-    requires placed { AllPlaced (merged (map plant_leaf leaves.items) unknown.now) }
-    ensures { (h : Spot) → Gives h held_of result
-        (plain.planted h (planting n (merged (map plant_leaf leaves.items) unknown.now))) }
-{
-    are_hashes(unknown);
-    match plant(alloc, n, leaves, unknown) {
-        Ok(content) => {
-            let _length = content.content().bits.len();
-            Ok(content)
-        }
-        Err(PlantError::Form(_)) => unreachable!(),
-        Err(PlantError::Full(_)) => Err(stop_here(alloc, Cause::Full)),
-        Err(PlantError::TooDeep) => Err(stop_here(alloc, Cause::TooDeep)),
-        Err(PlantError::NoMemory) => Err(StopError::NoMemory),
-    }
 }
 
 /// Adds the first edge of the dictionary with these contents by key and these hidden parts, which fit.
@@ -247,15 +216,11 @@ pub fn plant_root(
         (plain.plant_root h n (plain.entries_of (map leaf_of leaves.items) unknown.now) (grown b.old)) }
 {
     let leaves = contents(alloc, leaves)?;
-    if leaves.is_empty() {
-        match unknown.split_first() {
-            None => return put_empty(alloc, b),
-            Some(((prefix, hidden), _)) => {
-                if prefix.slice().len() == 0 {
-                    return put_hidden_root(alloc, *hidden, b);
-                }
-            }
-        }
+    if has_none(leaves.as_slice(), unknown) {
+        return put_empty(alloc, b);
+    }
+    if let Some(hidden) = hidden_alone(leaves.as_slice(), unknown) {
+        return put_hidden_root(alloc, hidden, b);
     }
     let content = planted(alloc, n, leaves, unknown)?;
     put_root(alloc, content.finish(alloc)?, b)

@@ -7,6 +7,7 @@ mod growing;
 mod halves;
 mod numbers;
 mod outputs;
+mod planted;
 mod ranges;
 mod records;
 

@@ -1,11 +1,11 @@
 //! Numbers and bit strings.
-ghost use Rattle.std.specs.Prelude.{◌≡◌, ◌-◌, ◌<◌, ◌≤◌, ◌^◌, ℕ, Bool, false, nat_lt, true};
+ghost use Rattle.std.specs.Prelude.{◌≡◌, ◌-◌, ◌<◌, ◌≤◌, ◌^◌, ℕ, Bool, Err, false, nat_lt, true};
 ghost use Rattle.closed_type.specs.View.{closed_type as type_view};
 ghost use Rattle.building.specs.PlainBuilder as plain;
 ghost use Rattle.building.specs.Growing.{Grown};
 ghost use Rattle.plan_reading.specs.Stops.{Gives, Stops};
 ghost use Rattle.spelling.specs.Goals as goals;
-ghost use Rattle.spelling.specs.Places.{Spot};
+ghost use Rattle.spelling.specs.Places.{Spot, stuck};
 ghost use Rattle.spelling.specs.Spells.{own};
 ghost use Rattle.plan_building.specs.Numbers.{IsComplement, width_of};
 ghost use Rattle.plan_building.specs.View.{grown, made};
@@ -76,11 +76,11 @@ fn make_unsigned(
     if number.negative {
         return Err(refuse_negative(alloc, number));
     }
-    if !fits(number.size, width) {
-        return Err(stop_here(alloc, Cause::OutOfRange));
+    if fits(number.size, width) {
+        put_number(alloc, number.size, width, b)?;
+        return Ok(Outputs::Empty);
     }
-    put_number(alloc, number.size, width, b)?;
-    Ok(Outputs::Empty)
+    Err(stop_here(alloc, Cause::OutOfRange))
 }
 
 // Half of the numbers of so many bits.
@@ -116,6 +116,14 @@ fn complement(number: Number, width: u32) -> Option<u128>
     }
 }
 
+// Whether a number is 0 and has a sign.
+fn is_signed_zero(number: Number) -> bool
+    ensures some { result ≡ true → (number.negative ≡ true) × (number.size ≡ 0) }
+    ensures none { result ≡ false → number.negative ≡ true → 0 < number.size }
+{
+    number.negative && number.size == 0
+}
+
 // An integer of `width` bits in two's complement.
 fn make_signed(
     alloc: Global,
@@ -127,17 +135,35 @@ fn make_signed(
     ensures { (h : Spot) → Gives h (made b.new) result
         (plain.make_number h (goals.integer width) number.negative number.size (grown b.old)) }
 {
-    if number.negative && number.size == 0 {
+    if is_signed_zero(number) {
         return Err(stop_here(alloc, Cause::Shape));
     }
-    let Some(bits) = complement(number, width) else {
-        return Err(stop_here(alloc, Cause::OutOfRange));
-    };
-    put_number(alloc, bits, width, b)?;
-    Ok(Outputs::Empty)
+    match complement(number, width) {
+        None => Err(stop_here(alloc, Cause::OutOfRange)),
+        Some(bits) => {
+            put_number(alloc, bits, width, b)?;
+            Ok(Outputs::Empty)
+        }
+    }
+}
+
+// How many numbers have so many bits.
+fn power(width: u32) -> u64
+    requires { width ≤ 32 }
+    ensures { result ≡ 2 ^ width }
+{
+    1u64 << width
+}
+
+// A stop where the call began, in place of what is built.
+fn refuse(alloc: Global, cause: Cause) -> StopError
+    ensures { (h : Spot) → Stops {Y = plain.Made} h result (Err (stuck h cause)) }
+{
+    stop_here(alloc, cause)
 }
 
 /// A number at a closed type whose width is in the table. One of `#`, `##`, `#<` and `#<=` is its own output.
+#[tactic(auto, using(crate::proofs::Numbering::below_fits, crate::proofs::Numbering::up_to_fits))]
 pub fn make_number(
     alloc: Global,
     ty: &ClosedType,
@@ -150,7 +176,7 @@ pub fn make_number(
 {
     match ty {
         ClosedType::Nat32 => make_natural(alloc, 32, 4_294_967_296, number, b),
-        ClosedType::Bits(n) => make_natural(alloc, *n, 1u64 << *n, number, b),
+        ClosedType::Bits(n) => make_natural(alloc, *n, power(*n), number, b),
         ClosedType::Below(n) => {
             make_natural(
                 alloc,
@@ -161,9 +187,27 @@ pub fn make_number(
             )
         }
         ClosedType::UpTo(n) => make_natural(alloc, length_width(*n), u64::from(*n) + 1, number, b),
-        ClosedType::Uint(n) if *n <= 128 => make_unsigned(alloc, *n, number, b),
-        ClosedType::Int(n) if *n <= 128 => make_signed(alloc, *n, number, b),
-        _ => Err(stop_here(alloc, Cause::Shape)),
+        ClosedType::Uint(n) => {
+            if *n <= 128 {
+                make_unsigned(alloc, *n, number, b)
+            } else {
+                Err(refuse(alloc, Cause::Shape))
+            }
+        }
+        ClosedType::Int(n) => {
+            if *n <= 128 {
+                make_signed(alloc, *n, number, b)
+            } else {
+                Err(refuse(alloc, Cause::Shape))
+            }
+        }
+        ClosedType::BitStr(_) => Err(refuse(alloc, Cause::Shape)),
+        ClosedType::Whole => Err(refuse(alloc, Cause::Shape)),
+        ClosedType::Ref(_) => Err(refuse(alloc, Cause::Shape)),
+        ClosedType::Repeat(_, _) => Err(refuse(alloc, Cause::Shape)),
+        ClosedType::Dict(_, _) => Err(refuse(alloc, Cause::Shape)),
+        ClosedType::DictE(_, _) => Err(refuse(alloc, Cause::Shape)),
+        ClosedType::Named(_, _) => Err(refuse(alloc, Cause::Shape)),
     }
 }
 
@@ -188,9 +232,14 @@ pub fn make_string(
     ensures { (h : Spot) → Gives h (made b.new) result
         (plain.make_string h (goals.row (type_view ty.now)) string.entry (grown b.old)) }
 {
-    if string_width(ty) != Some(string.len()) {
-        return Err(stop_here(alloc, Cause::Shape));
+    match string_width(ty) {
+        None => Err(stop_here(alloc, Cause::Shape)),
+        Some(width) => {
+            if width != string.len() {
+                return Err(stop_here(alloc, Cause::Shape));
+            }
+            put_bits(alloc, string, b)?;
+            Ok(Outputs::Empty)
+        }
     }
-    put_bits(alloc, string, b)?;
-    Ok(Outputs::Empty)
 }

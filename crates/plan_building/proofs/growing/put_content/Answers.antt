@@ -22,4 +22,4 @@ returns c = λ h.
     (c.in_ok-add_held.ensures.bits ∙ c.add_bits.ensures.bits
     ∙ ap (λ z. c.args.b.now.cell.bits ++ z) c.content-held.ensures.bits)
     (c.in_ok-add_held.ensures.refs ∙ (λ i. c.add_bits.ensures.refs i ++ c.content-held.ensures.refs i))
-    c.either.ensures)
+    c.either-b.ensures)

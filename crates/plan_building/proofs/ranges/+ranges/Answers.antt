@@ -17,4 +17,5 @@ in_range-returns-in-Map t c =
     let d = c.in-Map.dict in
     let seen : value c.args.value.now ≡ map_of tt (pairs_of (map pair_of d.pairs)) d.unknown =
     rw c.in-Map.is (search (the_lemmas, rules)) in
-    subst InRange (sym seen) (?, ?)
+    subst InRange (sym seen)
+    (rw c.as_slice-in-Map.ensures at c.pairs_in_range.ensures, rw c.as_slice-in-Map-2.ensures at c.are_hashes.ensures)
