@@ -17,7 +17,7 @@ plant_half-requires t c =
     let none = (no_entries c.in_ok-sides.sides.1.leaves.items c.in_ok-sides.sides.1.unknown.items (c.is_empty.ensures.none c.if-is_empty.true)) in
     let some = some_zeros c.args.n c.args.half.leaves.items c.args.half.unknown.items c.in_ok-sides.sides.0.leaves.items
     c.in_ok-sides.sides.0.unknown.items _ s c.requires.some none in
-    (omega arith, (omega arith, (s.zeros, (some, (s.zeros_placed none, tt)))))
+    (omega arith, (omega arith, (s.zeros, (some, s.zeros_placed none))))
 
 pub returns-then-is_empty : goal.returns-then-is_empty
 returns-then-is_empty t c = λ h.
@@ -35,7 +35,7 @@ plant_half-requires-then-is_empty-2 t c =
     let none = (no_entries c.in_ok-sides.sides.0.leaves.items c.in_ok-sides.sides.0.unknown.items (c.is_empty-2.ensures.none c.if-is_empty-2.true)) in
     let some = some_ones c.args.n c.args.half.leaves.items c.args.half.unknown.items _ c.in_ok-sides.sides.1.leaves.items
     c.in_ok-sides.sides.1.unknown.items s c.requires.some none in
-    (omega arith, (omega arith, (s.ones, (some, (s.ones_placed none, tt)))))
+    (omega arith, (omega arith, (s.ones, (some, s.ones_placed none))))
 
 pub returns-then-is_empty-2 : goal.returns-then-is_empty-2
 returns-then-is_empty-2 t c = λ h.
