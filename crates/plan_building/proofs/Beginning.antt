@@ -1,5 +1,5 @@
 -- A value that may not begin.
-use Rattle.std.proofs.Common.{◌≡◌, ℕ, zero, suc, ◌≤◌, Result, Ok, Err, ap, refl, arith}
+use Rattle.std.proofs.Common.{◌≡◌, ℕ, zero, suc, ◌≤◌, Err, ap, refl}
 use Rattle.std.proofs.lemmas.Bool.{le-ltb}
 use Rattle.hashmap_labels.specs.Steps.{when_false}
 use Rattle.spelling.specs.Places.{Spot, stuck}

@@ -319,7 +319,8 @@ none_entries leaves cells slice us e f z =
     let m = length_leaves cells in
     let k = length-merged (map plants.leaf_of cells) us in
     let s : length slice ≡ length cells = ap length f in
-    let t : length (entries cells us) ≡ length (entries_of (map leaf_of leaves) us) = ap length (entries_same leaves cells us e) in
+    let t : length (entries cells us) ≡ length (entries_of (map leaf_of leaves) us) =
+    ap length (entries_same leaves cells us e) in
     omega (arith, z, m, k, s, t)
 
 pub some_slice : (cells slice : Pairs) (us : Unknowns) → slice ≡ cells → (length slice + length us ≡ 0 → ⊥)

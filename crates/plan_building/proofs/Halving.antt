@@ -1,5 +1,5 @@
 -- The first edge of a dictionary is sought one bit at a time: its entries by their first bit, and what is judged of them.
-use Rattle.std.proofs.Common.{◌≡◌, ◌⊎◌, inl, inr, ℕ, zero, suc, ◌+◌, ◌-◌, ◌<◌, Bool, true, false, cond, nat_eq, nat_le, List, Option, Some, None, drop, slice_index, take, [], ◌∷◌, ◌++◌, length, map, Result, Ok, Err, refl, sym, ap, ◌∙◌, subst, arith, length-append}
+use Rattle.std.proofs.Common.{◌≡◌, inl, inr, ℕ, zero, suc, ◌+◌, ◌-◌, ◌<◌, Bool, true, false, cond, nat_eq, nat_le, List, Option, Some, None, drop, slice_index, take, [], ◌∷◌, ◌++◌, length, map, Result, Ok, Err, refl, sym, ap, ◌∙◌, subst, arith, length-append}
 use Rattle.std.proofs.lemmas.Bool.{eq-eqb, le-leb, lt-ltb}
 use Rattle.std.proofs.lemmas.List.{append-nil}
 use Rattle.bit_slice.specs.Bits.{bit_number, taken}
@@ -7,7 +7,7 @@ use Rattle.cell_nodes.specs.Constructed.{pruned_of}
 use Rattle.cell_nodes.specs.Held.{Held}
 use Rattle.cell_nodes.specs.declared.tree.Hidden.{Hidden}
 use Rattle.cell_nodes.specs.declared.tree.Tree.{Tree}
-use Rattle.hashmap_tree.specs.Entries.{Slice, cell_of, Part, leaf, hidden, Entries, under, fork, hidden_in, pairs_in}
+use Rattle.hashmap_tree.specs.Entries.{Slice, cell_of, leaf, hidden, Entries, under, fork, hidden_in, pairs_in}
 use Rattle.hashmap_tree.specs.Exceeds.{Excess, full, deep, first_key}
 use Rattle.hashmap_tree.specs.Merged.{merged}
 use Rattle.hashmap_tree.specs.MergedLaws.{length-merged, merged-parts, order-merged}
@@ -21,9 +21,9 @@ use Rattle.plan_reading.specs.declared.stop.StopError.{StopError}
 use Rattle.plan_reading.specs.declared.stop.StopError.TheVariants.{NoMemory, Stuck}
 use Rattle.spelling.specs.Places.{Place, Spot, stuck}
 use Rattle.spelling.specs.declared.Cause.TheVariants.{TooDeep}
-use Rattle.building.specs.Planting.{◌>>=◌, Top, fork_top, cell_from, edge_of, fork_of, part_of, planting, reported_below, side, sides_of, tops, Planter, with_bit}
+use Rattle.building.specs.Planting.{◌>>=◌, Top, fork_top, cell_from, edge_of, fork_of, part_of, planting, reported_below, side, sides_of, tops, Planter}
 use Rattle.building_laws.specs.PlantLaws.{part_open, side_one, side_zero}
-use Rattle.plan_building.specs.Sides.{IsSide, StandsAlone, items_with, judged, with_first}
+use Rattle.plan_building.specs.Sides.{IsSide, items_with, judged, with_first}
 
 -- ---- items by their first bit
 

@@ -1,16 +1,15 @@
 -- One item more: what stands against it, in the order of causes.
-use Rattle.std.proofs.Common.{◌≡◌, ◌⊎◌, inl, inr, ℕ, ◌+◌, ◌-◌, ◌<◌, ◌≤◌, Bool, true, false, cond, not, ◌&&◌, ◌||◌, nat_eq, nat_lt, List, [], ◌∷◌, ◌++◌, length, Result, Ok, Err, refl, sym, ap, ◌∙◌, arith}
+use Rattle.std.proofs.Common.{◌≡◌, ◌⊎◌, inl, inr, ℕ, ◌+◌, ◌-◌, ◌≤◌, Bool, true, false, cond, not, ◌&&◌, ◌||◌, nat_eq, nat_lt, [], ◌∷◌, ◌++◌, length, Result, Ok, Err, refl, sym, ap, ◌∙◌, arith}
 use Rattle.std.proofs.lemmas.Bool.{le-ltb, lt-ltb, ltb-false, ltb-true}
 use Rattle.bit_slice.specs.Bits.{spelled}
 use Rattle.cell_nodes.specs.declared.tree.Hidden.{Hidden}
 use Rattle.cell_nodes.specs.declared.tree.Mode.{Mode}
 use Rattle.cell_nodes.specs.declared.tree.Mode.TheVariants.{Lax, Whole}
-use Rattle.hashmap_labels.specs.Steps.{when_true, when_false}
 use Rattle.hashmap_tree.specs.Entries.{Slice}
 use Rattle.spelling.specs.Places.{Place, Spot, stuck}
 use Rattle.spelling.specs.PlainReader.{reported}
 use Rattle.spelling.specs.declared.Cause.TheVariants.{AfterRest, Full, Shape, TooDeep}
-use Rattle.building.specs.Growing.{Grown, lay}
+use Rattle.building.specs.Growing.{Grown}
 use Rattle.building.specs.PlainBuilder.{make_hidden, put}
 use Rattle.plan_building.specs.View.{grown, laid}
 use Rattle.plan_building.specs.declared.growing.Growing.{Growing}

@@ -1,6 +1,6 @@
 -- A tree that is planted, by its first edge.
-use Rattle.std.proofs.Common.{◌≡◌, ℕ, [], Result, Ok, Err, ap}
-use Rattle.hashmap_tree.specs.Entries.{Slice, Entries}
+use Rattle.std.proofs.Common.{◌≡◌, ℕ, [], Ok, Err, ap}
+use Rattle.hashmap_tree.specs.Entries.{Entries}
 use Rattle.hashmap_tree.specs.Exceeds.{Excess, first_key}
 use Rattle.building.specs.Planting.{◌>>=◌, Top, edge_of, planting, tops}
 

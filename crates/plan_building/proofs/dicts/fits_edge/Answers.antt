@@ -1,4 +1,3 @@
-use Rattle.std.proofs.Common.{map}
 use Rattle.plan_building.proofs.Fitting.{edge_none, edge_refused, edge_tested, refuted}
 use Rattle.plan_building.proofs.dicts.fits_edge.Goals as goal
 

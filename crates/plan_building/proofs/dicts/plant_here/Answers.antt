@@ -1,4 +1,4 @@
-use Rattle.std.proofs.Common.{ap, arith, map, ◌∙◌}
+use Rattle.std.proofs.Common.{ap, map, ◌∙◌}
 use Rattle.std.proofs.lemmas.Result.{err_from_is_err_and}
 use Rattle.building.specs.PlainBuilder.{is_last}
 use Rattle.hashmap_tree.specs.Plants.{held_of}

@@ -1,7 +1,5 @@
-use Rattle.std.proofs.Common.{ap, map, sym, ◌∙◌}
 use Rattle.std.proofs.lemmas.Result.{err_from_is_err_and}
-use Rattle.building.specs.PlainBuilder.{plant_root}
-use Rattle.hashmap_tree.specs.Plants.{held_of, leaf_of}
+use Rattle.hashmap_tree.specs.Plants.{held_of}
 use Rattle.plan_building.specs.StopsLaws.{gives_same}
 use Rattle.plan_building.specs.View.{grown, made}
 use Rattle.plan_building.proofs.Fitting.{alone_moved, entries_same, none_entries, refuted, root_placed, root_ready, some_of_cells, some_slice}
@@ -33,7 +31,8 @@ returns-in_err-content c = λ h.
     let some = some_slice c.in_ok-leaves.leaves.items _ c.args.unknown.now c.as_slice.ensures.value
     (refuted _ c.if-has_none.false c.has_none.ensures) in
     let w = err_from_is_err_and c.from_residual-in_err-content.result c.from_residual-in_err-content.ensures.1 in
-    rw (w.1, w.2) (root_planted_stop h c.args.n _ _ (grown c.args.b.now) _ (entries_same c.args.leaves.items c.in_ok-leaves.leaves.items c.args.unknown.now c.in_ok-leaves.ensures)
+    rw (w.1, w.2) (root_planted_stop h c.args.n _ _ (grown c.args.b.now) _
+    (entries_same c.args.leaves.items c.in_ok-leaves.leaves.items c.args.unknown.now c.in_ok-leaves.ensures)
     f.order (some_of_cells c.in_ok-leaves.leaves.items c.args.unknown.now some) alone (c.in_err-content.ensures h))
 
 pub returns-then-has_none : goal.returns-then-has_none
@@ -48,7 +47,8 @@ pub returns-in-Some : goal.returns-in-Some
 returns-in-Some c = λ h.
     gives_same h (made c.put_hidden_root.new.b) c.put_hidden_root.result _ _
     (root_alone_of h c.args.n c.in_ok-leaves.leaves.items _ c.args.unknown.now _ c.in-Some.hidden (grown c.args.b.now)
-    (entries_same c.args.leaves.items c.in_ok-leaves.leaves.items c.args.unknown.now c.in_ok-leaves.ensures) c.as_slice-2.ensures.value c.in-Some.ensures)
+    (entries_same c.args.leaves.items c.in_ok-leaves.leaves.items c.args.unknown.now c.in_ok-leaves.ensures)
+    c.as_slice-2.ensures.value c.in-Some.ensures)
     (c.put_hidden_root.ensures h)
 
 pub returns : goal.returns
@@ -59,7 +59,8 @@ returns c = λ h.
     let some = some_slice c.in_ok-leaves.leaves.items _ c.args.unknown.now c.as_slice.ensures.value
     (refuted _ c.if-has_none.false c.has_none.ensures) in
     gives_same h (made c.put_root.new.b) c.put_root.result _ _
-    (root_put_of h c.args.n _ _ (grown c.args.b.now) (held_of c.in_ok-content.content) c.in_ok-finish.field-0 (entries_same c.args.leaves.items c.in_ok-leaves.leaves.items c.args.unknown.now c.in_ok-leaves.ensures)
+    (root_put_of h c.args.n _ _ (grown c.args.b.now) (held_of c.in_ok-content.content) c.in_ok-finish.field-0
+    (entries_same c.args.leaves.items c.in_ok-leaves.leaves.items c.args.unknown.now c.in_ok-leaves.ensures)
     f.order (some_of_cells c.in_ok-leaves.leaves.items c.args.unknown.now some) alone (c.in_ok-content.ensures h)
     c.in_ok-finish.ensures)
     (c.put_root.ensures h)

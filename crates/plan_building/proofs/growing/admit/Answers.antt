@@ -2,7 +2,7 @@ use Rattle.std.proofs.Common.{sym, ◌∙◌}
 use Rattle.building.specs.PlainBuilder.{put}
 use Rattle.plan_building.specs.StopsLaws.{stops_where}
 use Rattle.plan_building.specs.View.{grown}
-use Rattle.plan_building.proofs.Laying.{put_deep, put_full, put_on, put_shut}
+use Rattle.plan_building.proofs.Laying.{put_deep, put_full, put_shut}
 use Rattle.plan_building.proofs.growing.admit.Goals as goal
 
 pub returns-then-is_shut-clause-put : goal.returns-then-is_shut-clause-put

@@ -1,6 +1,5 @@
-use Rattle.std.proofs.Common.{◌≡◌, Bool, Result, Ok, Err, ap, refl, sym, ◌∙◌}
-use Rattle.std.proofs.lemmas.Result.{err_from_is_err_and}
-use Rattle.std.proofs.Common.{arith, subst, ◌<◌}
+use Rattle.std.proofs.Common.{sym}
+use Rattle.std.proofs.Common.{subst, ◌<◌}
 use Rattle.cell_nodes.specs.Tree.{deepest}
 use Rattle.cell_nodes.specs.declared.tree.Tree.{Tree}
 use Rattle.building_laws.specs.RangeLaws.{hidden-below}

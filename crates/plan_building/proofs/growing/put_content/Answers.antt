@@ -1,6 +1,5 @@
-use Rattle.std.proofs.Common.{◌≡◌, ◌++◌, ◌∷◌, [], ℕ, List, Bool, Result, Ok, Err, ap, length, refl, sym, ◌∙◌}
+use Rattle.std.proofs.Common.{◌++◌, ap, length, ◌∙◌}
 use Rattle.std.proofs.lemmas.Result.{err_from_is_err_and}
-use Rattle.spelling.specs.PlainReader.{◌>>=◌}
 use Rattle.hashmap_tree.specs.Plants.{held_of}
 use Rattle.plan_building.specs.StopsLaws.{goes_on, stops_on}
 use Rattle.plan_building.proofs.Laying.{laid_last}

@@ -1,9 +1,7 @@
-use Rattle.std.proofs.Common.{◌≡◌, Bool, Result, Ok, Err, ap, refl, sym, ◌∙◌}
+use Rattle.std.proofs.Common.{ap, sym, ◌∙◌}
 use Rattle.std.proofs.lemmas.Result.{err_from_is_err_and}
-use Rattle.std.proofs.Common.{List, ℕ, [], false}
-use Rattle.spelling.specs.Slices.{only_bits}
-use Rattle.spelling.specs.PlainReader.{◌>>=◌}
-use Rattle.building.specs.PlainBuilder.{put, put_bits}
+use Rattle.std.proofs.Common.{List, ℕ, []}
+use Rattle.building.specs.PlainBuilder.{put_bits}
 use Rattle.plan_building.specs.StopsLaws.{goes_on, stops_on, stops_same}
 use Rattle.plan_building.specs.View.{grown}
 use Rattle.plan_building.proofs.Laying.{zero_bit}

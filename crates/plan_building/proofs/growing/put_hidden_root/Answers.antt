@@ -1,7 +1,6 @@
-use Rattle.std.proofs.Common.{◌≡◌, ◌++◌, ◌∷◌, [], ℕ, List, Bool, Result, Ok, Err, ap, length, refl, sym, ◌∙◌}
+use Rattle.std.proofs.Common.{◌++◌, ◌∷◌, [], ap, refl, ◌∙◌}
 use Rattle.std.proofs.lemmas.Result.{err_from_is_err_and}
 use Rattle.std.proofs.Common.{false}
-use Rattle.spelling.specs.PlainReader.{◌>>=◌}
 use Rattle.cell_nodes.specs.Constructed.{pruned_of}
 use Rattle.plan_building.specs.StopsLaws.{goes_on, stops_on}
 use Rattle.plan_building.proofs.Laying.{laid_more, one_bit}

@@ -1,10 +1,9 @@
-use Rattle.std.proofs.Common.{◌≡◌, Bool, Result, Ok, Err, ap, refl, sym, ◌∙◌}
+use Rattle.std.proofs.Common.{Bool, ap, refl, sym, ◌∙◌}
 use Rattle.std.proofs.lemmas.Result.{err_from_is_err_and}
 use Rattle.std.proofs.Common.{false}
 use Rattle.std.proofs.lemmas.List.{append-nil}
 use Rattle.spelling.specs.Slices.{only_ref}
 use Rattle.building.specs.PlainBuilder.{put}
-use Rattle.plan_building.specs.StopsLaws.{stops_same}
 use Rattle.plan_building.specs.View.{grown}
 use Rattle.plan_building.proofs.Laying.{laid_more}
 use Rattle.plan_building.proofs.growing.put_ref.Goals as goal

@@ -1,7 +1,6 @@
-use Rattle.std.proofs.Common.{◌≡◌, ◌++◌, ◌∷◌, [], ℕ, List, Bool, Result, Ok, Err, ap, length, refl, sym, ◌∙◌}
+use Rattle.std.proofs.Common.{◌++◌, ◌∷◌, [], Bool, ap, refl, sym, ◌∙◌}
 use Rattle.std.proofs.lemmas.Result.{err_from_is_err_and}
 use Rattle.std.proofs.Common.{false}
-use Rattle.spelling.specs.PlainReader.{◌>>=◌}
 use Rattle.building.specs.PlainBuilder.{put_root}
 use Rattle.plan_building.specs.StopsLaws.{goes_on, stops_on, stops_same}
 use Rattle.plan_building.specs.View.{grown}

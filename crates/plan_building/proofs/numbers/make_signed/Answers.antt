@@ -1,4 +1,4 @@
-use Rattle.std.proofs.Common.{◌≡◌, [], sym, true, false, arith, ap, ◌∙◌, Some, None, Bool}
+use Rattle.std.proofs.Common.{◌∙◌}
 use Rattle.std.proofs.lemmas.Result.{err_from_is_err_and}
 use Rattle.plan_building.specs.StopsLaws.{goes_on, stops_on, stops_same, stops_where}
 use Rattle.plan_building.specs.View.{grown}

@@ -2,7 +2,7 @@ use Rattle.plan_building.specs.StopsLaws.{stops_where}
 use Rattle.plan_building.proofs.Numbering.{no_string, other_string}
 use Rattle.spelling.specs.Goals.{row}
 use Rattle.closed_type.specs.View.{closed_type}
-use Rattle.std.proofs.Common.{◌≡◌, ◌∙◌, sym}
+use Rattle.std.proofs.Common.{◌∙◌, sym}
 use Rattle.plan_building.specs.View.{grown}
 use Rattle.plan_building.proofs.numbers.make_string.Goals as goal
 

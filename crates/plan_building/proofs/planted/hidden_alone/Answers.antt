@@ -1,4 +1,4 @@
-use Rattle.std.proofs.Common.{length, map}
+use Rattle.std.proofs.Common.{map}
 use Rattle.hashmap_tree.specs.Plants.{leaf_of}
 use Rattle.plan_building.proofs.Fitting.{alone_leaves, alone_more, alone_none}
 use Rattle.plan_building.proofs.planted.hidden_alone.Goals as goal

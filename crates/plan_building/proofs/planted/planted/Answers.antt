@@ -2,7 +2,6 @@ use Rattle.std.proofs.Common.{List, ap, map, subst, ℕ}
 use Rattle.bit_slice.specs.Bits.{AreBits}
 use Rattle.building.specs.PlainBuilder.{planted}
 use Rattle.hashmap_tree.specs.Exceeds.{deep, full}
-use Rattle.hashmap_tree.specs.Merged.{merged}
 use Rattle.hashmap_tree.specs.PlacedLaws.{misplaced-not_all}
 use Rattle.hashmap_tree.specs.Plants.{leaf_of}
 use Rattle.plan_building.specs.StopsLaws.{stops_where}

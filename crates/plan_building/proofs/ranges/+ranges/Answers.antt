@@ -1,5 +1,5 @@
-use Rattle.std.proofs.Common.{◌≡◌, ap, map, rules, subst, sym}
-use Rattle.building.specs.Buildable.{AllInRange, AreHashes, InRange, PairsInRange}
+use Rattle.std.proofs.Common.{◌≡◌, map, rules, subst, sym}
+use Rattle.building.specs.Buildable.{InRange}
 use Rattle.typed_value.specs.declared.value.Value.{the_lemmas}
 use Rattle.typed_value.specs.Values.{map_of, record_of}
 use Rattle.typed_value.specs.View.{names_in, pair_of, pairs_of, vals_in, value}
