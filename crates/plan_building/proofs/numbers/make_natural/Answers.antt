@@ -1,0 +1,19 @@
+use Rattle.std.proofs.Common.{ap, arith, true}
+use Rattle.building.specs.PlainBuilder.{make_natural}
+use Rattle.plan_building.specs.StopsLaws.{stops_same, stops_where}
+use Rattle.plan_building.specs.View.{grown}
+use Rattle.plan_building.proofs.Numbering.{natural_high}
+use Rattle.plan_building.proofs.numbers.make_natural.Goals as goal
+
+pub returns-then-number : goal.returns-then-number
+returns-then-number c = λ h.
+    stops_same h c.refuse_negative.result _ _
+    (ap (λ s. make_natural h c.args.width c.args.bound true s c.args.number.size (grown c.args.b.now)) c.if-number.true)
+    (c.refuse_negative.ensures h c.args.width c.args.bound true (grown c.args.b.now))
+
+pub returns-then-number-from : goal.returns-then-number-from
+returns-then-number-from c = λ h.
+    stops_where h c.stop_here.result _ _
+    (natural_high h c.args.width c.args.bound true c.args.number.negative c.args.number.size (grown c.args.b.now)
+    c.if-number.false (omega arith))
+    (c.stop_here.ensures h)
