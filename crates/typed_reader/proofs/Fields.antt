@@ -285,3 +285,13 @@ pub at_end : (R : Reader) (f : Flat) (ops : List PlanOp) (start : Scope) (from :
 at_end R f ops start from whole ps c k scope q s after b =
     let T : List PlanOp → Type 0 = λ rest. SoFar R f ops start from whole ps c rest scope q s in
     subst T (drop_all k ops after) b
+
+pub at_index : (R : Reader) (f : Flat) (ops : List PlanOp) (start : Scope) (from : ℕ) (whole : Slice)
+    (ps : List (List ℕ × Plain)) (c : Option (ℕ × ℕ)) (d : PlanOp) (k : ℕ) (scope : Scope) (q : ℕ) (s : Slice)
+    → k < length ops
+    → SoFar R f ops start from whole ps c (drop k ops) scope q s
+    → SoFar R f ops start from whole ps c (get_or ops k d ∷ drop (k + 1) ops) scope q s
+at_index R f ops start from whole ps c d k scope q s within b =
+    let next : suc k ≡ k + 1 = omega arith in
+    let T : List PlanOp → Type 0 = λ rest. SoFar R f ops start from whole ps c rest scope q s in
+    subst T (drop-cons ops k d within ∙ ap (λ n. get_or ops k d ∷ drop n ops) next) b

@@ -1,5 +1,5 @@
 -- A repetition's items one after the other.
-use Rattle.std.proofs.Common.{◌≡◌, ℕ, zero, suc, ◌+◌, Bool, true, false, cond, List, [], ◌∷◌, ◌++◌, map, Result, Ok, Err, refl, ap, sym, ◌∙◌, subst, arith}
+use Rattle.std.proofs.Common.{◌≡◌, ℕ, zero, suc, ◌+◌, ◌-◌, ◌<◌, ◌≤◌, Bool, true, false, cond, List, [], ◌∷◌, ◌++◌, map, Result, Ok, Err, refl, ap, sym, ◌∙◌, subst, arith}
 use Rattle.cell_nodes.specs.declared.tree.Mode.{Mode}
 use Rattle.core_form.specs.Closed.{Closed}
 use Rattle.core_form.specs.Closed as closed
@@ -122,3 +122,23 @@ pub all_repeated : (R : Reader) (mode : Mode) (schema : CoreSchema) (t : Closed)
 all_repeated R mode schema t count from whole vs q s h b =
     ap (λ z. z >>= (λ x. Ok (let y : Found = (list_of x.0, [], x.1) in y))) (b.so_far h)
     ∙ ap (λ ws. Ok (let y : Found = (list_of ws, [], s) in y)) (all_items vs)
+
+-- ---- at a number of an item
+
+pub at_item : (R : Reader) (t : Closed) (count : ℕ) (from : ℕ) (whole : Slice) (vs : List Plain) (k : ℕ) (q : ℕ) (s : Slice)
+    → k < count
+    → Repeated R t count from whole vs (count - k) q s
+    → Repeated R t count from whole vs (suc (count - (k + 1))) q s
+at_item R t count from whole vs k q s below b =
+    let next : count - k ≡ suc (count - (k + 1)) = omega arith in
+    let T : ℕ → Type 0 = λ left. Repeated R t count from whole vs left q s in
+    subst T next b
+
+pub at_last : (R : Reader) (t : Closed) (count : ℕ) (from : ℕ) (whole : Slice) (vs : List Plain) (k : ℕ) (q : ℕ) (s : Slice)
+    → count ≤ k
+    → Repeated R t count from whole vs (count - k) q s
+    → Repeated R t count from whole vs zero q s
+at_last R t count from whole vs k q s after b =
+    let none : count - k ≡ zero = omega arith in
+    let T : ℕ → Type 0 = λ left. Repeated R t count from whole vs left q s in
+    subst T none b
