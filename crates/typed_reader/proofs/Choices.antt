@@ -1,5 +1,6 @@
 -- The constructor that a plan chooses is the plain reader's.
-use Rattle.std.proofs.Common.{◌≡◌, ℕ, zero, suc, ◌<◌, length, Bool, true, false, ◌&&◌, cond, List, [], ◌∷◌, Option, Some, None, IsSome, refl, ap, sym, ◌∙◌, subst, slice_get, rules}
+use Rattle.std.proofs.Common.{◌≡◌, ℕ, zero, suc, ◌<◌, length, Bool, true, false, ◌&&◌, cond, List, [], ◌∷◌, Option, Some}
+use Rattle.std.proofs.Common.{None, IsSome, refl, ap, sym, ◌∙◌, subst, slice_get, rules}
 use Rattle.std.specs.Prelude.{bytes_eq}
 use Rattle.std.proofs.lemmas.Slice.Eq.{bytes_eq-Decides}
 use Rattle.core_form.specs.Closed.{ClosedArgs}
@@ -75,7 +76,8 @@ number_same c e h = cc
 
 pub chooses_one : (schema : CoreSchema) (x : Word) (args : ClosedArgs) (bits : List ℕ) (c : ℕ) (d : Declaration) (scope : Scope)
     → slice_get schema c ≡ Some d → fit d.core args ≡ Some scope → Enters schema x args bits d
-    → ((e : ℕ) (b : Declaration) → slice_get schema e ≡ Some b → Enters schema x args bits b → (◌≡◌ {A = Option ℕ} (Some c) (Some e)))
+    → ((e : ℕ) (b : Declaration) → slice_get schema e ≡ Some b → Enters schema x args bits b
+    → (◌≡◌ {A = Option ℕ} (Some c) (Some e)))
     → choose schema schema x args bits ≡ Some (d, scope)
 chooses_one schema x args bits c d scope at fits enters only =
     one_chosen schema x args bits schema c d scope at fits enters (λ e b there in_it. number_same c e (only e b there in_it))
@@ -91,8 +93,10 @@ pub record Chosen (schema : CoreSchema) (x : Word) (args : ClosedArgs) (bits : L
 
 pub chosen_at : (schema : CoreSchema) (x : Word) (args : ClosedArgs) (prefix bits : List ℕ) (c : ℕ) → prefix ≡ bits
     → c < length schema
-    → ((e : ℕ) (d : Declaration) → slice_get schema e ≡ Some d → (◌≡◌ {A = Option ℕ} (Some c) (Some e)) → Enters schema x args prefix d)
-    → ((e : ℕ) (d : Declaration) → slice_get schema e ≡ Some d → Enters schema x args prefix d → (◌≡◌ {A = Option ℕ} (Some c) (Some e)))
+    → ((e : ℕ) (d : Declaration) → slice_get schema e ≡ Some d → (◌≡◌ {A = Option ℕ} (Some c) (Some e))
+    → Enters schema x args prefix d)
+    → ((e : ℕ) (d : Declaration) → slice_get schema e ≡ Some d → Enters schema x args prefix d
+    → (◌≡◌ {A = Option ℕ} (Some c) (Some e)))
     → Chosen schema x args bits c
 chosen_at schema x args prefix bits c same below enters only =
     let d = some_there schema c below in

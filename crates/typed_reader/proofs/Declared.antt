@@ -1,5 +1,7 @@
 -- A constructor that is entered, and the declared type that it is of.
-use Rattle.std.proofs.Common.{◌≡◌, ℕ, zero, suc, ◌+◌, ◌<◌, ◌≤◌, List, [], ◌∷◌, ◌++◌, All, Bool, true, false, Option, Some, None, IsSome, Result, Ok, Err, length, map, drop, take, refl, ap, sym, ◌∙◌, subst, arith, slice_get, option_map, nat_le, cond}
+use Rattle.std.proofs.Common.{◌≡◌, ℕ, zero, suc, ◌+◌, ◌<◌, ◌≤◌, List, [], ◌∷◌, ◌++◌, All, Bool, true, false, Option, Some}
+use Rattle.std.proofs.Common.{None, IsSome, Result, Ok, Err, length, map, drop, take, refl, ap, sym, ◌∙◌, subst, arith}
+use Rattle.std.proofs.Common.{slice_get, option_map, nat_le, cond}
 use Rattle.std.proofs.lemmas.Bool.{false≢true, le-leb}
 use Rattle.std.proofs.lemmas.Option.{none-some, same_Some}
 use Rattle.bit_slice.specs.Bits.{taken}
@@ -230,7 +232,8 @@ tag_there s c below = omega (arith, below, core_count s [] s)
 pub taken_within : (n : ℕ) (bits : List ℕ) → n ≤ length bits → None ≡ taken n bits → ⊥
 taken_within n bits within none =
     let some : taken n bits ≡ Some (take n bits, drop n bits) =
-        when_true {A = Option (List ℕ × List ℕ)} (nat_le n (length bits)) (Some (take n bits, drop n bits)) None (le-leb n (length bits) within) in
+    when_true {A = Option (List ℕ × List ℕ)} (nat_le n (length bits)) (Some (take n bits, drop n bits)) None
+    (le-leb n (length bits) within) in
     none-some (take n bits, drop n bits) (none ∙ some)
 
 abbrev slice_with : List ℕ → List Tree → Slice

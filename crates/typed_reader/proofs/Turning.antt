@@ -70,7 +70,12 @@ pub field_turned : (R : Reader) (h : Spot) (f : Flat) (c : Option Condition) (x 
     → turn R h f c (Field x t v) scope q s
     ≡ Ok (record { gives = found.0 ∷ []; scope = after; begun = k; left = found.2 }, None)
 field_turned R h f c x t v scope q s found after k e bound count =
-    ap (λ z. alone (z >>= (λ (y : Found). Ok (record { gives = y.0 ∷ []; scope = bind (sets (slot_of v) (type_at f t)) y.1 scope; begun = q + parts y.0; left = y.2 }))))
+    ap (λ z. alone (z >>= (λ (y : Found). Ok (record {
+      gives = y.0 ∷ [];
+      scope = bind (sets (slot_of v) (type_at f t)) y.1 scope;
+      begun = q + parts y.0;
+      left = y.2;
+    }))))
     e ∙ (λ i. Ok (record { gives = found.0 ∷ []; scope = bound i; begun = sym count i; left = found.2 }, None))
 
 pub field_stops : (R : Reader) (h : Spot) (f : Flat) (c : Option Condition) (x t v : ℕ) (scope : Scope) (q : ℕ)
@@ -82,7 +87,12 @@ field_stops R h f c x t v scope q s e r stop moved =
     let g = field_of h (name_at f x) in
     alone_stops h r (step R h (field (name_at f x) (slot_of v) c (type_at f t)) scope q s)
     (stops_then h r (R g (at_field c (type_at f t) scope) q s)
-    (λ y. Ok (record { gives = y.0 ∷ []; scope = bind (sets (slot_of v) (type_at f t)) y.1 scope; begun = q + parts y.0; left = y.2 }))
+    (λ y. Ok (record {
+      gives = y.0 ∷ [];
+      scope = bind (sets (slot_of v) (type_at f t)) y.1 scope;
+      begun = q + parts y.0;
+      left = y.2;
+    }))
     (stops_moved g h e r (R g (at_field c (type_at f t) scope) q s) moved stop))
 
 -- ---- by what the operation is
@@ -101,7 +111,7 @@ pub without_seen : (f : Flat) (scope : Scope) (q : ℕ) (s : CellSlice) (x : Ste
     → x.rest ≡ s
     → (◌≡◌ {A = Result Turned Place} (Ok (unchanged scope q (slice_of s), None))
     (Ok (record { gives = given x.field; scope = scope; begun = q; left = slice_of x.rest }, governed f x.condition)))
-without_seen f scope q s x field condition rest =
+without_seen f scope q s x none free left =
     let seen : Option (List ℕ × Value) → Option (ℕ × ℕ) → CellSlice → Result Turned Place =
-        λ a b l. Ok (record { gives = given a; scope = scope; begun = q; left = slice_of l }, governed f b) in
-    ap (λ a. seen a None s) (sym field) ∙ ap (λ b. seen x.field b s) (sym condition) ∙ ap (seen x.field x.condition) (sym rest)
+    λ a b l. Ok (record { gives = given a; scope = scope; begun = q; left = slice_of l }, governed f b) in
+    ap (λ a. seen a None s) (sym none) ∙ ap (λ b. seen x.field b s) (sym free) ∙ ap (seen x.field x.condition) (sym left)

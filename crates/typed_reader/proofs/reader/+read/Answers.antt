@@ -1,4 +1,4 @@
-use Rattle.std.proofs.Common.{rules, ◌≡◌, ◌∙◌, sym, ap, Ok, Err, ◌∷◌, [], ◌++◌, List, length, map, subst, refl, arith, ℕ, ◌-◌}
+use Rattle.std.proofs.Common.{◌<◌, rules, ◌≡◌, ◌∙◌, sym, ap, Ok, Err, ◌∷◌, [], ◌++◌, List, length, map, subst, refl, arith, ℕ, ◌-◌}
 use Rattle.std.proofs.Common.{◌+◌, None, drop, get_or, option_map, Some, slice_get}
 use Rattle.std.proofs.lemmas.Result.{err_from_is_err_and}
 use Rattle.closed_type.specs.View.{closed_type as type_view, closed_args}
@@ -32,7 +32,7 @@ use Rattle.plan_reading.specs.Gives.{unchanged}
 use Rattle.plan_reading.specs.Shaped.{governed}
 use Rattle.plan_reading.specs.Stops.{StopsAt, Stops}
 use Rattle.typed_reader.proofs.Turning.{check_stops, check_turned, field_stops, stops_as, turns_as, without_seen}
-use Rattle.core_form.specs.Scope.{Scope}
+use Rattle.core_form.specs.Scope.{Scope, values_in}
 use Rattle.flat_form.specs.Sound.{IsRange, OpsAreSound}
 use Rattle.flat_form.specs.declared.lists.PlanOp.{PlanOp}
 use Rattle.field_plan.specs.Planned.{Planned}
@@ -91,8 +91,8 @@ read_constructor-operations-ops-requires t c =
 pub read_constructor-read_fields-requires : goal.read_constructor-read_fields-requires
 read_constructor-read_fields-requires t c =
     let sound = entry_sound (schema_view c.args.plan.now.0) c.flat-flat.result.now c.args.plan.now.2 c.args.c
-        c.flat-flat.ensures.planned c.requires.there
-        c.entry-entry.result c.entry-entry.ensures in
+    c.flat-flat.ensures.planned c.requires.there
+    c.entry-entry.result c.entry-entry.ensures in
     let T : List PlanOp → Type 0 = λ z. OpsAreSound c.flat-flat.result.now (length c.flat-flat.result.now.types) z in
     let P : Flat → Type 0 = λ z. OpsAreSound z (length z.types) c.operations-ops.result.now in
     (omega (arith, c.decreases), subst P c.flat-flat.ensures.lists (subst T (sym c.operations-ops.ensures) sound))
@@ -109,27 +109,28 @@ read_constructor-returns-clause-gives t c = λ d scope there fits.
     let planned = subst P c.flat-flat.ensures.lists c.flat-flat.ensures.planned in
     let ops_are = c.operations-ops.ensures ∙ ap (λ (z : Flat). range z.ops e.first e.count) c.flat-flat.ensures.lists in
     let items = entry_ops s f plans k planned c.requires.there e c.entry-entry.ensures d there c.operations-ops.result.now
-        ops_are in
+    ops_are in
     let slots = c.in-Some.slots in
-    let bound = ap (scope_of slots.numbers) c.as_slice-types.ensures
-        ∙ fit_binds s f plans k planned c.requires.there e c.entry-entry.ensures d there c.inputs-inputs.result.now
-        (closed_args c.args.args.now) c.inputs-inputs.ensures
-        (slots_view slots) scope (sym (ap (option_map slots_view) c.in-Some.is) ∙ c.in_ok-slots.ensures) fits in
+    let bound = ap (scope_of slots.numbers) c.as_slice-types.ensures.value
+    ∙ fit_binds s f plans k planned c.requires.there e c.entry-entry.ensures d there c.inputs-inputs.result.now
+    (closed_args c.args.args.now) c.inputs-inputs.ensures
+    (slots_view slots) scope (sym (ap (option_map slots_view) c.in-Some.is) ∙ c.in_ok-slots.ensures) fits in
     let fields = c.in_ok-fields.fields in
     let rest = c.in_ok-fields.rest in
     let types = c.as_slice-types.result.now in
     let after = scope_of c.read_fields.new.env types in
     let T : Scope → Type 0 = λ z. read_fields R (start d) (items_in f (type_at f) None c.operations-ops.result.now) z
-        c.args.begun.now
-        (slice_of c.args.s) ≡ Ok (let x : Got = (values_of fields, after, slice_of rest) in x) in
+    c.args.begun.now
+    (slice_of c.args.s) ≡ Ok (let x : Got = (values_of fields, after, slice_of rest) in x) in
     let outs = c.outputs.result.now in
+    let V : Flat → Type 0 = λ z. Some c.in-Some-2.outputs ≡ values_in (map (expr_at z) outs) after in
     let exprs = map (expr_at f) outs in
     constructor_read R d (items_in f (type_at f) None c.operations-ops.result.now) exprs scope after c.args.begun.now
     (slice_of c.args.s)
     (slice_of rest) (names_in (map pair_of fields)) (values_of fields) c.in-Some-2.outputs items
     (entry_outputs s f plans k planned c.requires.there e c.entry-entry.ensures d there outs c.outputs.ensures)
-    c.in_ok-fields.ensures.names (subst T bound (c.in_ok-fields.ensures.gives (start d)))
-    (sym c.in-Some-2.is ∙ c.in_ok-values.ensures types)
+    c.in_ok-fields.ensures.names (subst T bound (c.in_ok-fields.ensures.gives (start d))) (subst V c.flat-flat.ensures.lists
+    (sym c.in-Some-2.is ∙ c.in_ok-values.ensures types))
 
 pub read_constructor-returns-in-None-clause-gives : goal.read_constructor-returns-in-None-clause-gives
 read_constructor-returns-in-None-clause-gives t c = λ d scope there fits.
@@ -143,27 +144,28 @@ read_constructor-returns-in-None-clause-gives t c = λ d scope there fits.
     let planned = subst P c.flat-flat.ensures.lists c.flat-flat.ensures.planned in
     let ops_are = c.operations-ops.ensures ∙ ap (λ (z : Flat). range z.ops e.first e.count) c.flat-flat.ensures.lists in
     let items = entry_ops s f plans k planned c.requires.there e c.entry-entry.ensures d there c.operations-ops.result.now
-        ops_are in
+    ops_are in
     let slots = c.in-Some.slots in
-    let bound = ap (scope_of slots.numbers) c.as_slice-types.ensures
-        ∙ fit_binds s f plans k planned c.requires.there e c.entry-entry.ensures d there c.inputs-inputs.result.now
-        (closed_args c.args.args.now) c.inputs-inputs.ensures
-        (slots_view slots) scope (sym (ap (option_map slots_view) c.in-Some.is) ∙ c.in_ok-slots.ensures) fits in
+    let bound = ap (scope_of slots.numbers) c.as_slice-types.ensures.value
+    ∙ fit_binds s f plans k planned c.requires.there e c.entry-entry.ensures d there c.inputs-inputs.result.now
+    (closed_args c.args.args.now) c.inputs-inputs.ensures
+    (slots_view slots) scope (sym (ap (option_map slots_view) c.in-Some.is) ∙ c.in_ok-slots.ensures) fits in
     let fields = c.in_ok-fields.fields in
     let rest = c.in_ok-fields.rest in
     let types = c.as_slice-types.result.now in
     let after = scope_of c.read_fields.new.env types in
     let T : Scope → Type 0 = λ z. read_fields R (start d) (items_in f (type_at f) None c.operations-ops.result.now) z
-        c.args.begun.now
-        (slice_of c.args.s) ≡ Ok (let x : Got = (values_of fields, after, slice_of rest) in x) in
+    c.args.begun.now
+    (slice_of c.args.s) ≡ Ok (let x : Got = (values_of fields, after, slice_of rest) in x) in
     let outs = c.outputs.result.now in
+    let V : Flat → Type 0 = λ z. None ≡ values_in (map (expr_at z) outs) after in
     let exprs = map (expr_at f) outs in
     constructor_overflows R d (items_in f (type_at f) None c.operations-ops.result.now) exprs scope after c.args.begun.now
     (slice_of c.args.s)
     (slice_of rest) (values_of fields) c.stop_at_result.result items
     (entry_outputs s f plans k planned c.requires.there e c.entry-entry.ensures d there outs c.outputs.ensures)
-    (subst T bound (c.in_ok-fields.ensures.gives (start d))) (sym c.in-None.is ∙ c.in_ok-values.ensures types)
-    (c.stop_at_result.ensures (start d))
+    (subst T bound (c.in_ok-fields.ensures.gives (start d))) (subst V c.flat-flat.ensures.lists
+    (sym c.in-None.is ∙ c.in_ok-values.ensures types)) (c.stop_at_result.ensures (start d))
 
 pub read_constructor-returns-in_err-fields-clause-gives : goal.read_constructor-returns-in_err-fields-clause-gives
 read_constructor-returns-in_err-fields-clause-gives t c = λ d scope there fits.
@@ -178,15 +180,15 @@ read_constructor-returns-in_err-fields-clause-gives t c = λ d scope there fits.
     let planned = subst P c.flat-flat.ensures.lists c.flat-flat.ensures.planned in
     let ops_are = c.operations-ops.ensures ∙ ap (λ (z : Flat). range z.ops e.first e.count) c.flat-flat.ensures.lists in
     let items = entry_ops s f plans k planned c.requires.there e c.entry-entry.ensures d there c.operations-ops.result.now
-        ops_are in
+    ops_are in
     let slots = c.in-Some.slots in
-    let bound = ap (scope_of slots.numbers) c.as_slice-types.ensures
-        ∙ fit_binds s f plans k planned c.requires.there e c.entry-entry.ensures d there c.inputs-inputs.result.now
-        (closed_args c.args.args.now) c.inputs-inputs.ensures
-        (slots_view slots) scope (sym (ap (option_map slots_view) c.in-Some.is) ∙ c.in_ok-slots.ensures) fits in
+    let bound = ap (scope_of slots.numbers) c.as_slice-types.ensures.value
+    ∙ fit_binds s f plans k planned c.requires.there e c.entry-entry.ensures d there c.inputs-inputs.result.now
+    (closed_args c.args.args.now) c.inputs-inputs.ensures
+    (slots_view slots) scope (sym (ap (option_map slots_view) c.in-Some.is) ∙ c.in_ok-slots.ensures) fits in
     let T : Scope → Type 0 = λ z. Stops (start d) c.in_err-fields.field-0.0
-        (read_fields R (start d) (items_in f (type_at f) None c.operations-ops.result.now) z c.args.begun.now
-        (slice_of c.args.s)) in
+    (read_fields R (start d) (items_in f (type_at f) None c.operations-ops.result.now) z c.args.begun.now
+    (slice_of c.args.s)) in
     gives_err (start d) _ c.from_residual-in_err-fields.result c.in_err-fields.field-0.0 _ (p.1 ∙ ap Err p.2)
     (constructor_stops R d (items_in f (type_at f) None c.operations-ops.result.now) scope c.args.begun.now (slice_of c.args.s)
     c.in_err-fields.field-0.0 items (subst T bound (c.in_err-fields.ensures.gives (start d))))
@@ -207,29 +209,34 @@ read_constructor-values-requires t c =
 
 pub read_declared-number-requires : goal.read_declared-number-requires
 read_declared-number-requires t c =
-    omega (arith, tag_there (schema_view c.args.plan.now.0) c.in-Some.c c.in-Some.ensures.there,
-    c.flat-flat.ensures.planned.count)
+    omega (
+      arith,
+      tag_there (schema_view c.args.plan.now.0) c.in-Some.c c.in-Some.ensures.there,
+      c.flat-flat.ensures.planned.count,
+    )
 
 pub read_declared-read_constructor-requires : goal.read_declared-read_constructor-requires
 read_declared-read_constructor-requires t c =
-    (omega (arith, c.decreases), record {
-  there = omega (arith, tag_there (schema_view c.args.plan.now.0) c.in-Some.c c.in-Some.ensures.there,
-      c.flat-flat.ensures.planned.count);
-  fits = λ d there. (c.in-Some.ensures.enters c.in-Some.c d there refl).fits;
-})
+    let there : c.in-Some.c < length c.args.plan.now.2 =
+    omega (
+      arith,
+      tag_there (schema_view c.args.plan.now.0) c.in-Some.c c.in-Some.ensures.there,
+      c.flat-flat.ensures.planned.count,
+    ) in
+    (omega (arith, c.decreases), (there, λ d at. (c.in-Some.ensures.enters c.in-Some.c d at refl).fits))
 
 pub read_declared-returns-in-Err-clause-gives : goal.read_declared-returns-in-Err-clause-gives
 read_declared-returns-in-Err-clause-gives t c =
     let S = core_of c.args.plan.now.0 in
     let ch = chosen_at S c.args.name.now (closed_args c.args.args.now) c.again.result c.args.s.bits c.in-Some.c c.again.ensures
-        c.in-Some.ensures.there c.in-Some.ensures.enters c.in-Some.ensures.only in
+    c.in-Some.ensures.there c.in-Some.ensures.enters c.in-Some.ensures.only in
     let d = ch.declaration in
     let R = reader_of c.args.levels c.args.mode c.args.plan.now.0 in
     let tag_is = had (λ (z : Declaration). z.core.tag) (slice_get S c.in-Some.c) d c.tag.result ch.there c.tag.ensures in
     let number_is = had (λ (z : Declaration). z.number) (slice_get S c.in-Some.c) d c.number.result ch.there c.number.ensures in
     let after = tag_taken d.core.tag c.tag.result c.args.s.bits c.in-Some-take.field-0-0 c.in-Some-take.bits c.len.result
-        c.args.s.refs tag_is
-        c.len.ensures.value (sym c.take.ensures ∙ c.in-Some-take.is) in
+    c.args.s.refs tag_is
+    c.len.ensures.value (sym c.take.ensures ∙ c.in-Some-take.is) in
     let inner = c.in-Err.ensures.gives d ch.scope ch.there ch.fits in
     λ h. stops_same h c.in_constructor.result _ _
     (one_enters R h (choose S S c.args.name.now (closed_args c.args.args.now) c.args.s.bits) d ch.scope c.args.begun.now
@@ -243,7 +250,7 @@ read_declared-returns-in_default-clause-gives t c =
     let S = core_of c.args.plan.now.0 in
     let args = closed_args c.args.args.now in
     let none : choose S S c.args.name.now args c.again.result ≡ None = chooses_none S c.args.name.now args c.again.result
-        c.in_default.ensures.only in
+    c.in_default.ensures.only in
     let P : List ℕ → Type 0 = λ z. choose S S c.args.name.now args z ≡ None in
     λ h. none_enters (reader_of c.args.levels c.args.mode c.args.plan.now.0) h _ c.args.begun.now
     (slice_of c.args.s) c.stop_here.result
@@ -253,15 +260,15 @@ pub read_declared-returns-in_ok-shown-in-Ok-clause-gives : goal.read_declared-re
 read_declared-returns-in_ok-shown-in-Ok-clause-gives t c =
     let S = core_of c.args.plan.now.0 in
     let ch = chosen_at S c.args.name.now (closed_args c.args.args.now) c.again.result c.args.s.bits c.in-Some.c c.again.ensures
-        c.in-Some.ensures.there c.in-Some.ensures.enters c.in-Some.ensures.only in
+    c.in-Some.ensures.there c.in-Some.ensures.enters c.in-Some.ensures.only in
     let d = ch.declaration in
     let R = reader_of c.args.levels c.args.mode c.args.plan.now.0 in
     let tag_is = had (λ (z : Declaration). z.core.tag) (slice_get S c.in-Some.c) d c.tag.result ch.there c.tag.ensures in
     let shown_is = had (λ (z : Declaration). z.shown) (slice_get S c.in-Some.c) d c.shown_name.result.now ch.there
-        c.shown_name.ensures in
+    c.shown_name.ensures in
     let after = tag_taken d.core.tag c.tag.result c.args.s.bits c.in-Some-take.field-0-0 c.in-Some-take.bits c.len.result
-        c.args.s.refs tag_is
-        c.len.ensures.value (sym c.take.ensures ∙ c.in-Some-take.is) in
+    c.args.s.refs tag_is
+    c.len.ensures.value (sym c.take.ensures ∙ c.in-Some-take.is) in
     λ h. one_enters R h (choose S S c.args.name.now (closed_args c.args.args.now) c.args.s.bits) d ch.scope c.args.begun.now
     (slice_of c.args.s) ch.is
     ∙ ap (entered R d ch.scope c.args.begun.now) after
@@ -272,19 +279,26 @@ read_declared-returns-in_ok-shown-in-Ok-clause-gives t c =
 
 pub read_declared-shown_name-requires : goal.read_declared-shown_name-requires
 read_declared-shown_name-requires t c =
-    omega (arith, tag_there (schema_view c.args.plan.now.0) c.in-Some.c c.in-Some.ensures.there,
-    c.flat-flat.ensures.planned.count)
+    omega (
+      arith,
+      tag_there (schema_view c.args.plan.now.0) c.in-Some.c c.in-Some.ensures.there,
+      c.flat-flat.ensures.planned.count,
+    )
 
 pub read_declared-tag-requires : goal.read_declared-tag-requires
 read_declared-tag-requires t c =
-    omega (arith, tag_there (schema_view c.args.plan.now.0) c.in-Some.c c.in-Some.ensures.there, length-map
-    c.args.plan.now.0.constructors constructor)
+    omega (
+      arith,
+      tag_there (schema_view c.args.plan.now.0) c.in-Some.c c.in-Some.ensures.there,
+      length-map
+          c.args.plan.now.0.constructors constructor,
+    )
 
 pub read_declared-unreachable-requires : goal.read_declared-unreachable-requires
 read_declared-unreachable-requires t c =
     let S = core_of c.args.plan.now.0 in
     let ch = chosen_at S c.args.name.now (closed_args c.args.args.now) c.again.result c.args.s.bits c.in-Some.c c.again.ensures
-        c.in-Some.ensures.there c.in-Some.ensures.enters c.in-Some.ensures.only in
+    c.in-Some.ensures.there c.in-Some.ensures.enters c.in-Some.ensures.only in
     let d = ch.declaration in
     let tag_is = had (λ (z : Declaration). z.core.tag) (slice_get S c.in-Some.c) d c.tag.result ch.there c.tag.ensures in
     let covers = lead_covers_tag S d c.args.s.bits ch.enters.begins in
@@ -343,8 +357,8 @@ read_fields-loop-op-init t c =
     let f = c.args.plan.now.1 in
     let start = scope_of c.args.env.now c.args.types.now in
     let P : List (List ℕ × Value) → Type 0 = λ fs. SoFar R f c.args.ops.now start c.args.begun.now (slice_of c.args.s)
-        (map pair_of fs) None
-        c.args.ops.now start c.args.begun.now (slice_of c.args.s) in
+    (map pair_of fs) None
+    c.args.ops.now start c.args.begun.now (slice_of c.args.s) in
     subst P (sym c.new-fields.ensures) (none_yet R f c.args.ops.now start c.args.begun.now (slice_of c.args.s) c.requires)
 
 pub read_fields-loop-op-preserved : goal.read_fields-loop-op-preserved
@@ -355,8 +369,8 @@ read_fields-loop-op-preserved t c =
     let start = scope_of c.args.env.now c.args.types.now in
     let scope = scope_of at.env c.args.types.now in
     let b = at_index R f c.args.ops.now start c.args.begun.now (slice_of c.args.s) (map pair_of at.fields) at.condition
-        (Check 0 Eq 0 0) at.op-index
-        scope at.begun (slice_of at.left) c.loop-op-test.true at.invariant in
+    (Check 0 Eq 0 0) at.op-index
+    scope at.begun (slice_of at.left) c.loop-op-test.true at.invariant in
     let x = c.in_ok-step.step in
     one_more R f c.args.ops.now start c.args.begun.now (slice_of c.args.s) (map pair_of at.fields) at.condition
     (get_or c.args.ops.now at.op-index (Check 0 Eq 0 0))
@@ -369,11 +383,11 @@ pub read_fields-read_op-requires : goal.read_fields-read_op-requires
 read_fields-read_op-requires t c =
     let at = c.loop-op in
     let b = at_index (reader_of c.args.levels c.args.mode c.args.plan.now.0) c.args.plan.now.1 c.args.ops.now
-        (scope_of c.args.env.now c.args.types.now)
-        c.args.begun.now (slice_of c.args.s) (map pair_of at.fields) at.condition (Check 0 Eq 0 0) at.op-index
-        (scope_of at.env c.args.types.now)
-        at.begun (slice_of at.left) c.loop-op-test.true at.invariant in
-    (omega (arith, c.decreases), record { sound = b.sound.0; condition = b.condition })
+    (scope_of c.args.env.now c.args.types.now)
+    c.args.begun.now (slice_of c.args.s) (map pair_of at.fields) at.condition (Check 0 Eq 0 0) at.op-index
+    (scope_of at.env c.args.types.now)
+    at.begun (slice_of at.left) c.loop-op-test.true at.invariant in
+    (omega (arith, c.decreases), (b.sound.0, b.condition))
 
 pub read_fields-returns-clause-counts : goal.read_fields-returns-clause-counts
 read_fields-returns-clause-counts t c = c.loop-op.invariant.counts
@@ -386,8 +400,8 @@ read_fields-returns-clause-gives t c =
     let start = scope_of c.args.env.now c.args.types.now in
     let scope = scope_of at.env c.args.types.now in
     let b = at_end R f c.args.ops.now start c.args.begun.now (slice_of c.args.s)
-        (map pair_of at.fields) at.condition at.op-index scope at.begun
-        (slice_of at.left) c.loop-op-test.false at.invariant in
+    (map pair_of at.fields) at.condition at.op-index scope at.begun
+    (slice_of at.left) c.loop-op-test.false at.invariant in
     λ h. all_read R f c.args.ops.now start c.args.begun.now (slice_of c.args.s)
     (map pair_of at.fields) at.condition scope at.begun
     (slice_of at.left) b h
@@ -400,8 +414,8 @@ read_fields-returns-clause-names t c =
     let start = scope_of c.args.env.now c.args.types.now in
     let scope = scope_of at.env c.args.types.now in
     let b = at_end R f c.args.ops.now start c.args.begun.now (slice_of c.args.s)
-        (map pair_of at.fields) at.condition at.op-index scope at.begun
-        (slice_of at.left) c.loop-op-test.false at.invariant in
+    (map pair_of at.fields) at.condition at.op-index scope at.begun
+    (slice_of at.left) c.loop-op-test.false at.invariant in
     all_named R f c.args.ops.now start c.args.begun.now (slice_of c.args.s)
     (map pair_of at.fields) at.condition scope at.begun (slice_of at.left) b
 
@@ -414,8 +428,8 @@ read_fields-returns-in_err-step-clause-gives t c =
     let start = scope_of c.args.env.now c.args.types.now in
     let scope = scope_of at.env c.args.types.now in
     let b = at_index R f c.args.ops.now start c.args.begun.now (slice_of c.args.s) (map pair_of at.fields) at.condition
-        (Check 0 Eq 0 0) at.op-index
-        scope at.begun (slice_of at.left) c.loop-op-test.true at.invariant in
+    (Check 0 Eq 0 0) at.op-index
+    scope at.begun (slice_of at.left) c.loop-op-test.true at.invariant in
     λ h. gives_err h _ c.from_residual.result c.in_err-step.field-0.0 _ (p.1 ∙ ap Err p.2)
     (one_stops R f c.args.ops.now start c.args.begun.now (slice_of c.args.s) (map pair_of at.fields) at.condition
     (get_or c.args.ops.now at.op-index (Check 0 Eq 0 0))
@@ -445,7 +459,7 @@ read_leaves-loop-key-init t c =
     let it = c.into_iter-key-iterator.result in
     let gives = c.into_iter-key-iterator.ensures.into_iter_gives in
     let T : List (List ℕ × CellSlice) → Type 0 = λ xs. Paired R t leaves c.args.begun.now (map pair_of c.new-pairs.result)
-        (map leaf_of xs) c.args.begun.now in
+    (map leaf_of xs) c.args.begun.now in
     let P : List (List ℕ × Value) → Type 0 = λ ps. Paired R t leaves c.args.begun.now (map pair_of ps) leaves c.args.begun.now in
     record {
       paired = subst T (sym gives.0) (subst P (sym c.new-pairs.ensures) (none_paired R t leaves c.args.begun.now));
@@ -463,13 +477,13 @@ read_leaves-loop-key-preserved t c =
     let after = into_iter_items c.next.new.self in
     let steps : into_iter_items at.key-iterator ≡ (key, content) ∷ after = c.in-Some.ensures.steps.0 in
     let T : List (List ℕ × CellSlice) → Type 0 = λ xs. Paired R t leaves c.args.begun.now (map pair_of at.pairs)
-        (map leaf_of xs) at.begun in
+    (map leaf_of xs) at.begun in
     let one = one_paired R t leaves c.args.begun.now (map pair_of at.pairs) key (slice_of content) (map leaf_of after) at.begun
-        (value_view c.in_ok-value.value) c.read_whole.new.begun (subst T steps at.invariant.paired) c.in_ok-value.ensures.gives
-        c.in_ok-value.ensures.counts in
+    (value_view c.in_ok-value.value) c.read_whole.new.begun (subst T steps at.invariant.paired) c.in_ok-value.ensures.gives
+    c.in_ok-value.ensures.counts in
     let pushed = ap (map pair_of) c.in_ok-push.ensures.ok ∙ map-append pair_of at.pairs ((key, c.in_ok-value.value) ∷ []) in
     let P : List (List ℕ × Plain) → Type 0 = λ ps. Paired R t leaves c.args.begun.now ps
-        (map leaf_of after) c.read_whole.new.begun in
+    (map leaf_of after) c.read_whole.new.begun in
     record {
       paired = subst P (sym pushed) one;
       len = (let was = at.invariant.len in let gone = c.in-Some.ensures.steps.1 in let short = ap length steps in omega arith);
@@ -486,7 +500,7 @@ read_leaves-returns-clause-gives t c =
     let leaves = map leaf_of c.args.leaves.items in
     let none : into_iter_items at.key-iterator ≡ [] = nil_from_length _ (sym at.invariant.len ∙ c.in-None.ensures.steps.0) in
     let T : List (List ℕ × CellSlice) → Type 0 = λ xs. Paired R t leaves c.args.begun.now (map pair_of at.pairs)
-        (map leaf_of xs) at.begun in
+    (map leaf_of xs) at.begun in
     λ h. all_paired R t leaves c.args.begun.now (map pair_of at.pairs) at.begun h (subst T none at.invariant.paired)
 
 pub read_leaves-returns-in_err-value-clause-gives : goal.read_leaves-returns-in_err-value-clause-gives
@@ -501,7 +515,7 @@ read_leaves-returns-in_err-value-clause-gives t c =
     let after = into_iter_items c.next.new.self in
     let steps : into_iter_items at.key-iterator ≡ (key, content) ∷ after = c.in-Some.ensures.steps.0 in
     let T : List (List ℕ × CellSlice) → Type 0 = λ xs. Paired R t leaves c.args.begun.now (map pair_of at.pairs)
-        (map leaf_of xs) at.begun in
+    (map leaf_of xs) at.begun in
     λ h. gives_err h _ c.from_residual.result c.in_err-value.field-0.0 _ (p.1 ∙ ap Err p.2)
     (leaf_stops R t leaves c.args.begun.now (map pair_of at.pairs) key (slice_of content)
     (map leaf_of after) at.begun h c.in_err-value.field-0.0
@@ -516,7 +530,7 @@ read_op-returns-in-Err-clause-turn t c = λ h.
     let s = slice_of c.args.s in
     let it = c.in-Check in
     let T : Flat → Type 0 = λ z. step R h (check (expr_at z it.left) it.op (expr_at z it.right) it.place) scope q s
-        ≡ Err (stuck (item_of h it.place) c.in-Err.cause) in
+    ≡ Err (stuck (item_of h it.place) c.in-Err.cause) in
     let done = subst T c.flat-flat.ensures.lists (c.in-Err.ensures R h it.place q s c.args.types.now) in
     stops_as R h f (governed f c.args.condition) c.args.op (Check it.left it.op it.right it.place) scope q s
     c.stop_at_item.result it.is
@@ -548,7 +562,7 @@ read_op-returns-in-Ok-clause-turn t c = λ h.
     let s = slice_of c.args.s in
     let it = c.in-Check in
     let T : Flat → Type 0 = λ z. step R h (check (expr_at z it.left) it.op (expr_at z it.right) it.place) scope q s ≡ Ok
-        (unchanged scope q s) in
+    (unchanged scope q s) in
     let done = subst T c.flat-flat.ensures.lists (c.in-Ok.ensures R h it.place q s c.args.types.now) in
     turns_as R h f (governed f c.args.condition) c.args.op (Check it.left it.op it.right it.place) scope q s _ it.is
     (check_turned R h f (governed f c.args.condition) it.left it.op it.right it.place scope q s (unchanged scope q s) done)
@@ -564,11 +578,11 @@ read_repeat-loop-item-init t c =
     let t = type_view c.args.inner.now in
     let whole = slice_of c.args.s in
     let P : List Value → Type 0 = λ vs. Repeated R t c.args.count c.args.begun.now whole
-        (map value_view vs) c.args.count c.args.begun.now whole in
+    (map value_view vs) c.args.count c.args.begun.now whole in
     let b = subst P (sym c.new-items.ensures) (none_repeated R t c.args.count c.args.begun.now whole) in
     let all : c.args.count ≡ c.args.count - 0 = omega arith in
     let T : ℕ → Type 0 = λ k. Repeated R t c.args.count c.args.begun.now whole
-        (map value_view c.new-items.result) k c.args.begun.now whole in
+    (map value_view c.new-items.result) k c.args.begun.now whole in
     subst T all b
 
 pub read_repeat-loop-item-preserved : goal.read_repeat-loop-item-preserved
@@ -579,11 +593,11 @@ read_repeat-loop-item-preserved t c =
     let whole = slice_of c.args.s in
     let found = c.in_ok-found.found in
     let before = at_item R t c.args.count c.args.begun.now whole (map value_view at.items) at._item at.begun (slice_of at.left)
-        c.loop-item-test.true at.invariant in
+    c.loop-item-test.true at.invariant in
     let taken = sym (c.took.ensures (slice_of at.left) c.size-before.ensures) ∙ c.if-not-took.false in
     let pushed = ap (map value_view) c.in_ok-push.ensures.ok ∙ map-append value_view at.items (found.value ∷ []) in
     let P : List Plain → Type 0 = λ vs. Repeated R t c.args.count c.args.begun.now whole vs (c.args.count - (at._item + 1))
-        c.read_closed.new.begun (slice_of found.rest) in
+    c.read_closed.new.begun (slice_of found.rest) in
     subst P (sym pushed) (one_repeated R t c.args.count c.args.begun.now whole (map value_view at.items) (c.args.count -
     (at._item + 1))
     at.begun (slice_of at.left) (found_view found) c.read_closed.new.begun before c.in_ok-found.ensures.gives taken
@@ -593,8 +607,8 @@ pub read_repeat-returns-clause-counts : goal.read_repeat-returns-clause-counts
 read_repeat-returns-clause-counts t c =
     let at = c.loop-item in
     let last = at_last (reader_of c.args.levels c.args.mode c.args.plan.now.0)
-        (type_view c.args.inner.now) c.args.count c.args.begun.now
-        (slice_of c.args.s) (map value_view at.items) at._item at.begun (slice_of at.left) c.loop-item-test.false at.invariant in
+    (type_view c.args.inner.now) c.args.count c.args.begun.now
+    (slice_of c.args.s) (map value_view at.items) at._item at.begun (slice_of at.left) c.loop-item-test.false at.invariant in
     let counted = last.counts in
     let whole = ap (λ (z : Found). parts z.0) c.alone.ensures in
     let seen = ap parts c.list_of.ensures in
@@ -607,7 +621,7 @@ read_repeat-returns-clause-gives t c =
     let t = type_view c.args.inner.now in
     let whole = slice_of c.args.s in
     let last = at_last R t c.args.count c.args.begun.now whole (map value_view at.items) at._item at.begun (slice_of at.left)
-        c.loop-item-test.false at.invariant in
+    c.loop-item-test.false at.invariant in
     λ h. all_repeated R c.args.mode (core_of c.args.plan.now.0) t c.args.count c.args.begun.now whole (map value_view at.items)
     at.begun (slice_of at.left) h last
     ∙ ap (λ v. Ok (let x : Found = (v, [], slice_of at.left) in x)) (sym c.list_of.ensures) ∙ ap Ok (sym c.alone.ensures)
@@ -620,7 +634,7 @@ read_repeat-returns-in_err-found-clause-gives t c =
     let t = type_view c.args.inner.now in
     let whole = slice_of c.args.s in
     let before = at_item R t c.args.count c.args.begun.now whole (map value_view at.items) at._item at.begun (slice_of at.left)
-        c.loop-item-test.true at.invariant in
+    c.loop-item-test.true at.invariant in
     λ h. gives_err h found_view c.from_residual.result c.in_err-found.field-0.0 _ (p.1 ∙ ap Err p.2)
     (item_stops R c.args.mode (core_of c.args.plan.now.0) t c.args.count c.args.begun.now whole (map value_view at.items)
     (c.args.count - (at._item + 1)) at.begun (slice_of at.left) h c.in_err-found.field-0.0 before
@@ -634,7 +648,7 @@ read_repeat-returns-then-not-took-clause-gives t c =
     let whole = slice_of c.args.s in
     let found = c.in_ok-found.found in
     let before = at_item R t c.args.count c.args.begun.now whole (map value_view at.items) at._item at.begun (slice_of at.left)
-        c.loop-item-test.true at.invariant in
+    c.loop-item-test.true at.invariant in
     let idle = sym (c.took.ensures (slice_of at.left) c.size-before.ensures) ∙ c.if-not-took.true in
     λ h. idle_stops R c.args.mode (core_of c.args.plan.now.0) t c.args.count c.args.begun.now whole (map value_view at.items)
     (c.args.count - (at._item + 1)) at.begun (slice_of at.left) h c.stop_here.result (found_view found) before
