@@ -1,5 +1,6 @@
 -- The constructor that a plan chooses is the plain reader's.
-use Rattle.std.proofs.Common.{◌≡◌, ℕ, zero, suc, Bool, true, false, ◌&&◌, cond, List, [], ◌∷◌, Option, Some, None, IsSome, refl, ap, sym, ◌∙◌, subst, slice_get, rules}
+use Rattle.std.proofs.Common.{◌≡◌, ℕ, zero, suc, ◌<◌, length, Bool, true, false, ◌&&◌, cond, List, [], ◌∷◌, Option, Some}
+use Rattle.std.proofs.Common.{None, IsSome, refl, ap, sym, ◌∙◌, subst, slice_get, rules}
 use Rattle.std.specs.Prelude.{bytes_eq}
 use Rattle.std.proofs.lemmas.Slice.Eq.{bytes_eq-Decides}
 use Rattle.core_form.specs.Closed.{ClosedArgs}
@@ -10,6 +11,7 @@ use Rattle.field_plan.specs.Choosing.{Enters}
 use Rattle.schema_leads.specs.Leads.{leads, some_begins}
 use Rattle.spelling.specs.PlainReader.{candidate, choose, first}
 use Rattle.spelling_laws.specs.StepLaws.{both, both_on, when_true}
+use Rattle.typed_reader.proofs.Declared.{some_of, some_there}
 
 is_there : (scope : Scope) → IsSome (Some scope)
 is_there scope = search rules
@@ -74,7 +76,39 @@ number_same c e h = cc
 
 pub chooses_one : (schema : CoreSchema) (x : Word) (args : ClosedArgs) (bits : List ℕ) (c : ℕ) (d : Declaration) (scope : Scope)
     → slice_get schema c ≡ Some d → fit d.core args ≡ Some scope → Enters schema x args bits d
-    → ((e : ℕ) (b : Declaration) → slice_get schema e ≡ Some b → Enters schema x args bits b → (◌≡◌ {A = Option ℕ} (Some c) (Some e)))
+    → ((e : ℕ) (b : Declaration) → slice_get schema e ≡ Some b → Enters schema x args bits b
+    → (◌≡◌ {A = Option ℕ} (Some c) (Some e)))
     → choose schema schema x args bits ≡ Some (d, scope)
 chooses_one schema x args bits c d scope at fits enters only =
     one_chosen schema x args bits schema c d scope at fits enters (λ e b there in_it. number_same c e (only e b there in_it))
+
+-- the constructor of this number, and what its inputs bind
+pub record Chosen (schema : CoreSchema) (x : Word) (args : ClosedArgs) (bits : List ℕ) (c : ℕ) : Type 0 where
+  pub declaration : Declaration
+  pub scope : Scope
+  pub there : slice_get schema c ≡ Some declaration
+  pub fits : fit declaration.core args ≡ Some scope
+  pub enters : Enters schema x args bits declaration
+  pub is : choose schema schema x args bits ≡ Some (declaration, scope)
+
+pub chosen_at : (schema : CoreSchema) (x : Word) (args : ClosedArgs) (prefix bits : List ℕ) (c : ℕ) → prefix ≡ bits
+    → c < length schema
+    → ((e : ℕ) (d : Declaration) → slice_get schema e ≡ Some d → (◌≡◌ {A = Option ℕ} (Some c) (Some e))
+    → Enters schema x args prefix d)
+    → ((e : ℕ) (d : Declaration) → slice_get schema e ≡ Some d → Enters schema x args prefix d
+    → (◌≡◌ {A = Option ℕ} (Some c) (Some e)))
+    → Chosen schema x args bits c
+chosen_at schema x args prefix bits c same below enters only =
+    let d = some_there schema c below in
+    let first : Enters schema x args prefix d.0 = enters c d.0 d.1 refl in
+    let o = some_of (fit d.0.core args) first.fits in
+    let P : List ℕ → Type 0 = λ z. Enters schema x args z d.0 in
+    let Q : List ℕ → Type 0 = λ z. choose schema schema x args z ≡ Some (d.0, o.0) in
+    record {
+      declaration = d.0;
+      scope = o.0;
+      there = d.1;
+      fits = o.1;
+      enters = subst P same first;
+      is = subst Q same (chooses_one schema x args prefix c d.0 o.0 d.1 o.1 first only);
+    }

@@ -1,5 +1,6 @@
 -- A record's operations one after the other.
-use Rattle.std.proofs.Common.{◌≡◌, ℕ, suc, ◌+◌, ◌<◌, ◌≤◌, List, [], ◌∷◌, ◌++◌, map, Option, Some, None, Result, Ok, Err, refl, ap, sym, ◌∙◌, subst, arith, drop, drop-cons, get_or, length}
+use Rattle.std.proofs.Common.{◌≡◌, ℕ, suc, ◌+◌, ◌<◌, ◌≤◌, List, [], ◌∷◌, ◌++◌, map, Option, Some, None, Result, Ok, Err, refl}
+use Rattle.std.proofs.Common.{ap, sym, ◌∙◌, subst, arith, drop, drop-cons, get_or, length}
 use Rattle.std.specs.Prelude.{option_to_list, option_map}
 use Rattle.std.proofs.lemmas.List.{drop_all}
 use Rattle.core_form.specs.Core.{Condition, Item, Ty, Word, check, solve, field, field_names}
@@ -171,7 +172,8 @@ abbrev Counted : ℕ → Step → Type 0
 Counted q x = x.begun ≡ q + parts_in (vals_of x.gives)
 
 alone_counts : (r : Result Step Place) (x : Turned) → alone r ≡ Ok x → r ≡ Ok x.0
-alone_counts (Ok y) x e = (let same : (◌≡◌ {A = Turned} (y, None) x) = ok_one (y, None) x (Ok x) e in ap (λ (z : Turned). Ok z.0) same)
+alone_counts (Ok y) x e =
+    let same : (◌≡◌ {A = Turned} (y, None) x) = ok_one (y, None) x (Ok x) e in ap (λ (z : Turned). Ok z.0) same
 alone_counts (Err p) x e = cc
 
 step_counts : (R : Reader) (h : Spot) (i : Item) (scope : Scope) (q : ℕ) (s : Slice) (x : Step)
@@ -180,7 +182,7 @@ step_counts R h (check a op b i) scope q s x e =
     let v = bind_ok (known (item_of h i) (value_in a scope)) _ x e in
     let w = bind_ok (known (item_of h i) (value_in b scope)) _ x v.2 in
     let g = only_ok {A = Step} (comparison op v.0 w.0) (stuck (item_of h i) Constraint)
-        (Ok (record { gives = []; scope = scope; begun = q; left = s })) x w.2 in
+    (Ok (record { gives = []; scope = scope; begun = q; left = s })) x w.2 in
     subst (Counted q) (ok_one _ _ (Ok x) g.1) (omega arith)
 step_counts R h (solve u a b i) scope q s x e =
     let k = bind_ok (reported (item_of h i) (sought_number a b scope.numbers)) _ x e in
@@ -285,3 +287,13 @@ pub at_end : (R : Reader) (f : Flat) (ops : List PlanOp) (start : Scope) (from :
 at_end R f ops start from whole ps c k scope q s after b =
     let T : List PlanOp → Type 0 = λ rest. SoFar R f ops start from whole ps c rest scope q s in
     subst T (drop_all k ops after) b
+
+pub at_index : (R : Reader) (f : Flat) (ops : List PlanOp) (start : Scope) (from : ℕ) (whole : Slice)
+    (ps : List (List ℕ × Plain)) (c : Option (ℕ × ℕ)) (d : PlanOp) (k : ℕ) (scope : Scope) (q : ℕ) (s : Slice)
+    → k < length ops
+    → SoFar R f ops start from whole ps c (drop k ops) scope q s
+    → SoFar R f ops start from whole ps c (get_or ops k d ∷ drop (k + 1) ops) scope q s
+at_index R f ops start from whole ps c d k scope q s within b =
+    let next : suc k ≡ k + 1 = omega arith in
+    let T : List PlanOp → Type 0 = λ rest. SoFar R f ops start from whole ps c rest scope q s in
+    subst T (drop-cons ops k d within ∙ ap (λ n. get_or ops k d ∷ drop n ops) next) b

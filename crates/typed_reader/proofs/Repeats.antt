@@ -1,5 +1,6 @@
 -- A repetition's items one after the other.
-use Rattle.std.proofs.Common.{◌≡◌, ℕ, zero, suc, ◌+◌, Bool, true, false, cond, List, [], ◌∷◌, ◌++◌, map, Result, Ok, Err, refl, ap, sym, ◌∙◌, subst, arith}
+use Rattle.std.proofs.Common.{◌≡◌, ℕ, zero, suc, ◌+◌, ◌-◌, ◌<◌, ◌≤◌, Bool, true, false, cond, List, [], ◌∷◌, ◌++◌, map}
+use Rattle.std.proofs.Common.{Result, Ok, Err, refl, ap, sym, ◌∙◌, subst, arith}
 use Rattle.cell_nodes.specs.declared.tree.Mode.{Mode}
 use Rattle.core_form.specs.Closed.{Closed}
 use Rattle.core_form.specs.Closed as closed
@@ -64,12 +65,13 @@ pub one_repeated : (R : Reader) (t : Closed) (count : ℕ) (from : ℕ) (whole :
     → k ≡ q + parts x.0
     → Repeated R t count from whole (vs ++ x.0 ∷ []) left k x.2
 one_repeated R t count from whole vs left q s x k b read taken count_of =
-    let so_far : (h : Spot) → repeat R h count t from whole ≡ items_first (vs ++ x.0 ∷ []) (repeat R h left t (q + parts x.0) x.2) =
-        λ h. b.so_far h ∙ ap (items_first vs)
-        (goes_on (turn R h t q s) (λ (y : Found). after_one y.0 (repeat R h left t (q + parts y.0) y.2)) x
-        (goes_on (R h (at_type t) q s) (λ (y : Found). cond (took s y.2) (Ok y) (Err (stuck h Idle))) x (read h)
-        ∙ when_true {A = Result Found Place} (took s x.2) (Ok x) (Err (stuck h Idle)) taken))
-        ∙ one_later vs x.0 (repeat R h left t (q + parts x.0) x.2) in
+    let so_far : (h : Spot)
+    → repeat R h count t from whole ≡ items_first (vs ++ x.0 ∷ []) (repeat R h left t (q + parts x.0) x.2) =
+    λ h. b.so_far h ∙ ap (items_first vs)
+    (goes_on (turn R h t q s) (λ (y : Found). after_one y.0 (repeat R h left t (q + parts y.0) y.2)) x
+    (goes_on (R h (at_type t) q s) (λ (y : Found). cond (took s y.2) (Ok y) (Err (stuck h Idle))) x (read h)
+    ∙ when_true {A = Result Found Place} (took s x.2) (Ok x) (Err (stuck h Idle)) taken))
+    ∙ one_later vs x.0 (repeat R h left t (q + parts x.0) x.2) in
     let before = b.counts in
     let more = parts_one vs x.0 in
     record {
@@ -122,3 +124,23 @@ pub all_repeated : (R : Reader) (mode : Mode) (schema : CoreSchema) (t : Closed)
 all_repeated R mode schema t count from whole vs q s h b =
     ap (λ z. z >>= (λ x. Ok (let y : Found = (list_of x.0, [], x.1) in y))) (b.so_far h)
     ∙ ap (λ ws. Ok (let y : Found = (list_of ws, [], s) in y)) (all_items vs)
+
+-- ---- at a number of an item
+
+pub at_item : (R : Reader) (t : Closed) (count : ℕ) (from : ℕ) (whole : Slice) (vs : List Plain) (k : ℕ) (q : ℕ) (s : Slice)
+    → k < count
+    → Repeated R t count from whole vs (count - k) q s
+    → Repeated R t count from whole vs (suc (count - (k + 1))) q s
+at_item R t count from whole vs k q s below b =
+    let next : count - k ≡ suc (count - (k + 1)) = omega arith in
+    let T : ℕ → Type 0 = λ left. Repeated R t count from whole vs left q s in
+    subst T next b
+
+pub at_last : (R : Reader) (t : Closed) (count : ℕ) (from : ℕ) (whole : Slice) (vs : List Plain) (k : ℕ) (q : ℕ) (s : Slice)
+    → count ≤ k
+    → Repeated R t count from whole vs (count - k) q s
+    → Repeated R t count from whole vs zero q s
+at_last R t count from whole vs k q s after b =
+    let none : count - k ≡ zero = omega arith in
+    let T : ℕ → Type 0 = λ left. Repeated R t count from whole vs left q s in
+    subst T none b

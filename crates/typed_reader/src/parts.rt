@@ -19,7 +19,7 @@ ghost use Rattle.spelling.specs.Places.{Spot};
 ghost use Rattle.spelling.specs.PlainReader as plain;
 ghost use Rattle.spelling.specs.Slices as slices;
 ghost use Rattle.typed_value.specs.Values as values;
-ghost use Rattle.typed_value.specs.View.{names_in, pair_of, pairs_of, value as value_view, vals_in};
+ghost use Rattle.typed_value.specs.View.{names_in, pair_of, pairs_of, value as value_view, vals_in, vals_of};
 ghost use Rattle.typed_reader.specs.Begun.{Begins, WalkStops, is_whole};
 ghost use Rattle.typed_reader.specs.View.{found_view, outputs_of};
 
@@ -154,6 +154,13 @@ pub fn record_of(name: Option<Name>, fields: Items<(Name, Value)>) -> Value
         ≡ values.record_of name (names_in (map pair_of fields)) (vals_in (map pair_of fields)) }
 {
     Value::Record(Record { name, fields })
+}
+
+/// A list of these values.
+pub fn list_of(items: Items<Value>) -> Value
+    ensures { value_view result ≡ values.list_of (vals_of (map value_view items)) }
+{
+    Value::List(items)
 }
 
 /// A map of these values and hidden parts.

@@ -27,8 +27,9 @@ ghost use Rattle.typed_reader.specs.View.{core_of, found_view, given, named_by, 
 
 use crate::found::{Found, Outputs, Step};
 use crate::parts::{
-    alone, begin, bind_outputs, dict_of, is_nothing, is_whole, keep, ordinary_content, read_int,
-    read_number, read_rest, read_string, read_uint, record_of, size, stop_of, took, without_field,
+    alone, begin, bind_outputs, dict_of, is_nothing, is_whole, keep, list_of, ordinary_content,
+    read_int, read_number, read_rest, read_string, read_uint, record_of, size, stop_of, took,
+    without_field,
 };
 use bit_slice::{BitString, Name};
 use cell_nodes::{Cell, CellSlice, Mode};
@@ -319,7 +320,7 @@ fn read_repeat<'a>(
         items.push(found.value)?;
         left = found.rest;
     }
-    Ok(alone(Value::List(items), left))
+    Ok(alone(list_of(items), left))
 }
 
 /// A dictionary in place: its first edge stands here.
@@ -445,6 +446,8 @@ fn read_declared<'a>(
         begun.old (slice_of s.entry)) }
     ensures counts { IfOk result (λ x. begun.new + 1 ≡ begun.old + forms.parts (value_view x.value)) }
 {
+    // The lists have as many constructors as the schema.
+    let _flat = plan.flat();
     let CellSlice { bits, refs } = s;
     let Some(c) = plan.choose(name, args, bits.again()) else {
         return Err(stop_here(alloc, Cause::NoConstructor));
@@ -491,11 +494,12 @@ fn read_constructor<'a>(
         (entered (reader_of levels mode plan.now.0) d scope begun.old (slice_of s.entry)) }
     ensures counts { IfOk result (λ x. begun.new ≡ begun.old + forms.parts_in (values_of x.0)) }
 {
+    let flat = plan.flat();
     let entry = plan.entry(c);
-    let Some(mut slots) = fit(alloc, plan.inputs(c), args, entry.slots)? else {
+    let inputs = plan.inputs(c);
+    let Some(mut slots) = fit(alloc, inputs, args, entry.slots)? else {
         unreachable!()
     };
-    let flat = plan.flat();
     let ops = flat.operations(entry.first, entry.count);
     let types = slots.types.as_slice();
     let (fields, rest) = read_fields(

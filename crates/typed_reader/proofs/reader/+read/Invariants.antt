@@ -1,10 +1,12 @@
-use Rattle.std.proofs.Common.{◌+◌, ◌-◌, ◌*◌, drop, map}
-use Rattle.hashmap_tree.specs.Adds.{slice_of}
+use Rattle.std.proofs.Common.{◌≡◌, ◌+◌, ◌-◌, ◌*◌, drop, length, map}
+use Rattle.std.specs.Vec.Iter.{into_iter_items, into_iter_len}
+use Rattle.hashmap_tree.specs.Adds.{pair_of as leaf_of, slice_of}
 use Rattle.plan_closing.specs.Counted.{scope_of}
 use Rattle.closed_type.specs.View.{closed_type as type_view}
 use Rattle.typed_value.specs.View.{pair_of, value}
 use Rattle.typed_reader.specs.View.{reader_of}
 use Rattle.typed_reader.proofs.Fields.{SoFar}
+use Rattle.typed_reader.proofs.Leaves.{Paired}
 use Rattle.typed_reader.proofs.Repeats.{Repeated}
 use Rattle.typed_reader.proofs.reader.+read.Given as goal
 
@@ -55,10 +57,17 @@ decreases-read_type l = 8 * l.levels + 5
 
 abbrev pub invariant-read_fields-loop-op : goal.invariant-read_fields-loop-op
 invariant-read_fields-loop-op l =
-    SoFar (reader_of l.levels l.mode l.plan.0) l.plan.1 l.ops (scope_of l.fn.env l.types) l.fn.begun (slice_of l.s)
+    SoFar (reader_of l.levels l.mode l.plan.0) l.plan.1 l.ops (scope_of l.fn.env l.types) l.fn.begun (slice_of l.fn.s)
     (map pair_of l.fields) l.condition (drop l.op-index l.ops) (scope_of l.env l.types) l.begun (slice_of l.left)
 
 abbrev pub invariant-read_repeat-loop-item : goal.invariant-read_repeat-loop-item
 invariant-read_repeat-loop-item l =
-    Repeated (reader_of l.levels l.mode l.plan.0) (type_view l.inner) l.count l.fn.begun (slice_of l.s)
+    Repeated (reader_of l.levels l.mode l.plan.0) (type_view l.inner) l.count l.fn.begun (slice_of l.fn.s)
     (map value l.items) (l.count - l._item) l.begun (slice_of l.left)
+
+abbrev pub invariant-read_leaves-loop-key : goal.invariant-read_leaves-loop-key
+invariant-read_leaves-loop-key l = record {
+  paired : Paired (reader_of l.levels l.mode l.plan.0) (type_view l.inner) (map leaf_of l.fn.leaves.items) l.fn.begun
+      (map pair_of l.pairs) (map leaf_of (into_iter_items l.key-iterator)) l.begun;
+  len : into_iter_len l.key-iterator ≡ length (into_iter_items l.key-iterator);
+}
