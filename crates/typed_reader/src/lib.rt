@@ -3,6 +3,7 @@
 
 mod error;
 mod found;
+pub mod laws;
 mod parts;
 mod reader;
 mod root;
