@@ -20,11 +20,12 @@ later d ds x n y h = record {
 -- what is found is shown so
 sound : (s : CoreSchema) (x : Word) (n : ℕ) (y : Word) → shown_at s x n ≡ Some y → IsShownAt s x n y
 sound [] x n y is = cc
-sound (d ∷ ds) x n y is = cases (bytes_eq d.of_type x && d.number == n) refl is
+sound (d ∷ ds) x n y is = cases (bytes_eq d.of_type x && d.number == n) refl (sound ds x n y) is
   where
     cases : (b : Bool) → (bytes_eq d.of_type x && d.number == n) ≡ b
+        → (shown_at ds x n ≡ Some y → IsShownAt ds x n y)
         → cond b (Some d.shown) (shown_at ds x n) ≡ Some y → IsShownAt (d ∷ ds) x n y
-    cases true e h = record {
+    cases true e below h = record {
       place = zero;
       declaration = d;
       there = refl;
@@ -32,7 +33,7 @@ sound (d ∷ ds) x n y is = cases (bytes_eq d.of_type x && d.number == n) refl i
       number = eqb-true d.number n (and_parts _ _ e).1;
       shown = let same : Some d.shown ≡ Some y = h in cc;
     }
-    cases false e h = later d ds x n y (sound ds x n y h)
+    cases false e below h = later d ds x n y (below h)
 
 -- and what is there is found
 abbrev Found : CoreSchema → Word → ℕ → Type 0

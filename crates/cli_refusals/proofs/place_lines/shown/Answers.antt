@@ -5,5 +5,5 @@ use Rattle.cli_refusals.proofs.place_lines.shown.Goals as goal
 pub returns-in-Some : goal.returns-in-Some
 returns-in-Some c = rw (shown_by _ _ _ _ c.in-Some.ensures) c.text.ensures
 
-pub returns : goal.returns
-returns c = rw (shown_by _ _ _ _ c.in-None.ensures) refl
+pub returns-in-None : goal.returns-in-None
+returns-in-None c = rw (shown_by _ _ _ _ c.in-None.ensures) refl
