@@ -1,5 +1,6 @@
 -- Each stage comes to exactly one answer.
-use Rattle.std.proofs.Common.{◌≡◌, ◌⊎◌, inl, inr, ◌∙◌, ap, sym, subst, refl, arith, ℕ, List, [], ◌∷◌, Option, None, Some, Result, Ok, Err}
+use Rattle.std.proofs.Common.{◌≡◌, ◌⊎◌, inl, inr, ◌∙◌, ap, sym, subst, refl, arith, ℕ, List, [], ◌∷◌}
+use Rattle.std.proofs.Common.{Option, None, Some, Result, Ok, Err}
 use Rattle.tlb_edge.specs.Files.{Name}
 use Rattle.bag_cells.specs.Bag.{BagHolds, BagRefused}
 use Rattle.bag_cells.specs.declared.error.BagError.{BagError}
