@@ -6,17 +6,18 @@ use Rattle.cli_refusals.specs.Refusal.{Answer}
 use Rattle.cli_commands.specs.Check.{check}
 use Rattle.cli_commands.specs.Command.{Command}
 use Rattle.cli_commands.specs.Hash.{hash}
-use Rattle.cli_commands.specs.Read.{read}
+use Rattle.cli_commands.specs.Read.{lax, read}
 use Rattle.cli_commands.specs.declared.commands.Verb.{Verb}
-use Rattle.cli_commands.specs.declared.commands.Verb.TheVariants.{Read, Hash, Check}
+use Rattle.cli_commands.specs.declared.commands.Verb.TheVariants.{Read, Lax, Hash, Check}
 
 abbrev pub command_of : Verb → Command
 command_of Read = read
+command_of Lax = lax
 command_of Hash = hash
 command_of Check = check
 
 abbrev pub verbs : List Verb
-verbs = Read ∷ Hash ∷ Check ∷ []
+verbs = Read ∷ Lax ∷ Hash ∷ Check ∷ []
 
 -- ---- what holds of the whole table
 

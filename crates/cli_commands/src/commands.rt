@@ -1,17 +1,19 @@
 //! The table of commands.
-ghost use Rattle.std.specs.Prelude.{◌≡◌, map, string_bytes};
+ghost use Rattle.std.specs.Prelude.{◌≡◌, ◌≤◌, length, map, string_bytes, true};
 ghost use Rattle.tlb_files.specs.Contents.{AreShort};
 ghost use Rattle.tlb_files.specs.View.{contents_of};
 ghost use Rattle.cli_stages.specs.Stage.{Answers};
 ghost use Rattle.cli_commands.specs.Command.{at};
 ghost use Rattle.cli_commands.specs.Commands.{CommandAnswers, command_of, verb_of};
-ghost use Rattle.cli_commands.specs.Forms.{files_in};
+ghost use Rattle.cli_commands.specs.Forms.{are_taken, files_in};
+ghost use Rattle.cli_commands.specs.Read.{Reads};
 ghost use Rattle.cli_commands.specs.View.{text_by};
 
 use crate::check::check;
 use crate::hash::hash;
 use crate::read::read;
 use crate::slot::Slot;
+use cell_nodes::Mode;
 use cli_stages::Stop;
 use std::alloc::Global;
 
@@ -19,6 +21,7 @@ use std::alloc::Global;
 #[derive(Clone, Copy, Debug, PartialEq, Eq)]
 pub enum Verb {
     Read,
+    Lax,
     Hash,
     Check,
 }
@@ -30,6 +33,7 @@ impl Verb {
     {
         match word {
             "read" => Some(Verb::Read),
+            "lax" => Some(Verb::Lax),
             "hash" => Some(Verb::Hash),
             "check" => Some(Verb::Check),
             _ => None,
@@ -41,7 +45,7 @@ impl Verb {
         ensures { result.now ≡ (command_of self).slots }
     {
         match self {
-            Verb::Read => &[Slot::Schema, Slot::TypeWord, Slot::Bag],
+            Verb::Read | Verb::Lax => &[Slot::Schema, Slot::TypeWord, Slot::Bag],
             Verb::Hash => &[Slot::Bag],
             Verb::Check => &[Slot::Schema],
         }
@@ -54,17 +58,14 @@ impl Verb {
         words: &[String],
         contents: &[Vec<u8>],
     ) -> Result<Vec<u8>, Stop>
-        requires { AreShort (files_in (command_of self).slots (map string_bytes words.now)) (contents_of contents.now) }
+        requires words { are_taken (command_of self).slots (map string_bytes words.now) ≡ true }
+        requires files { AreShort (files_in (command_of self).slots (map string_bytes words.now)) (contents_of contents.now) }
         ensures { Answers (CommandAnswers self (map string_bytes words.now) (contents_of contents.now))
             text_by result }
     {
         match self {
-            Verb::Read => read(
-                alloc,
-                bytes_at(contents, 0),
-                word_at(words, 1),
-                bytes_at(contents, 1),
-            ),
+            Verb::Read => read_in(alloc, Mode::Whole, words, contents),
+            Verb::Lax => read_in(alloc, Mode::Lax, words, contents),
             Verb::Hash => hash(alloc, bytes_at(contents, 0)),
             Verb::Check => check(alloc, bytes_at(contents, 0)),
         }
@@ -87,4 +88,22 @@ fn bytes_at(contents: &[Vec<u8>], number: usize) -> &[u8]
         Some(bytes) => bytes.as_slice(),
         None => b"",
     }
+}
+
+// What `read` and `lax` answer.
+fn read_in(
+    alloc: Global,
+    mode: Mode,
+    words: &[String],
+    contents: &[Vec<u8>],
+) -> Result<Vec<u8>, Stop>
+    requires schema { length (at (contents_of contents.now) 0) ≤ 1048576 }
+    requires word { length (at (map string_bytes words.now) 1) ≤ 1048576 }
+    ensures { Answers (Reads mode (at (map string_bytes words.now) 1) (at (contents_of contents.now) 0)
+        (at (contents_of contents.now) 1)) text_by result }
+{
+    let schema = bytes_at(contents, 0);
+    let word = word_at(words, 1);
+    let bag = bytes_at(contents, 1);
+    read(alloc, mode, schema, word, bag)
 }

@@ -1,9 +1,9 @@
 //! The command forms.
-ghost use Rattle.std.specs.Prelude.{◌≡◌, IfOk, Some, map, string_bytes};
+ghost use Rattle.std.specs.Prelude.{◌≡◌, IfOk, IfSome, Some, map, string_bytes};
 ghost use Rattle.std.specs.Option.{option_map};
 ghost use Rattle.tlb_files.specs.View.{files_by};
 ghost use Rattle.cli_commands.specs.Forms.{are_taken as taken, files_of, form_of};
-ghost use Rattle.cli_commands.specs.View.{form_by};
+ghost use Rattle.cli_commands.specs.View.{IsTaken, form_by};
 
 use crate::commands::Verb;
 use crate::slot::Slot;
@@ -36,7 +36,9 @@ pub struct Form<'a> {
 impl<'a> Form<'a> {
     /// The command form that the words are, without the program's name.
     pub fn of(words: &'a [String]) -> Option<Form<'a>>
-        ensures { option_map form_by result ≡ form_of (map string_bytes words.now) }
+        ensures form { option_map form_by result ≡ form_of (map string_bytes words.now) }
+        // Its words are those that its slots take.
+        ensures taken { IfSome result IsTaken }
     {
         let [first, words @ ..] = words else {
             return None;

@@ -1,4 +1,4 @@
-//! `read SCHEMA TYPE BAG`
+//! `read SCHEMA TYPE BAG` and `lax SCHEMA TYPE BAG`
 ghost use Rattle.std.specs.Prelude.{◌≡◌, ◌≤◌, length, IfOk};
 ghost use Rattle.typed_value.specs.View.{value};
 ghost use Rattle.value_text.specs.Text.{text_of};
@@ -7,16 +7,16 @@ ghost use Rattle.cli_stages.specs.Stage.{Answers};
 ghost use Rattle.cli_commands.specs.Read.{Reads};
 ghost use Rattle.cli_commands.specs.View.{text_by};
 
+use cell_nodes::Mode;
 use cli_stages::Stop;
 use cli_stages::bag::bag;
 use cli_stages::cell::cell_value;
-use cli_stages::flat_form::flat_form;
-use cli_stages::schema::accepted;
+use cli_stages::schema::plan;
 use cli_stages::type_word::type_word;
-use flat_records::print;
 use std::alloc::Global;
 use tlb_memory::NoMemory;
 use typed_value::Value;
+use value_text::print;
 
 // The value's text and a line feed.
 fn value_line(alloc: Global, shown: &Value) -> Result<Vec<u8>, NoMemory>
@@ -27,16 +27,22 @@ fn value_line(alloc: Global, shown: &Value) -> Result<Vec<u8>, NoMemory>
     Ok(text)
 }
 
-/// The value that the bag's cell spells at the type, on a line.
-pub fn read(alloc: Global, schema: &[u8], word: &str, file: &[u8]) -> Result<Vec<u8>, Stop>
-    requires { length schema.now ≤ 1048576 }
-    ensures { Answers (Reads word.now schema.now file.now) text_by result }
+/// The value that the bag's cell spells at the type in this mode, on a line.
+pub fn read(
+    alloc: Global,
+    mode: Mode,
+    schema: &[u8],
+    word: &str,
+    file: &[u8],
+) -> Result<Vec<u8>, Stop>
+    requires schema { length schema.now ≤ 1048576 }
+    requires word { length word.now ≤ 1048576 }
+    ensures { Answers (Reads mode word.now schema.now file.now) text_by result }
 {
-    accepted(alloc, schema)?;
-    let declarations = flat_form(alloc, schema)?;
-    let declaration = type_word(&declarations, word)?;
+    let plan = plan(alloc, schema)?;
+    let ty = type_word(alloc, &plan, word)?;
     let root = bag(alloc, file)?;
-    let shown = cell_value(alloc, declaration, &root)?;
+    let shown = cell_value(alloc, &plan, &ty, &root, mode)?;
     let text = value_line(alloc, &shown)?;
     Ok(text)
 }

@@ -2,3 +2,4 @@ pub mod Code
 pub mod Lines
 pub mod Refusal
 pub mod View
+pub mod Shown

@@ -1,10 +1,12 @@
 -- The words of the lines that are put. This project's own.
-use Rattle.std.specs.Prelude.{ℕ, List, [], ◌∷◌, ◌++◌, codes, decimal, unwrap_or, slice_get}
-use Rattle.std.specs.Option.{option_map}
+use Rattle.std.specs.Prelude.{ℕ, List, [], ◌∷◌, ◌++◌, Option, Some, None, codes, decimal, unwrap_or}
 use Rattle.std.specs.Int.{to_be_bytes, w32}
 use Rattle.hex.specs.Hex.{encode_lower}
 use Rattle.bag_cells.specs.declared.error.BagError.{BagError}
-use Rattle.bag_cells.specs.declared.error.BagError.TheVariants.{BadHex, BadBase64, BadMagic, Truncated, BadHeader, TooManyCells, ManyRoots, AbsentCells, Trailing, BadSum, StoredHashes, BadCell, BackReference, BadExotic, BadMask, TooDeep, Sprawl, NoMemory}
+use Rattle.bag_cells.specs.declared.error.BagError.TheVariants.{BadHex, BadBase64, BadMagic, Truncated, BadHeader}
+use Rattle.bag_cells.specs.declared.error.BagError.TheVariants.{TooManyCells, ManyRoots, AbsentCells, Trailing, BadSum}
+use Rattle.bag_cells.specs.declared.error.BagError.TheVariants.{StoredHashes, BadCell, BackReference, BadExotic, BadMask}
+use Rattle.bag_cells.specs.declared.error.BagError.TheVariants.{TooDeep, Sprawl, NoMemory}
 use Rattle.tlb_lexer.specs.declared.LexError.{LexError}
 use Rattle.tlb_lexer.specs.declared.LexError.TheVariants as token
 use Rattle.tlb_lexer.specs.declared.LexError.TheVariants.{BadCharacter, OpenComment, TooLongName}
@@ -17,19 +19,15 @@ use Rattle.tlb_kinds.specs.declared.error.KindError.TheVariants as kinds
 use Rattle.tlb_kinds.specs.declared.spot.Spot.{Spot as At}
 use Rattle.tag_ambiguity.specs.declared.error.TagError.{TagError}
 use Rattle.tag_ambiguity.specs.declared.error.TagError.TheVariants as tags
-use Rattle.flat_records.specs.Form.{field_name}
-use Rattle.flat_records.specs.declared.declaration.Declaration.{Declaration}
-use Rattle.flat_records.specs.declared.declaration.Field.{Field}
-use Rattle.flat_records.specs.declared.read.Cause.{Cause}
-use Rattle.flat_records.specs.declared.read.Cause.TheVariants.{NoConstructor, ShortBits, Leftover}
-use Rattle.flat_records.specs.declared.read.Spot.{Spot}
-use Rattle.flat_records.specs.declared.read.Spot.TheVariants.{Root, InField}
-use Rattle.cli_refusals.specs.declared.refusal.CellCause.{CellCause}
-use Rattle.cli_refusals.specs.declared.refusal.CellCause.TheVariants.{Exotic, Reading}
+use Rattle.type_word.specs.declared.error.TypeError.{TypeError}
+use Rattle.type_word.specs.declared.error.TypeError.TheVariants as words
+use Rattle.core_form.specs.Core.{CoreSchema}
+use Rattle.spelling.specs.Places.{Holder, Spot, root, constructor_of}
+use Rattle.spelling.specs.declared.Cause.{Cause}
+use Rattle.spelling.specs.declared.Cause.TheVariants as why
+use Rattle.cli_refusals.specs.Shown.{shown_at}
 use Rattle.cli_refusals.specs.declared.refusal.SchemaCause.{SchemaCause}
 use Rattle.cli_refusals.specs.declared.refusal.SchemaCause.TheVariants as schemas
-use Rattle.cli_refusals.specs.declared.refusal.TypeCause.{TypeCause}
-use Rattle.cli_refusals.specs.declared.refusal.TypeCause.TheVariants as words
 
 -- a text and a line feed
 abbrev pub line_of : List ℕ → List ℕ
@@ -121,30 +119,62 @@ tag_cause (tags.TagTooLong x c) = spaced (codes "TagTooLong") (x ++ codes "." ++
 tag_cause (tags.Ambiguous x c d) = spaced (spaced (spaced (codes "Ambiguous") x) c) d
 tag_cause tags.NoMemory = []
 
--- the name of the field with that number, where there is one
-abbrev pub name_at : List Field → ℕ → List ℕ
-name_at fields number = unwrap_or (option_map field_name (slice_get fields number)) []
+-- ---- types
 
--- root:TYPE, or TYPE.CONSTRUCTOR.FIELD
-abbrev pub spot_text : Declaration → Spot → List ℕ
-spot_text d Root = codes "root:" ++ d.type_name
-spot_text d (InField number) = d.type_name ++ 46 ∷ d.name ++ 46 ∷ name_at d.fields number
+-- words and a name, where there is one
+abbrev pub with_name : List ℕ → Option (List ℕ) → List ℕ
+with_name cause (Some x) = spaced cause x
+with_name cause None = cause
 
+-- the cause of a type word's refusal, and its place or a name; none is refused for lack of memory
+abbrev pub type_cause : TypeError → List ℕ
+type_cause (words.TypeSyntax place) = numbered (codes "TypeSyntax") place
+type_cause (words.UnknownType x) = spaced (codes "UnknownType") x
+type_cause (words.Arity x) = spaced (codes "Arity") x
+type_cause (words.Output x) = spaced (codes "Output") x
+type_cause (words.KindMismatch x) = with_name (codes "KindMismatch") x
+type_cause words.TooWide = codes "TooWide"
+type_cause words.BigType = codes "BigType"
+type_cause words.NoMemory = []
+
+-- ---- places in a value
+
+-- TYPE.CONSTRUCTOR, or root:TYPE where no constructor is around, of this text
+abbrev pub holder_text : CoreSchema → List ℕ → Holder → List ℕ
+holder_text s type root = codes "root:" ++ type
+holder_text s type (constructor_of x n) = x ++ 46 ∷ unwrap_or (shown_at s x n) []
+
+-- and the field in it
+abbrev pub spot_text : CoreSchema → List ℕ → Spot → List ℕ
+spot_text s type h = holder_text s type h.holder ++ dotted h.path
+
+-- why a reading or a building stops
 abbrev pub cause_text : Cause → List ℕ
-cause_text NoConstructor = codes "NoConstructor"
-cause_text ShortBits = codes "ShortBits"
-cause_text Leftover = codes "Leftover"
+cause_text why.Nesting = codes "Nesting"
+cause_text why.Bulk = codes "Bulk"
+cause_text why.Overflow = codes "Overflow"
+cause_text why.BigType = codes "BigType"
+cause_text why.Width = codes "Width"
+cause_text why.NoConstructor = codes "NoConstructor"
+cause_text why.ShortBits = codes "ShortBits"
+cause_text why.ShortRefs = codes "ShortRefs"
+cause_text why.OutOfRange = codes "OutOfRange"
+cause_text why.Constraint = codes "Constraint"
+cause_text why.NoSolution = codes "NoSolution"
+cause_text why.Idle = codes "Idle"
+cause_text why.Exotic = codes "Exotic"
+cause_text why.Label = codes "Label"
+cause_text why.Leftover = codes "Leftover"
+cause_text why.Shape = codes "Shape"
+cause_text why.AfterRest = codes "AfterRest"
+cause_text why.Full = codes "Full"
+cause_text why.TooDeep = codes "TooDeep"
+cause_text why.Sprawl = codes "Sprawl"
 
-abbrev pub cell_cause : CellCause → List ℕ
-cell_cause Exotic = codes "Exotic"
-cell_cause (Reading cause) = cause_text cause
+-- ---- schemas
 
--- the cause of a schema's refusal: by its text, by its kinds, by its tags, or a form that isn't read yet
+-- the cause of a schema's refusal: by its text, by its kinds, or by its tags
 abbrev pub schema_cause : SchemaCause → List ℕ
 schema_cause (schemas.Text error) = grammar_cause error
 schema_cause (schemas.Kinds error) = kind_cause error
 schema_cause (schemas.Tags error) = tag_cause error
-schema_cause schemas.Unsupported = codes "Unsupported"
-
-abbrev pub type_cause : TypeCause → List ℕ
-type_cause words.Unsupported = codes "Unsupported"

@@ -2,10 +2,10 @@
 use Rattle.std.specs.Prelude.{ℕ, List, ◌++◌, codes, Result, Ok, Err}
 use Rattle.bag_cells.specs.declared.error.BagError.{BagError}
 use Rattle.tlb_edge.specs.Files.{Name}
-use Rattle.cli_refusals.specs.Lines.{line_of, spaced, bag_cause, cell_cause, schema_cause, type_cause}
-use Rattle.cli_refusals.specs.declared.refusal.CellCause.{CellCause}
+use Rattle.spelling.specs.declared.Cause.{Cause}
+use Rattle.type_word.specs.declared.error.TypeError.{TypeError}
+use Rattle.cli_refusals.specs.Lines.{line_of, spaced, bag_cause, cause_text, schema_cause, type_cause}
 use Rattle.cli_refusals.specs.declared.refusal.SchemaCause.{SchemaCause}
-use Rattle.cli_refusals.specs.declared.refusal.TypeCause.{TypeCause}
 use Rattle.cli_refusals.specs.declared.status.Status.{Status}
 use Rattle.cli_refusals.specs.declared.status.Status.TheVariants.{Done, Usage, ReadFault, TooLong, SchemaRefused, BagRefused, TypeRefused, CellRefused}
 
@@ -14,9 +14,9 @@ pub data Refusal : Type 0 where
   unread : Name → Refusal
   too_long : Name → Refusal
   schema : SchemaCause → Refusal
-  type_word : TypeCause → Refusal
+  type_word : TypeError → Refusal
   bag : BagError → Refusal
-  cell : List ℕ → CellCause → Refusal
+  cell : List ℕ → Cause → Refusal
 
 abbrev pub status_of : Refusal → Status
 status_of usage = Usage
@@ -35,7 +35,7 @@ words_of (too_long name) = spaced (codes "long") name
 words_of (schema cause) = spaced (codes "schema") (schema_cause cause)
 words_of (type_word cause) = spaced (codes "type") (type_cause cause)
 words_of (bag cause) = spaced (codes "bag") (bag_cause cause)
-words_of (cell place cause) = spaced (codes "cell") (spaced place (cell_cause cause))
+words_of (cell place cause) = spaced (codes "cell") (spaced place (cause_text cause))
 
 abbrev pub refusal_line : Refusal → List ℕ
 refusal_line refusal = line_of (codes "refused: " ++ words_of refusal)

@@ -1,28 +1,12 @@
 //! The words of a refusal by the kinds.
-ghost use Rattle.std.specs.Prelude.{◌≡◌, ◌≢◌, ◌++◌, ◌∷◌, [], IfOk, OnOk};
+ghost use Rattle.std.specs.Prelude.{◌≡◌, ◌≢◌, IfOk};
 ghost use Rattle.tlb_kinds.specs.declared.error.KindError.TheVariants as kinds;
-ghost use Rattle.cli_refusals.specs.Lines.{dotted as dotted_text, item_text, kind_cause, part_text, spaced};
+ghost use Rattle.cli_refusals.specs.Lines.{item_text, kind_cause, spaced};
 
+use crate::path_lines::add_path;
 use std::alloc::Global;
-use tlb_kinds::{KindError, Part, Spot};
+use tlb_kinds::{KindError, Spot};
 use tlb_memory::NoMemory;
-
-// Adds a shown part of a path, after a dot.
-fn add_part(alloc: Global, text: &mut Vec<u8>, part: &Part) -> Result<(), NoMemory>
-    ensures { OnOk result (text.new.items ≡ text.old.items ++ dotted_text (part.now ∷ [])) }
-{
-    text.extend_from_slice(b".")?;
-    match part {
-        Part::Named(name) => text.extend_from_slice(name.text())?,
-        Part::Check(place) => {
-            let check = format!(in alloc; "{{{place}}}")?;
-            text.extend_from_slice(check.as_bytes())?;
-        }
-        Part::Tag => text.extend_from_slice(b"$")?,
-        Part::Result => text.extend_from_slice(b"=")?,
-    }
-    Ok(())
-}
 
 // The type, the constructor and the item.
 fn item_words(alloc: Global, spot: &Spot) -> Result<Vec<u8>, NoMemory>
@@ -31,9 +15,7 @@ fn item_words(alloc: Global, spot: &Spot) -> Result<Vec<u8>, NoMemory>
     let mut text = Vec::from_slice(alloc, spot.type_name.text())?;
     text.extend_from_slice(b".")?;
     text.extend_from_slice(spot.constructor.text())?;
-    for part in spot.item.parts.as_slice() {
-        add_part(alloc, &mut text, part)?;
-    }
+    add_path(alloc, &mut text, &spot.item)?;
     Ok(text)
 }
 

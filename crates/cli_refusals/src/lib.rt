@@ -3,10 +3,13 @@
 
 mod kind_lines;
 mod lines;
+mod path_lines;
+mod place_lines;
 mod refusal;
 mod status;
 mod tag_lines;
+mod type_lines;
 
-pub use lines::spot_words;
-pub use refusal::{CellCause, Refusal, SchemaCause, TypeCause};
+pub use place_lines::place_words;
+pub use refusal::{Refusal, SchemaCause};
 pub use status::Status;

@@ -3,10 +3,9 @@ ghost use Rattle.std.specs.Prelude.{◌≡◌, ◌≢◌, decimal, IfOk};
 ghost use Rattle.bag_cells.specs.declared.error.BagError.TheVariants.{NoMemory as OutOfMemory};
 ghost use Rattle.tlb_grammar.specs.declared.error.GrammarError.TheVariants as grammar;
 ghost use Rattle.tlb_lexer.specs.declared.LexError.TheVariants as tokens;
-ghost use Rattle.cli_refusals.specs.Lines.{bag_cause, cause_text, grammar_cause, name_at, numbered, spaced, spot_text, sum_text, token_cause};
+ghost use Rattle.cli_refusals.specs.Lines.{bag_cause, grammar_cause, numbered, spaced, sum_text, token_cause};
 
 use bag_cells::BagError;
-use flat_records::{Cause, Declaration, Field, Spot};
 use std::alloc::Global;
 use tlb_grammar::GrammarError;
 use tlb_lexer::LexError;
@@ -29,13 +28,15 @@ fn digits(alloc: Global, number: u64) -> Result<Vec<u8>, NoMemory>
     Ok(digits.into_bytes())
 }
 
-fn numbered(alloc: Global, cause: &[u8], number: u64) -> Result<Vec<u8>, NoMemory>
+/// Words, a space, and a number.
+pub fn numbered(alloc: Global, cause: &[u8], number: u64) -> Result<Vec<u8>, NoMemory>
     ensures { IfOk result (λ text. text.items ≡ numbered cause.now number) }
 {
     spaced(alloc, cause, &digits(alloc, number)?)
 }
 
-fn words(alloc: Global, cause: &[u8]) -> Result<Vec<u8>, NoMemory>
+/// Words.
+pub fn words(alloc: Global, cause: &[u8]) -> Result<Vec<u8>, NoMemory>
     ensures { IfOk result (λ text. text.items ≡ cause.now) }
 {
     let text = Vec::from_slice(alloc, cause)?;
@@ -109,51 +110,5 @@ pub fn grammar_words(alloc: Global, error: GrammarError) -> Result<Vec<u8>, NoMe
         GrammarError::TooManyFields(place) => numbered(alloc, b"TooManyFields", place),
         GrammarError::TooManyParams(place) => numbered(alloc, b"TooManyParams", place),
         GrammarError::NoMemory => Err(NoMemory),
-    }
-}
-
-/// Why reading stops.
-pub fn cause_words(cause: Cause) -> &'static [u8]
-    ensures { result.now ≡ cause_text cause }
-{
-    match cause {
-        Cause::NoConstructor => b"NoConstructor",
-        Cause::ShortBits => b"ShortBits",
-        Cause::Leftover => b"Leftover",
-    }
-}
-
-fn name_at(fields: &[Field], number: usize) -> &[u8]
-    ensures { result.now ≡ name_at fields.now number }
-{
-    match fields.get(number) {
-        Some(field) => field.name.text(),
-        None => b"",
-    }
-}
-
-// The type, the constructor and the field with that number.
-fn field_words(alloc: Global, declaration: &Declaration, number: usize) -> Result<Vec<u8>, NoMemory>
-    ensures { IfOk result (λ text. text.items ≡ spot_text declaration.now (Spot.InField number)) }
-{
-    let mut text = Vec::from_slice(alloc, declaration.type_name.text())?;
-    text.extend_from_slice(b".")?;
-    text.extend_from_slice(declaration.name.text())?;
-    text.extend_from_slice(b".")?;
-    text.extend_from_slice(name_at(declaration.fields.as_slice(), number))?;
-    Ok(text)
-}
-
-/// Where reading stops.
-pub fn spot_words(alloc: Global, declaration: &Declaration, spot: Spot) -> Result<Vec<u8>, NoMemory>
-    ensures { IfOk result (λ text. text.items ≡ spot_text declaration.now spot) }
-{
-    match spot {
-        Spot::InField(number) => field_words(alloc, declaration, number),
-        Spot::Root => {
-            let mut text = words(alloc, b"root:")?;
-            text.extend_from_slice(declaration.type_name.text())?;
-            Ok(text)
-        }
     }
 }

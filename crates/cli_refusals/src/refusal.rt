@@ -1,20 +1,23 @@
 //! Why a command is refused, as data.
 ghost use Rattle.std.specs.Prelude.{◌≡◌, IfOk};
-ghost use Rattle.cli_refusals.specs.Lines.{cell_cause, schema_cause, type_cause};
+ghost use Rattle.cli_refusals.specs.Lines.{schema_cause};
 ghost use Rattle.cli_refusals.specs.Refusal.{refusal_line, status_of, words_of};
 ghost use Rattle.cli_refusals.specs.View.{refusal_by};
 
 use crate::kind_lines::kind_words;
-use crate::lines::{bag_words, cause_words, grammar_words, spaced};
+use crate::lines::{bag_words, grammar_words, spaced};
+use crate::place_lines::cause_words;
 use crate::status::Status;
 use crate::tag_lines::tag_words;
+use crate::type_lines::type_words;
 use bag_cells::BagError;
-use flat_records::Cause;
+use field_plan::Cause;
 use std::alloc::Global;
 use tag_ambiguity::TagError;
 use tlb_grammar::GrammarError;
 use tlb_kinds::KindError;
 use tlb_memory::NoMemory;
+use type_word::TypeError;
 
 /// Why a schema is refused.
 #[derive(Drop)]
@@ -22,22 +25,6 @@ pub enum SchemaCause {
     Text(GrammarError),
     Kinds(KindError),
     Tags(TagError),
-    /// It is of no form that is read yet.
-    Unsupported,
-}
-
-/// Why a type word is refused.
-#[derive(Clone, Copy)]
-pub enum TypeCause {
-    /// It is of no form that is read yet.
-    Unsupported,
-}
-
-/// Why a cell is refused.
-#[derive(Clone, Copy)]
-pub enum CellCause {
-    Exotic,
-    Reading(Cause),
 }
 
 /// A refusal: its status by its variant, with its cause. A file is named, and a place is as it is shown.
@@ -47,9 +34,9 @@ pub enum Refusal {
     ReadFault(Vec<u8>),
     TooLong(Vec<u8>),
     Schema(SchemaCause),
-    TypeWord(TypeCause),
+    TypeWord(TypeError),
     Bag(BagError),
-    Cell(Vec<u8>, CellCause),
+    Cell(Vec<u8>, Cause),
 }
 
 fn schema_words(alloc: Global, cause: &SchemaCause) -> Result<Vec<u8>, NoMemory>
@@ -59,27 +46,6 @@ fn schema_words(alloc: Global, cause: &SchemaCause) -> Result<Vec<u8>, NoMemory>
         SchemaCause::Text(error) => grammar_words(alloc, *error),
         SchemaCause::Kinds(error) => kind_words(alloc, error),
         SchemaCause::Tags(error) => tag_words(alloc, error),
-        SchemaCause::Unsupported => {
-            let text = Vec::from_slice(alloc, b"Unsupported")?;
-            Ok(text)
-        }
-    }
-}
-
-fn type_words(cause: TypeCause) -> &'static [u8]
-    ensures { result.now ≡ type_cause cause }
-{
-    match cause {
-        TypeCause::Unsupported => b"Unsupported",
-    }
-}
-
-fn cell_words(cause: CellCause) -> &'static [u8]
-    ensures { result.now ≡ cell_cause cause }
-{
-    match cause {
-        CellCause::Exotic => b"Exotic",
-        CellCause::Reading(cause) => cause_words(cause),
     }
 }
 
@@ -109,12 +75,12 @@ impl Refusal {
             Refusal::ReadFault(name) => spaced(alloc, b"read", name),
             Refusal::TooLong(name) => spaced(alloc, b"long", name),
             Refusal::Schema(cause) => spaced(alloc, b"schema", &schema_words(alloc, cause)?),
-            Refusal::TypeWord(cause) => spaced(alloc, b"type", type_words(*cause)),
+            Refusal::TypeWord(cause) => spaced(alloc, b"type", &type_words(alloc, cause)?),
             Refusal::Bag(error) => spaced(alloc, b"bag", &bag_words(alloc, *error)?),
             Refusal::Cell(place, cause) => spaced(
                 alloc,
                 b"cell",
-                &spaced(alloc, place, cell_words(*cause))?,
+                &spaced(alloc, place, cause_words(*cause))?,
             ),
         }
     }

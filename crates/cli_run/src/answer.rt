@@ -4,7 +4,7 @@ ghost use Rattle.tlb_files.specs.Counts.{counts};
 ghost use Rattle.cli_refusals.specs.Refusal.{verdict_of};
 ghost use Rattle.cli_refusals.specs.View.{refusal_by};
 ghost use Rattle.cli_commands.specs.Forms.{files_of};
-ghost use Rattle.cli_commands.specs.View.{form_by};
+ghost use Rattle.cli_commands.specs.View.{IsTaken, form_by};
 ghost use Rattle.cli_run.specs.Ran.{Answered, Concludes, OpensSome, RefusesFile};
 ghost use Rattle.cli_run.specs.View.{verdict_by};
 
@@ -66,6 +66,7 @@ fn conclude(alloc: Global, came: Result<Vec<u8>, Stop>) -> Result<Answer, NoMemo
 
 /// What a command answers over a shelf.
 pub fn answer_to<H: Shelf>(alloc: Global, form: Form<'_>, shelf: &mut H) -> Result<Answer, NoMemory>
+    requires { IsTaken form.entry }
     ensures held { H.held shelf.new ≡ H.held shelf.old }
     ensures answered { IfOk result (λ answer. Answered (Some (form_by form.entry)) (H.held shelf.old)
         (counts (H.opens shelf.old) (H.given shelf.old) (H.reads shelf.old) (H.faults shelf.old))

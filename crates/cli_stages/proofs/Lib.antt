@@ -1,4 +1,5 @@
 mod Layers
+mod Named
 mod StageFacts
 mod Stopped
 mod Whole

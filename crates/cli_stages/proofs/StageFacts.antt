@@ -1,31 +1,31 @@
 -- Each stage comes to exactly one answer.
-use Rattle.std.proofs.Common.{◌≡◌, ◌⊎◌, inl, inr, ◌∙◌, ap, sym, subst, refl, arith, ℕ, List, [], ◌∷◌, length, Bool, true, false, Option, None, Some, Ok, Err}
-use Rattle.std.proofs.lemmas.Bool.{false≢true}
+use Rattle.std.proofs.Common.{◌≡◌, ◌⊎◌, inl, inr, ◌∙◌, ap, sym, subst, refl, arith, ℕ, List, [], ◌∷◌}
+use Rattle.std.proofs.Common.{Option, None, Some, Result, Ok, Err}
 use Rattle.tlb_edge.specs.Files.{Name}
 use Rattle.bag_cells.specs.Bag.{BagHolds, BagRefused}
 use Rattle.bag_cells.specs.declared.error.BagError.{BagError}
-use Rattle.cell_nodes.specs.Tree.{is_exotic}
-use Rattle.cell_nodes.specs.declared.tree.Tree.{Tree, out-Tree}
-use Rattle.flat_records.specs.Form.{Declares, declared}
-use Rattle.flat_records.specs.Lexemes.{lexemes}
-use Rattle.flat_records.specs.Spelling.{Reading, Stuck}
-use Rattle.flat_records.specs.declared.declaration.Declaration.{Declaration}
-use Rattle.flat_records.specs.declared.read.Cause.{Cause}
-use Rattle.flat_records.specs.declared.read.Spot.{Spot}
+use Rattle.cell_nodes.specs.declared.tree.Mode.{Mode}
+use Rattle.cell_nodes.specs.declared.tree.Tree.{Tree}
 use Rattle.kind_declarations.specs.Faults.{first}
 use Rattle.tlb_grammar.specs.Answer.{Refuses}
 use Rattle.tlb_grammar.specs.declared.error.GrammarError.{GrammarError}
 use Rattle.tlb_kinds.specs.RefusalLaws.{refused_not_kinded}
 use Rattle.tlb_kinds.specs.Refusals.{IsKinded, kept_of, refusals}
 use Rattle.tlb_kinds.specs.declared.error.KindError.{KindError}
-use Rattle.tlb_lexer.specs.Tokenization.{Tokenizes, TokenRefusal}
-use Rattle.tlb_lexer.specs.declared.LexError.{LexError}
-use Rattle.tlb_lexer.specs.declared.Token.{Token}
 use Rattle.tlb_syntax.specs.Limits.{IsWithinLimits}
-use Rattle.tlb_syntax.specs.Tree.{SchemaView}
-use Rattle.tlb_syntax.specs.Written.{Writes}
+use Rattle.tlb_syntax.specs.Tree.{ExprView, SchemaView}
+use Rattle.tlb_syntax.specs.Written.{Writes, WritesWord}
 use Rattle.typed_value.specs.Values.{Plain}
+use Rattle.core_form.specs.Closed.{Closed}
 use Rattle.core_form.specs.Core.{Word}
+use Rattle.spelling.specs.Places.{Place}
+use Rattle.spelling.specs.Spells.{Reading}
+use Rattle.spelling.specs.Stuck.{Stuck}
+use Rattle.spelling_laws.specs.Laws.{ExactlyOne}
+use Rattle.accepted_spelling.specs.Laws.{ReadOrStuck}
+use Rattle.tlb_syntax.specs.Text.{expr_text}
+use Rattle.type_word.specs.InSchema.{ResolvesIn, kinds_of}
+use Rattle.type_word.specs.declared.error.TypeError.{TypeError}
 use Rattle.schema_leads.specs.Tags.{cores}
 use Rattle.accepted_schema.specs.Accepted.{IsAccepted}
 use Rattle.accepted_schema.specs.Refusals.{TagRefusal, tag_too_long, ambiguous, first_of, first_tag_refusal, tag_refusals}
@@ -33,20 +33,19 @@ use Rattle.tag_ambiguity.specs.Judged.{refusal_by}
 use Rattle.tag_ambiguity.specs.declared.error.TagError.{TagError}
 use Rattle.tag_ambiguity.specs.declared.error.TagError.TheVariants.{TagTooLong, Ambiguous, NoMemory as NoTagMemory}
 use Rattle.cli_refusals.specs.Lines.{spot_text}
-use Rattle.cli_refusals.specs.Refusal.{Refusal, schema, bag, cell, status_of}
-use Rattle.cli_refusals.specs.declared.refusal.CellCause.TheVariants.{Reading as ByReading}
+use Rattle.cli_refusals.specs.Refusal.{Refusal, schema, type_word, bag, cell, status_of}
 use Rattle.cli_refusals.specs.declared.refusal.SchemaCause.TheVariants.{Text, Kinds as ByKinds, Tags as ByTags}
 use Rattle.cli_stages.specs.Bag.{Bag, RefusesBag}
-use Rattle.cli_stages.specs.Cell.{Cell, RefusesCell, exotic, stuck, SpellsValue}
-use Rattle.cli_stages.specs.FlatForm.{FlatForm, FormOf, RefusesForm}
+use Rattle.cli_stages.specs.Cell.{Cell, RefusesCell}
 use Rattle.cli_stages.specs.Kinds.{Kinds, RefusesKinds}
-use Rattle.cli_stages.specs.Schema.{Schema}
+use Rattle.cli_stages.specs.Schema.{IsWhole, Schema}
 use Rattle.cli_stages.specs.SchemaText.{SchemaText, RefusesText}
 use Rattle.cli_stages.specs.Stage.{stage, IsAnswered, IsStageStatus, IsOnce, IsStage}
 use Rattle.cli_stages.specs.StageLaws.{next-stage}
 use Rattle.cli_stages.specs.Tags.{Tags, RefusesTags}
-use Rattle.cli_stages.specs.TypeWord.{TypeWord, RefusesWord}
-use Rattle.cli_stages.proofs.Layers.{Bags, Forms, Readings, Schemas, Texts}
+use Rattle.cli_stages.specs.TypeWord.{NamesType, RefusesWord, ShownType, TypeWord}
+use Rattle.cli_stages.proofs.Layers.{Bags, Schemas, Texts, Words}
+use Rattle.cli_stages.proofs.Named.{expr_of, never_named}
 
 some-same : {X : Type 0} (d e : X) (o : Option X) → o ≡ Some d → o ≡ Some e → d ≡ e
 some-same d e o a b = let same : Some d ≡ Some e = sym a ∙ b in cc
@@ -179,50 +178,37 @@ schema-stage texts laws text =
     next-stage (kinds-stage tree) (λ kept given.
     tags-stage laws kept (kept-judged laws text tree kept writes given)))
 
--- ---- its form
-
-forms-same : Forms → (text : List ℕ) (ds es : List Declaration) → FormOf text ds → FormOf text es → ds ≡ es
-forms-same laws text ds es a b =
-    let P : List Token → Type 0 = λ ts. Declares (lexemes text ts) ds in
-    laws.declared (lexemes text b.tokens) ds es
-    (subst P (laws.tokenized text a.tokens b.tokens a.tokenized b.tokenized) a.declares) b.declares
-
-form-of_tokens : Forms → (text : List ℕ) (ts : List Token) → Tokenizes text ts
-    → ((ds : List Declaration) × Declares (lexemes text ts) ds) ⊎ ((ds : List Declaration) → Declares (lexemes text ts) ds → ⊥)
-    → IsAnswered (FlatForm text)
-form-of_tokens laws text ts tokenizes (inl h) = (Ok h.0, record { tokens = ts; tokenized = tokenizes; declares = h.1 })
-form-of_tokens laws text ts tokenizes (inr never) = (Err _, (none, refl))
-  where
-    none : (ds : List Declaration) → FormOf text ds → ⊥
-    none ds form =
-        let P : List Token → Type 0 = λ xs. Declares (lexemes text xs) ds in
-        never ds (subst P (laws.tokenized text form.tokens ts form.tokenized tokenizes) form.declares)
-
-form-some : Forms → (text : List ℕ) → ((ts : List Token) × Tokenizes text ts) ⊎ ((e : LexError) × TokenRefusal text e)
-    → IsAnswered (FlatForm text)
-form-some laws text (inl h) = form-of_tokens laws text h.0 h.1 (laws.form_or_none (lexemes text h.0))
-form-some laws text (inr h) = (Err _, (λ ds form. laws.not_both text form.tokens h.0 form.tokenized h.1, refl))
-
-pub form-stage : Forms → (text : List ℕ) → IsStage (FlatForm text)
-form-stage laws text = record {
-  once = stage-once (RefusesForm text) (FormOf text) (λ r s a b. a.1 ∙ sym b.1) (forms-same laws text) (λ r ds a b. a.0 ds b);
-  answered = form-some laws text (laws.some text);
-  refuses = λ r given. judged-as r _ given.1 tt;
-}
-
 -- ---- a type word
 
-word-some : (word : Name) (ds : List Declaration) (found : Option Declaration) → declared ds word ≡ found
-    → IsAnswered (TypeWord word ds)
-word-some word ds None is = (Err _, (is, refl))
-word-some word ds (Some d) is = (Ok d, is)
+words-same : {X : Type 0} (e f : TypeError) → Err {T = X} e ≡ Err f → e ≡ f
+words-same e f is = cc
 
-pub word-stage : (word : Name) (ds : List Declaration) → IsStage (TypeWord word ds)
-word-stage word ds = record {
-  once = stage-once (RefusesWord word ds) _ (λ r s a b. a.1 ∙ sym b.1) (λ d e a b. some-same d e _ a b)
-      (λ r d a b. none-some d _ a.0 b);
-  answered = word-some word ds (declared ds word) refl;
-  refuses = λ r given. judged-as r _ given.1 tt;
+types-same : (t u : Closed) → Ok {E = TypeError} t ≡ Ok u → t ≡ u
+types-same t u is = cc
+
+shown-same : (s t : ShownType) → s.closed ≡ t.closed → s.text ≡ t.text → s ≡ t
+shown-same s t closed text = λ i. record { closed = closed i; text = text i }
+
+word-answer : Words → (word : Name) (s : SchemaView) (r : Result Closed TypeError) → ResolvesIn s word r
+    → IsAnswered (TypeWord word s)
+word-answer laws word s (Ok t) is =
+    let found = expr_of s word t is in
+    (Ok (record { closed = t; text = expr_text found.0 }),
+    record { resolved = is; expr = found.0; writes = found.1; shown = refl })
+word-answer laws word s (Err e) is =
+    let P : TypeError → Type 0 = λ x. ResolvesIn s word (Err x) in
+    (Err (type_word e),
+    record { error = e; is_refusal = λ same. laws.memory _ word (subst P same is); refused = is; is = refl })
+
+pub word-stage : Words → (word : Name) (s : SchemaView) → IsStage (TypeWord word s)
+word-stage laws word s = record {
+  once = stage-once (RefusesWord word s) (NamesType word s)
+      (λ r q a b. a.is ∙ ap type_word (words-same a.error b.error (laws.one _ word _ _ a.refused b.refused)) ∙ sym b.is)
+      (λ t u a b. shown-same t u (types-same t.closed u.closed (laws.one _ word _ _ a.resolved b.resolved))
+      (a.shown ∙ ap expr_text (laws.written word a.expr b.expr a.writes b.writes) ∙ sym b.shown))
+      (λ r t a b. never_named t.closed a.error (laws.one _ word _ _ b.resolved a.refused));
+  answered = let some = laws.some (kinds_of s) word in word-answer laws word s some.0 some.1;
+  refuses = λ r given. judged-as r _ given.is tt;
 }
 
 -- ---- a bag
@@ -243,42 +229,26 @@ bag-stage laws file = record {
 
 -- ---- a cell
 
-stop-same : (d : Declaration) (s t : Spot) (a b : Cause) → s ≡ t → a ≡ b
-    → cell (spot_text d s) (ByReading a) ≡ cell (spot_text d t) (ByReading b)
-stop-same d s t a b spot cause =
-    ap (λ x. cell (spot_text d x) (ByReading a)) spot ∙ ap (λ x. cell (spot_text d t) (ByReading x)) cause
+cell-some : (mode : Mode) (s : SchemaView) (type : ShownType) (t : Tree)
+    → ((v : Plain) × Reading mode (cores s) type.closed t v) ⊎ ((p : Place) × Stuck mode (cores s) type.closed t p)
+    → IsAnswered (Cell mode s type t)
+cell-some mode s type t (inl h) = (Ok h.0, h.1)
+cell-some mode s type t (inr h) = (Err _, record { place = h.0; stuck = h.1; is = refl })
 
-cell-refused_once : Readings → (d : Declaration) (t : Tree) (r s : Refusal) → RefusesCell d t r → RefusesCell d t s → r ≡ s
-cell-refused_once laws d t r s (exotic kind is) (exotic other same) = is ∙ sym same
-cell-refused_once laws d t r s (exotic kind is) (stuck spot cause other stops same) = absurd (false≢true (sym other ∙ kind))
-cell-refused_once laws d t r s (stuck spot cause kind stops is) (exotic other same) = absurd (false≢true (sym kind ∙ other))
-cell-refused_once laws d t r s (stuck spot cause kind stops is) (stuck place why other stops_too same) =
-    is ∙ stop-same d spot place cause why (laws.spot d _ _ spot place cause why stops stops_too)
-    (laws.cause d _ _ spot place cause why stops stops_too) ∙ sym same
+cell-refused : (s : SchemaView) (type : ShownType) (p q : Place) → p ≡ q
+    → cell (spot_text (cores s) type.text p.spot) p.cause ≡ cell (spot_text (cores s) type.text q.spot) q.cause
+cell-refused s type p q same = ap (λ (x : Place). cell (spot_text (cores s) type.text x.spot) x.cause) same
 
-cell-never_both : Readings → (d : Declaration) (t : Tree) (r : Refusal) (v : Plain) → RefusesCell d t r → SpellsValue d t v → ⊥
-cell-never_both laws d t r v (exotic kind is) spells = false≢true (sym spells.ordinary ∙ kind)
-cell-never_both laws d t r v (stuck spot cause kind stops is) spells = laws.not_both d _ _ v spot cause spells.reading stops
-
-reading-some : (d : Declaration) (t : Tree) → is_exotic (out-Tree t).kind ≡ false
-    → ((v : Plain) × Reading d (out-Tree t).bits (length (out-Tree t).children) v)
-    ⊎ ((s : Spot) × (a : Cause) × Stuck d (out-Tree t).bits (length (out-Tree t).children) s a)
-    → IsAnswered (Cell d t)
-reading-some d t ordinary (inl h) = (Ok h.0, record { ordinary = ordinary; reading = h.1 })
-reading-some d t ordinary (inr h) = (Err _, stuck h.0 h.1 ordinary h.2 refl)
-
-cell-some : Readings → (d : Declaration) (t : Tree) (b : Bool) → is_exotic (out-Tree t).kind ≡ b → IsAnswered (Cell d t)
-cell-some laws d t true is = (Err _, exotic is refl)
-cell-some laws d t false is = reading-some d t is (laws.some d (out-Tree t).bits (length (out-Tree t).children))
-
-cell-refuses : (d : Declaration) (t : Tree) (r : Refusal) → RefusesCell d t r → IsStageStatus (status_of r)
-cell-refuses d t r (exotic kind is) = judged-as r _ is tt
-cell-refuses d t r (stuck spot cause kind stopped is) = judged-as r _ is tt
-
-pub cell-stage : Readings → (d : Declaration) (t : Tree) → IsStage (Cell d t)
-cell-stage laws d t = record {
-  once = stage-once (RefusesCell d t) (SpellsValue d t) (cell-refused_once laws d t)
-      (λ v w a b. laws.reading d _ _ v w a.reading b.reading) (cell-never_both laws d t);
-  answered = cell-some laws d t (is_exotic (out-Tree t).kind) refl;
-  refuses = cell-refuses d t;
-}
+pub cell-stage : ReadOrStuck → (mode : Mode) (s : SchemaView) (type : ShownType) (t : Tree) → IsWhole s
+    → IsStage (Cell mode s type t)
+cell-stage laws mode s type t whole =
+    let P : SchemaView → Type 0 = λ x. ExactlyOne mode (cores x) type.closed t in
+    let one = subst P whole.kept (laws mode s whole.accepted type.closed t) in
+    record {
+      once = stage-once (RefusesCell mode s type t) (Reading mode (cores s) type.closed t)
+          (λ r q a b. a.is ∙ cell-refused s type a.place b.place (one.one_place a.place b.place a.stuck b.stuck) ∙ sym b.is)
+          (λ v w a b. one.one_reading v w a b)
+          (λ r v a b. one.not_both v a.place b a.stuck);
+      answered = cell-some mode s type t one.some;
+      refuses = λ r given. judged-as r _ given.is tt;
+    }

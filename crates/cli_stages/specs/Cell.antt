@@ -1,29 +1,24 @@
--- The stage of a cell at a declaration.
-use Rattle.std.specs.Prelude.{◌≡◌, true, false, length, Result}
-use Rattle.cell_nodes.specs.Tree.{is_exotic}
-use Rattle.cell_nodes.specs.declared.tree.Tree.{Tree, out-Tree}
-use Rattle.flat_records.specs.Spelling.{Reading, Stuck}
-use Rattle.flat_records.specs.declared.declaration.Declaration.{Declaration}
-use Rattle.flat_records.specs.declared.read.Cause.{Cause}
-use Rattle.flat_records.specs.declared.read.Spot.{Spot}
-use Rattle.flat_records.specs.declared.read.Spot.TheVariants.{Root}
+-- The stage of a cell at a closed type of a schema, in a mode.
+use Rattle.std.specs.Prelude.{◌≡◌, Result}
+use Rattle.cell_nodes.specs.declared.tree.Mode.{Mode}
+use Rattle.cell_nodes.specs.declared.tree.Tree.{Tree}
+use Rattle.schema_leads.specs.Tags.{cores}
+use Rattle.spelling.specs.Places.{Place}
+use Rattle.spelling.specs.Spells.{Reading}
+use Rattle.spelling.specs.Stuck.{Stuck}
+use Rattle.tlb_syntax.specs.Tree.{SchemaView}
 use Rattle.typed_value.specs.Values.{Plain}
 use Rattle.cli_refusals.specs.Lines.{spot_text}
 use Rattle.cli_refusals.specs.Refusal.{Refusal, cell}
 use Rattle.cli_stages.specs.Stage.{stage}
-use Rattle.cli_refusals.specs.declared.refusal.CellCause.TheVariants.{Exotic, Reading as ByReading}
+use Rattle.cli_stages.specs.TypeWord.{ShownType}
 
--- the cell is exotic, or reading stops at a place
-pub data RefusesCell (d : Declaration) (t : Tree) (refusal : Refusal) : Type 0 where
-  exotic : is_exotic (out-Tree t).kind ≡ true → refusal ≡ cell (spot_text d Root) Exotic → RefusesCell d t refusal
-  stuck : (spot : Spot) (cause : Cause) → is_exotic (out-Tree t).kind ≡ false
-      → Stuck d (out-Tree t).bits (length (out-Tree t).children) spot cause
-      → refusal ≡ cell (spot_text d spot) (ByReading cause) → RefusesCell d t refusal
+-- reading stops at a place
+pub record RefusesCell (mode : Mode) (s : SchemaView) (type : ShownType) (t : Tree) (refusal : Refusal) : Type 0 where
+  pub place : Place
+  pub stuck : Stuck mode (cores s) type.closed t place
+  pub is : refusal ≡ cell (spot_text (cores s) type.text place.spot) place.cause
 
 -- or the cell spells a value
-pub record SpellsValue (d : Declaration) (t : Tree) (value : Plain) : Type 0 where
-  pub ordinary : is_exotic (out-Tree t).kind ≡ false
-  pub reading : Reading d (out-Tree t).bits (length (out-Tree t).children) value
-
-abbrev pub Cell : Declaration → Tree → Result Plain Refusal → Type 0
-Cell d t = stage (RefusesCell d t) (SpellsValue d t)
+abbrev pub Cell : Mode → SchemaView → ShownType → Tree → Result Plain Refusal → Type 0
+Cell mode s type t = stage (RefusesCell mode s type t) (Reading mode (cores s) type.closed t)

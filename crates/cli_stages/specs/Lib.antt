@@ -1,6 +1,5 @@
 pub mod Bag
 pub mod Cell
-pub mod FlatForm
 pub mod Kinds
 pub mod Schema
 pub mod SchemaText
@@ -9,3 +8,4 @@ pub mod StageLaws
 pub mod Stages
 pub mod Tags
 pub mod TypeWord
+pub mod View

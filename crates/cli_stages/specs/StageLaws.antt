@@ -80,12 +80,24 @@ stops-by : {T U X Y : Type 0} (first : Result X Refusal → Type 0) (next : X �
 stops-by first next view see (Refused r) given = record { answer = stops (refusal_by r) given.answer refl }
 stops-by first next view see NoMemory given = record { answer = tt }
 
+-- nothing was given, so nothing is seen
+same_stop : {T U X : Type 0} (judged : Result X Refusal → Type 0) (view : T → X) (see : U → X) (e : Stop)
+    → Answers judged view (Err e) → Answers judged see (Err e)
+same_stop judged view see (Refused r) given = record { answer = given.answer }
+same_stop judged view see NoMemory given = record { answer = tt }
+
 -- it stops, and `?` hands this on
 pub stopped : {T U X Y : Type 0} {first : Result X Refusal → Type 0} {next : X → Result Y Refusal → Type 0}
     {view : T → X} {see : U → Y} {e : Stop} {r : Result U Stop}
     → Answers first view (Err e) → IsErrAnd r (λ y. y ≡ e) → Answers (Next first next) see r
 stopped {first = first} {next = next} {view = view} {see = see} {e = e} {r = r} given handed =
     let q = err_from_is_err_and r handed in rw (q.1, q.2) (stops-by first next view see e given)
+
+-- it stops, and this is the answer of a call that does more
+pub stopped_as : {T U X : Type 0} {judged : Result X Refusal → Type 0} {view : T → X} {see : U → X} {e : Stop}
+    {r : Result U Stop} → Answers judged view (Err e) → IsErrAnd r (λ y. y ≡ e) → Answers judged see r
+stopped_as {judged = judged} {view = view} {see = see} {e = e} {r = r} given handed =
+    let q = err_from_is_err_and r handed in rw (q.1, q.2) (same_stop judged view see e given)
 
 -- it gives what the next one follows
 pub passed : {T U X Y : Type 0} {first : Result X Refusal → Type 0} {next : X → Result Y Refusal → Type 0}
@@ -96,6 +108,12 @@ passed {view = view} {t = t} {r = Ok u} given answers =
 passed {view = view} {t = t} {r = Err (Refused s)} given answers =
     record { answer = goes_on (view t) given.answer answers.answer }
 passed {r = Err NoMemory} given answers = record { answer = tt }
+
+-- it gives this, and what is answered is seen as the same
+pub given_as : {T U X : Type 0} {judged : Result X Refusal → Type 0} {view : T → X} {see : U → X} {t : T} {u : U}
+    → Answers judged view (Ok t) → see u ≡ view t → Answers judged see (Ok u)
+given_as {X = X} {judged = judged} given same =
+    let P : X → Type 0 = λ x. judged (Ok x) in record { answer = subst P (sym same) given.answer }
 
 -- the last one gives what is answered
 pub given : {U Y : Type 0} {y : Y} {see : U → Y} {u : U} → see u ≡ y → Answers (Gives y) see (Ok u)

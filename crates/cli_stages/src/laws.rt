@@ -3,12 +3,11 @@ ghost use Rattle.cli_stages.specs.Schema.{GivesAccepted};
 ghost use Rattle.cli_stages.specs.Stages.{Stages};
 
 use accepted_schema::laws::{accepted_has_no_refusal, accepted_or_refused, accepted_stays};
-use flat_records::laws::{
-    form_or_none, one_form, one_reading, one_stop, read_or_stuck, reading_or_stop,
-};
+use accepted_spelling::laws::read_or_stuck;
 use tlb_grammar::laws::{at_most_one_answer, written_or_refused};
 use tlb_kinds::laws::{kept_stays_within, kinded_stays, passed_over};
 use tlb_syntax::laws::written_within_limits;
+use type_word::laws::one_answer;
 
 /// Each stage refuses or gives something, once.
 pub fn each_stage_answers_once()
@@ -23,16 +22,10 @@ pub fn each_stage_answers_once()
     accepted_or_refused();
     accepted_has_no_refusal();
     accepted_stays();
-    tlb_lexer::laws::at_most_one();
-    tlb_lexer::laws::at_least_one();
-    one_form();
-    form_or_none();
+    one_answer();
     bag_cells::laws::at_most_one();
     bag_cells::laws::at_least_one();
-    one_reading();
-    one_stop();
     read_or_stuck();
-    reading_or_stop();
 }
 
 /// The stage of a schema gives it exactly where the text writes it and it is accepted.

@@ -3,7 +3,6 @@
 
 pub mod bag;
 pub mod cell;
-pub mod flat_form;
 mod kinds;
 pub mod laws;
 pub mod schema;

@@ -8,6 +8,7 @@ use crate::Stop;
 use crate::kinds::kinds;
 use crate::schema_text::schema_text;
 use crate::tags::tags;
+use field_plan::{Plan, compile};
 use std::alloc::Global;
 use tag_ambiguity::Accepted;
 
@@ -19,4 +20,14 @@ pub fn accepted(alloc: Global, text: &[u8]) -> Result<Accepted, Stop>
     let tree = schema_text(alloc, text)?;
     let kinded = kinds(alloc, tree)?;
     tags(alloc, kinded)
+}
+
+/// The plan of the schema that the text writes, where it is accepted.
+pub fn plan(alloc: Global, text: &[u8]) -> Result<Plan, Stop>
+    requires { length text.now ≤ 1048576 }
+    ensures { Answers (Schema text.now) (λ plan. schema_view plan.0) result }
+{
+    let accepted = accepted(alloc, text)?;
+    let plan = compile(alloc, accepted)?;
+    Ok(plan)
 }

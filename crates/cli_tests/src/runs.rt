@@ -119,6 +119,20 @@ fn a_put_that_fails_leaves_the_pieces_before_it(rt: HostRuntime) -> Result<(), F
     Ok(())
 }
 
+// The text of the value has 263 bytes, so two pieces.
+#[test]
+fn a_put_that_fails_leaves_the_beginning_of_a_value(rt: HostRuntime) -> Result<(), Fail> {
+    let alloc = rt.alloc();
+    let bag = padded(alloc, "b5ee9c720101010100810000fe", "00", 127, "")?;
+    let value = padded(alloc, "a{x:x{", "0", 254, "}}\n")?;
+    let held = files(alloc, "a$_ x:bits1016 = A;", bag.as_str())?;
+    let (status, output) = answer(alloc, "read s A b", held, 0, 2)?;
+    assert_eq!(rt; status, 3);
+    assert_eq!(rt; output.len(), 256);
+    assert!(rt; value.as_bytes().starts_with(&output));
+    Ok(())
+}
+
 // Each line: how many spaces stand before the schema, the call of the shelf that fails (0: none), the status
 // and the text. A schema of 1,048,576 bytes is read in 256 pieces, and one byte more is asked for.
 #[test]

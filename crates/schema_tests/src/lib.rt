@@ -1,4 +1,4 @@
-//! Tests of the crates of the language: tokens, syntax, kinds, the guard and flat records.
+//! Tests of the crates of the language: tokens, syntax, kinds, the guard, tags and leads.
 #![tactic(auto)]
 
 #[cfg(test)]
@@ -7,8 +7,6 @@ mod dictionary_lines;
 mod judgements;
 #[cfg(test)]
 mod lead_rows;
-#[cfg(test)]
-mod records;
 #[cfg(test)]
 mod separations;
 #[cfg(test)]

@@ -1,8 +1,11 @@
-use Rattle.cli_stages.proofs.Stopped.{cell-stopped}
+use Rattle.field_plan.specs.Placed.{place_view}
+use Rattle.cli_stages.proofs.Stopped.{cell_read, cell_stopped}
 use Rattle.cli_stages.proofs.cell.cell_value.Goals as goal
+
+pub returns-in-Ok : goal.returns-in-Ok
+returns-in-Ok c = cell_read _ _ _ _ _ c.schema.ensures.kept c.in-Ok.ensures
 
 pub returns-in-Err-Stuck : goal.returns-in-Err-Stuck
 returns-in-Err-Stuck c =
-    let stops = rw c.in-Err-Stuck.field-0-is at c.in-Err-Stuck.ensures.stuck in
-    cell-stopped c.args.declaration.now c.args.cell.now c.refused-in-Err-Stuck.result c.in-Err-Stuck.spot c.in-Err-Stuck.cause c.is_exotic.result c.bits.result c.refs.result
-    c.refused-in-Err-Stuck.ensures c.is_exotic.ensures c.if-is_exotic.false c.bits.ensures c.refs.ensures.value stops
+    cell_stopped _ _ _ _ (place_view c.in-Err-Stuck.place) _ c.schema.ensures.kept
+    (rw c.in-Err-Stuck.field-0-is at c.in-Err-Stuck.ensures) c.refused.ensures

@@ -1,5 +1,5 @@
-use Rattle.cli_stages.proofs.Layers.{Bags, Forms, Readings, Schemas, Texts}
-use Rattle.cli_stages.proofs.StageFacts.{bag-stage, cell-stage, form-stage, schema-stage, word-stage}
+use Rattle.cli_stages.proofs.Layers.{Bags, Schemas, Texts, Words}
+use Rattle.cli_stages.proofs.StageFacts.{bag-stage, cell-stage, schema-stage, word-stage}
 use Rattle.cli_stages.proofs.Whole.{is-whole}
 use Rattle.cli_stages.proofs.laws.each_stage_answers_once.Goals as goal
 
@@ -19,31 +19,22 @@ returns c =
       accepted_or_refused = c.accepted_or_refused.ensures;
       has_no_refusal = c.accepted_has_no_refusal.ensures;
     } in
-    let forms : Forms = record {
-      tokenized = c.at_most_one.ensures.tokenized;
-      not_both = c.at_most_one.ensures.not_both;
-      some = c.at_least_one.ensures;
-      declared = c.one_form.ensures;
-      form_or_none = c.form_or_none.ensures;
+    let words : Words = record {
+      one = c.one_answer.ensures.at_most;
+      some = c.one_answer.ensures.at_least;
+      memory = c.one_answer.ensures.memory;
+      written = c.at_most_one_answer.ensures.word_written;
     } in
     let bags : Bags = record {
-      tree = c.at_most_one-2.ensures.tree;
-      refused = c.at_most_one-2.ensures.refusal;
-      not_both = c.at_most_one-2.ensures.not_both;
-      some = c.at_least_one-2.ensures;
-    } in
-    let readings : Readings = record {
-      reading = c.one_reading.ensures;
-      spot = c.one_stop.ensures.spot;
-      cause = c.one_stop.ensures.cause;
-      not_both = c.read_or_stuck.ensures;
-      some = c.reading_or_stop.ensures;
+      tree = c.at_most_one.ensures.tree;
+      refused = c.at_most_one.ensures.refusal;
+      not_both = c.at_most_one.ensures.not_both;
+      some = c.at_least_one.ensures;
     } in
     record {
       schema = schema-stage texts schemas;
       whole = is-whole schemas c.accepted_stays.ensures;
-      flat_form = form-stage forms;
-      type_word = word-stage;
+      type_word = word-stage words;
       bag = bag-stage bags;
-      cell = cell-stage readings;
+      cell = cell-stage c.read_or_stuck.ensures;
     }
