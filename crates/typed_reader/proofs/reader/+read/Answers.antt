@@ -75,7 +75,7 @@ read_cell-returns-in_err-begin-clause-gives t c =
 pub read_cell-returns-then-is_whole-clause-gives : goal.read_cell-returns-then-is_whole-clause-gives
 read_cell-returns-then-is_whole-clause-gives t c =
     let v : value_view (Raw c.in_ok-share.field-0) ≡ forms.raw c.args.cell.now =
-        raw_seen c.in_ok-share.field-0 ∙ ap forms.raw c.in_ok-share.ensures in
+    raw_seen c.in_ok-share.field-0 ∙ ap forms.raw c.in_ok-share.ensures in
     λ h. cell_raw c.args.levels c.args.mode (core_of c.args.plan.now.0) h (type_view c.args.inner.now) c.args.begun.now _
     c.args.cell.now (sym c.if-is_whole.ensures) (c.in_ok-begin.ensures.begins h) ∙ ap Ok (sym v)
 
@@ -328,10 +328,10 @@ pub read_dict-returns-clause-gives : goal.read_dict-returns-clause-gives
 read_dict-returns-clause-gives t c =
     let v = c.in_ok-found.found.value in
     let made : value_view c.dict_of-2.result ≡ forms.map_of tt (forms.a_pair c.in-Some.key (value_view v) forms.no_pairs) [] =
-        c.dict_of-2.ensures
-        ∙ ap (λ ps. forms.map_of tt (pairs_of (map pair_of ps)) c.new.result)
-        (c.in_ok-push.ensures.ok ∙ ap (λ ps. ps ++ (c.in-Some.key, v) ∷ []) c.new-pairs.ensures)
-        ∙ ap (λ us. forms.map_of tt (forms.a_pair c.in-Some.key (value_view v) forms.no_pairs) us) c.new.ensures in
+    c.dict_of-2.ensures
+    ∙ ap (λ ps. forms.map_of tt (pairs_of (map pair_of ps)) c.new.result)
+    (c.in_ok-push.ensures.ok ∙ ap (λ ps. ps ++ (c.in-Some.key, v) ∷ []) c.new-pairs.ensures)
+    ∙ ap (λ us. forms.map_of tt (forms.a_pair c.in-Some.key (value_view v) forms.no_pairs) us) c.new.ensures in
     λ h. dict_leaf c.args.mode (reader_of c.args.levels c.args.mode c.args.plan.now.0) h c.args.n (type_view c.args.inner.now)
     c.args.begun.now (slice_of c.args.s) c.in-Ok.walk c.pop.new.self.items (c.in-Some.key, c.in-Some.field-0-1) c.in-Ok.ensures
     c.if-not-inline.false c.in-Some.ensures.items
@@ -349,9 +349,9 @@ pub read_dict_e-returns-clause-gives : goal.read_dict_e-returns-clause-gives
 read_dict_e-returns-clause-gives t c =
     let after : Slice = record { bits = c.in-Some.bits; refs = c.in-Some-first.refs } in
     let made : value_view c.dict_of-value-2.result
-            ≡ forms.map_of tt (pairs_of (map pair_of c.in_ok-pairs.pairs)) c.in-Ok.walk.unknown.items =
-        c.dict_of-value-2.ensures ∙ ap (λ us. forms.map_of tt (pairs_of (map pair_of c.in_ok-pairs.pairs)) us)
-        c.from_vec.ensures in
+    ≡ forms.map_of tt (pairs_of (map pair_of c.in_ok-pairs.pairs)) c.in-Ok.walk.unknown.items =
+    c.dict_of-value-2.ensures ∙ ap (λ us. forms.map_of tt (pairs_of (map pair_of c.in_ok-pairs.pairs)) us)
+    c.from_vec.ensures in
     λ h. root_given c.args.mode (reader_of c.args.levels c.args.mode c.args.plan.now.0) h c.args.n (type_view c.args.inner.now)
     c.args.begun.now c.args.s.bits c.in-Some.bit c.in-Some.bits c.args.s.refs c.in-Some-first.refs c.in-Some-first.cell.now
     c.in-Ok.walk (sym c.in-Some.ensures) c.if-not-known_bit.ensures c.in-Some-first.ensures c.in-Ok.ensures
@@ -383,18 +383,20 @@ read_dict_e-returns-in_default-first-clause-gives t c =
     c.in_default-first.ensures)
 
 pub read_field-read_fields-requires : goal.read_field-read_fields-requires
-read_field-read_fields-requires t c =
-    (omega (arith, c.decreases, c.in_ok-begin.ensures.left),
-    ops_within c.flat-in-Ok-Here.result.now c.args.plan.now.1 c.in-Ok-Here.first c.in-Ok-Here.count c.operations-ops.result.now
-    c.flat-in-Ok-Here.ensures.lists c.operations-ops.ensures
-    (here_within c.flat.result.now c.args.plan.now.1 c.args.ty c.in-Ok-Here.first c.in-Ok-Here.count c.in-Ok-Here.field-0
-    c.flat.ensures.lists c.requires.there c.in-Ok-Here.ensures.sound c.in-Ok-Here.field-0-is))
+read_field-read_fields-requires t c = (
+  omega (arith, c.decreases, c.in_ok-begin.ensures.left),
+  ops_within c.flat-in-Ok-Here.result.now c.args.plan.now.1 c.in-Ok-Here.first c.in-Ok-Here.count c.operations-ops.result.now
+      c.flat-in-Ok-Here.ensures.lists c.operations-ops.ensures
+      (here_within c.flat.result.now c.args.plan.now.1 c.args.ty c.in-Ok-Here.first c.in-Ok-Here.count c.in-Ok-Here.field-0
+      c.flat.ensures.lists c.requires.there c.in-Ok-Here.ensures.sound c.in-Ok-Here.field-0-is),
+)
 
 pub read_field-read_fields_under-requires : goal.read_field-read_fields_under-requires
-read_field-read_fields_under-requires t c =
-    (omega (arith, c.decreases, c.in_ok-begin.ensures.left),
-    under_within c.flat.result.now c.args.plan.now.1 c.args.ty c.in-Ok-Under.first c.in-Ok-Under.count c.in-Ok-Under.field-0
-    c.flat.ensures.lists c.requires.there c.in-Ok-Under.ensures.sound c.in-Ok-Under.field-0-is)
+read_field-read_fields_under-requires t c = (
+  omega (arith, c.decreases, c.in_ok-begin.ensures.left),
+  under_within c.flat.result.now c.args.plan.now.1 c.args.ty c.in-Ok-Under.first c.in-Ok-Under.count c.in-Ok-Under.field-0
+      c.flat.ensures.lists c.requires.there c.in-Ok-Under.ensures.sound c.in-Ok-Under.field-0-is,
+)
 
 pub read_field-returns-in-Err-Refused-clause-gives : goal.read_field-returns-in-Err-Refused-clause-gives
 read_field-returns-in-Err-Refused-clause-gives t c =
@@ -571,9 +573,12 @@ read_fields_under-returns-clause-gives t c =
     c.in-Some.refs c.in-Some.cell.now
     c.in-Some.ensures (sym c.in_default-unseen.ensures) (record_at c.args.plan.now.1 c.args.first c.args.count)
     (scope_of c.args.env.now c.args.types.now)
-    c.begin.new.begun (slice_of c.in-Some-ordinary_content.content)
-    (forms.record_of None (names_in (map pair_of c.in_ok-fields.fields)) (values_of c.in_ok-fields.fields), [], slice_of
-    c.in_ok-fields.left)
+    c.begin.new.begun (slice_of c.in-Some-ordinary_content.content) (
+      forms.record_of None (names_in (map pair_of c.in_ok-fields.fields)) (values_of c.in_ok-fields.fields),
+      [],
+      slice_of
+          c.in_ok-fields.left,
+    )
     c.in-Some-ordinary_content.ensures.0 c.in-Some-ordinary_content.ensures.1 (c.in_ok-begin.ensures.begins h)
     (fields_found (within c.args.levels c.args.mode (core_of c.args.plan.now.0)) h _ _ c.args.types.now c.in_ok-inner.inner
     c.args.env.now c.begin.new.begun
@@ -641,9 +646,12 @@ read_fields_under-returns-then-not-is_nothing-clause-gives t c =
     c.in-Some.refs c.in-Some.cell.now
     c.in-Some.ensures (sym c.in_default-unseen.ensures) (record_at c.args.plan.now.1 c.args.first c.args.count)
     (scope_of c.args.env.now c.args.types.now)
-    c.begin.new.begun (slice_of c.in-Some-ordinary_content.content)
-    (forms.record_of None (names_in (map pair_of c.in_ok-fields.fields)) (values_of c.in_ok-fields.fields), [], slice_of
-    c.in_ok-fields.left) c.stop_here-then-not-is_nothing.result
+    c.begin.new.begun (slice_of c.in-Some-ordinary_content.content) (
+      forms.record_of None (names_in (map pair_of c.in_ok-fields.fields)) (values_of c.in_ok-fields.fields),
+      [],
+      slice_of
+          c.in_ok-fields.left,
+    ) c.stop_here-then-not-is_nothing.result
     c.in-Some-ordinary_content.ensures.0 c.in-Some-ordinary_content.ensures.1 (c.in_ok-begin.ensures.begins h)
     (fields_found (within c.args.levels c.args.mode (core_of c.args.plan.now.0)) h _ _ c.args.types.now c.in_ok-inner.inner
     c.args.env.now c.begin.new.begun
