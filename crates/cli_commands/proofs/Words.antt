@@ -1,11 +1,15 @@
--- A word that a slot takes is short.
-use Rattle.std.proofs.Common.{◌≡◌, ◌≤◌, zero, suc, arith, ℕ, Bool, true, false, List, [], ◌∷◌, length, ◌&&◌}
+-- A word that a slot takes is short, and so is a schema.
+use Rattle.std.proofs.Common.{◌≡◌, ◌≤◌, refl, subst, zero, suc, arith, ℕ, Bool, true, false, List, [], ◌∷◌, length, ◌&&◌}
 use Rattle.std.specs.Prelude.{nat_lt, not}
 use Rattle.tlb_edge.specs.Files.{Name}
+use Rattle.tlb_files.specs.Contents.{AreShort}
 use Rattle.cli_commands.specs.Command.{at}
-use Rattle.cli_commands.specs.Forms.{are_taken}
+use Rattle.cli_commands.specs.Commands.{command_of}
+use Rattle.cli_commands.specs.Forms.{are_taken, files_in}
 use Rattle.cli_commands.specs.Slots.{takes}
+use Rattle.cli_commands.specs.declared.commands.Verb.{Verb}
 use Rattle.cli_commands.specs.declared.slot.Slot.{Slot}
+use Rattle.cli_commands.specs.declared.slot.Slot.TheVariants.{Schema}
 
 first-of : (a b : Bool) → (a && b) ≡ true → a ≡ true
 first-of true b is = cc
@@ -28,3 +32,20 @@ short-at [] (word ∷ words) n is = cc
 short-at (slot ∷ slots) [] n is = cc
 short-at (slot ∷ slots) (word ∷ words) zero is = taken-short slot word (first-of _ _ is)
 short-at (slot ∷ slots) (word ∷ words) (suc n) is = short-at slots words n (rest-of _ _ is)
+
+-- the bytes of the file in a first slot of a schema are short
+pub schema-short : (slots : List Slot) (words : List Name) (contents : List (List ℕ))
+    → AreShort (files_in (Schema ∷ slots) words) contents → length (at contents 0) ≤ 1048576
+schema-short slots [] [] short = omega arith
+schema-short slots [] (bytes ∷ contents) short = absurd short
+schema-short slots (word ∷ words) [] short = absurd short
+schema-short slots (word ∷ words) (bytes ∷ contents) short = short.0
+
+-- that of a command of which a first slot is a schema's
+pub schema-of : (verb same : Verb) (slots : List Slot) (words : List Name) (contents : List (List ℕ)) → verb ≡ same
+    → (command_of same).slots ≡ Schema ∷ slots → AreShort (files_in (command_of verb).slots words) contents
+    → length (at contents 0) ≤ 1048576
+schema-of verb same slots words contents is first short =
+    let P : Verb → Type 0 = λ v. AreShort (files_in (command_of v).slots words) contents in
+    let Q : List Slot → Type 0 = λ s. AreShort (files_in s words) contents in
+    schema-short slots words contents (subst Q first (subst P is short))

@@ -66,7 +66,7 @@ fn conclude(alloc: Global, came: Result<Vec<u8>, Stop>) -> Result<Answer, NoMemo
 
 /// What a command answers over a shelf.
 pub fn answer_to<H: Shelf>(alloc: Global, form: Form<'_>, shelf: &mut H) -> Result<Answer, NoMemory>
-    requires { IsTaken form.entry }
+    requires { IsTaken form }
     ensures held { H.held shelf.new ≡ H.held shelf.old }
     ensures answered { IfOk result (λ answer. Answered (Some (form_by form.entry)) (H.held shelf.old)
         (counts (H.opens shelf.old) (H.given shelf.old) (H.reads shelf.old) (H.faults shelf.old))

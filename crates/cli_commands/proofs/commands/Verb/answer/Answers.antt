@@ -1,10 +1,31 @@
+use Rattle.std.proofs.Common.{refl, map, string_bytes}
+use Rattle.tlb_files.specs.View.{contents_of}
+use Rattle.cli_commands.specs.Commands.{command_of}
+use Rattle.cli_commands.proofs.Words.{schema-of, short-at}
 use Rattle.cli_commands.proofs.commands.Verb.answer.Goals as goal
 
+pub read_in-requires-clause-schema : goal.read_in-requires-clause-schema
+read_in-requires-clause-schema c =
+    schema-of c.args.self _ _ (map string_bytes c.args.words.now) (contents_of c.args.contents.now) c.in-Read.is refl c.requires.files
+
+pub read_in-requires-clause-word : goal.read_in-requires-clause-word
+read_in-requires-clause-word c = short-at (command_of c.args.self).slots (map string_bytes c.args.words.now) 1 c.requires.words
+
+pub read_in-in-Lax-requires-clause-schema : goal.read_in-in-Lax-requires-clause-schema
+read_in-in-Lax-requires-clause-schema c =
+    schema-of c.args.self _ _ (map string_bytes c.args.words.now) (contents_of c.args.contents.now) c.in-Lax.is refl c.requires.files
+
+pub read_in-in-Lax-requires-clause-word : goal.read_in-in-Lax-requires-clause-word
+read_in-in-Lax-requires-clause-word c = short-at (command_of c.args.self).slots (map string_bytes c.args.words.now) 1 c.requires.words
+
 pub returns-in-Read : goal.returns-in-Read
-returns-in-Read c = rw (c.in-Read.is, ← c.bytes_at.ensures, ← c.word_at.ensures, ← c.bytes_at-in-Read.ensures) c.read.ensures
+returns-in-Read c = rw (c.in-Read.is) c.read_in.ensures
+
+pub returns-in-Lax : goal.returns-in-Lax
+returns-in-Lax c = rw (c.in-Lax.is) c.read_in-in-Lax.ensures
 
 pub returns-in-Hash : goal.returns-in-Hash
-returns-in-Hash c = rw (c.in-Hash.is, ← c.bytes_at-in-Hash.ensures) c.hash.ensures
+returns-in-Hash c = rw (c.in-Hash.is, ← c.bytes_at.ensures) c.hash.ensures
 
 pub returns-in-Check : goal.returns-in-Check
 returns-in-Check c = rw (c.in-Check.is, ← c.bytes_at-in-Check.ensures) c.check.ensures
