@@ -12,7 +12,7 @@ use cli_stages::Stop;
 use cli_stages::bag::bag;
 use cli_stages::cell::cell_value;
 use cli_stages::schema::plan;
-use cli_stages::type_word::type_word;
+use cli_stages::named_type::named_type;
 use std::alloc::Global;
 use tlb_memory::NoMemory;
 use typed_value::Value;
@@ -40,7 +40,7 @@ pub fn read(
     ensures { Answers (Reads mode word.now schema.now file.now) text_by result }
 {
     let plan = plan(alloc, schema)?;
-    let ty = type_word(alloc, &plan, word)?;
+    let ty = named_type(alloc, &plan, word)?;
     let root = bag(alloc, file)?;
     let shown = cell_value(alloc, &plan, &ty, &root, mode)?;
     let text = value_line(alloc, &shown)?;

@@ -11,7 +11,7 @@ ghost use Rattle.cli_stages.specs.Stage.{Answers, IfRefused};
 ghost use Rattle.cli_stages.specs.View.{type_by};
 
 use crate::Stop;
-use crate::type_word::ShownType;
+use crate::named_type::ShownType;
 use cell_nodes::{Cell, Mode};
 use cli_refusals::{Refusal, place_words};
 use field_plan::{Place, Plan};

@@ -5,10 +5,10 @@ pub mod bag;
 pub mod cell;
 mod kinds;
 pub mod laws;
+pub mod named_type;
 pub mod schema;
 mod schema_text;
 mod stop;
 mod tags;
-pub mod type_word;
 
 pub use stop::Stop;

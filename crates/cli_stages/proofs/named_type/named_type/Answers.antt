@@ -1,6 +1,6 @@
 use Rattle.std.proofs.Common.{refl}
 use Rattle.cli_stages.proofs.Named.{named}
-use Rattle.cli_stages.proofs.type_word.type_word.Goals as goal
+use Rattle.cli_stages.proofs.named_type.named_type.Goals as goal
 
 pub returns-else-is_no_memory : goal.returns-else-is_no_memory
 returns-else-is_no_memory c =

@@ -28,7 +28,7 @@ fn is_no_memory(error: &TypeError) -> bool
 }
 
 /// The closed type that the word names in the plan's schema.
-pub fn type_word(alloc: Global, plan: &Plan, word: &str) -> Result<ShownType, Stop>
+pub fn named_type(alloc: Global, plan: &Plan, word: &str) -> Result<ShownType, Stop>
     requires { length word.now ≤ 1048576 }
     ensures { Answers (TypeWord word.now (schema_view plan.now.0)) type_by result }
 {
