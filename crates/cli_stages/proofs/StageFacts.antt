@@ -192,13 +192,15 @@ shown-same s t closed text = λ i. record { closed = closed i; text = text i }
 word-answer : Words → (word : Name) (s : SchemaView) (r : Result Closed TypeError) → ResolvesIn s word r
     → IsAnswered (TypeWord word s)
 word-answer laws word s (Ok t) is =
-    let found = expr_of s word t is in
-    (Ok (record { closed = t; text = expr_text found.0 }),
-    record { resolved = is; expr = found.0; writes = found.1; shown = refl })
+    let found = expr_of s word t is in (
+      Ok (record { closed = t; text = expr_text found.0 }),
+      record { resolved = is; expr = found.0; writes = found.1; shown = refl },
+    )
 word-answer laws word s (Err e) is =
-    let P : TypeError → Type 0 = λ x. ResolvesIn s word (Err x) in
-    (Err (type_word e),
-    record { error = e; is_refusal = λ same. laws.memory _ word (subst P same is); refused = is; is = refl })
+    let P : TypeError → Type 0 = λ x. ResolvesIn s word (Err x) in (
+      Err (type_word e),
+      record { error = e; is_refusal = λ same. laws.memory _ word (subst P same is); refused = is; is = refl },
+    )
 
 pub word-stage : Words → (word : Name) (s : SchemaView) → IsStage (TypeWord word s)
 word-stage laws word s = record {
