@@ -180,10 +180,10 @@ schema-stage texts laws text =
 
 -- ---- a type word
 
-words-same : {X : Type 0} (e f : TypeError) → Err {T = X} e ≡ Err f → e ≡ f
+words-same : (e f : TypeError) → (◌≡◌ {A = Result Closed TypeError} (Err e) (Err f)) → e ≡ f
 words-same e f is = cc
 
-types-same : (t u : Closed) → Ok {E = TypeError} t ≡ Ok u → t ≡ u
+types-same : (t u : Closed) → (◌≡◌ {A = Result Closed TypeError} (Ok t) (Ok u)) → t ≡ u
 types-same t u is = cc
 
 shown-same : (s t : ShownType) → s.closed ≡ t.closed → s.text ≡ t.text → s ≡ t
