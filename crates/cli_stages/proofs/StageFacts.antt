@@ -13,8 +13,8 @@ use Rattle.tlb_kinds.specs.RefusalLaws.{refused_not_kinded}
 use Rattle.tlb_kinds.specs.Refusals.{IsKinded, kept_of, refusals}
 use Rattle.tlb_kinds.specs.declared.error.KindError.{KindError}
 use Rattle.tlb_syntax.specs.Limits.{IsWithinLimits}
-use Rattle.tlb_syntax.specs.Tree.{ExprView, SchemaView}
-use Rattle.tlb_syntax.specs.Written.{Writes, WritesWord}
+use Rattle.tlb_syntax.specs.Tree.{SchemaView}
+use Rattle.tlb_syntax.specs.Written.{Writes}
 use Rattle.typed_value.specs.Values.{Plain}
 use Rattle.core_form.specs.Closed.{Closed}
 use Rattle.core_form.specs.Core.{Word}
