@@ -1,3 +1,4 @@
 mod Checked
+mod SameInputs
 mod Slots
 mod Words

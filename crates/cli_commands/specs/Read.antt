@@ -2,7 +2,9 @@
 use Rattle.std.specs.Prelude.{ℕ, List, [], ◌∷◌, codes}
 use Rattle.cell_nodes.specs.declared.tree.Mode.{Mode}
 use Rattle.cell_nodes.specs.declared.tree.Mode.TheVariants.{Whole, Lax}
+use Rattle.cell_nodes.specs.declared.tree.Tree.{Tree}
 use Rattle.tlb_edge.specs.Files.{Name}
+use Rattle.tlb_syntax.specs.Tree.{SchemaView}
 use Rattle.value_text.specs.Text.{text_of}
 use Rattle.cli_refusals.specs.Lines.{line_of}
 use Rattle.cli_refusals.specs.Refusal.{Answer}
@@ -12,19 +14,26 @@ use Rattle.cli_stages.specs.Schema.{Schema}
 use Rattle.cli_stages.specs.Stage.{Gives, IsStage, Next}
 use Rattle.cli_stages.specs.StageLaws.{last-stage, next-stage}
 use Rattle.cli_stages.specs.Stages.{Stages}
-use Rattle.cli_stages.specs.TypeWord.{TypeWord as TypeStage}
+use Rattle.cli_stages.specs.TypeWord.{ShownType, TypeWord as TypeStage}
 use Rattle.cli_commands.specs.Command.{Command, at}
 use Rattle.cli_commands.specs.declared.slot.Slot.{Slot}
 use Rattle.cli_commands.specs.declared.slot.Slot.TheVariants.{Schema as SchemaSlot, TypeWord, Bag}
 
--- in a mode
+-- the text of the value that a cell spells, on a line
+abbrev pub ShowsCell : Mode → SchemaView → ShownType → Tree → Answer → Type 0
+ShowsCell mode s type root = Next (Cell mode s type root) (λ value. Gives (line_of (text_of value)))
+
+-- that of a bag's cell
+abbrev pub ReadsBag : Mode → SchemaView → ShownType → List ℕ → Answer → Type 0
+ReadsBag mode s type bag = Next (BagStage bag) (λ root. ShowsCell mode s type root)
+
+-- at the type that a word names
+abbrev pub ReadsType : Mode → Name → SchemaView → List ℕ → Answer → Type 0
+ReadsType mode word s bag = Next (TypeStage word s) (λ type. ReadsBag mode s type bag)
+
+-- in the schema that a text writes
 abbrev pub Reads : Mode → Name → List ℕ → List ℕ → Answer → Type 0
-Reads mode word schema bag =
-    Next (Schema schema) (λ accepted.
-    Next (TypeStage word accepted) (λ type.
-    Next (BagStage bag) (λ root.
-    Next (Cell mode accepted type root) (λ value.
-    Gives (line_of (text_of value))))))
+Reads mode word schema bag = Next (Schema schema) (λ accepted. ReadsType mode word accepted bag)
 
 pub reads_once : Stages → (mode : Mode) (word : Name) (schema bag : List ℕ) → IsStage (Reads mode word schema bag)
 reads_once stages mode word schema bag =
