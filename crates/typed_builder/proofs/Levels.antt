@@ -1,70 +1,80 @@
--- A value takes a level and a part, and then its goal is closed.
-use Rattle.std.proofs.Common.{◌≡◌, ℕ, zero, suc, ◌+◌, ◌-◌, Bool, true, false, cond, nat_lt, Result, Ok, Err, refl, sym, ap, ◌∙◌, arith}
+-- A value takes a level and a part before its goal is looked at.
+use Rattle.std.proofs.Common.{◌≡◌, ℕ, zero, suc, ◌+◌, ◌-◌, Bool, true, false, cond, nat_lt, Result, Ok, Err, refl, ap, ◌∙◌, arith}
 use Rattle.cell_nodes.specs.declared.tree.Mode.{Mode}
+use Rattle.core_form.specs.Closed.{Closed}
 use Rattle.core_form.specs.Core.{CoreSchema}
+use Rattle.plan_reading.specs.StopLaws.{stops_then}
 use Rattle.plan_reading.specs.Stops.{Stops}
 use Rattle.plan_reading.specs.declared.stop.StopError.{StopError}
-use Rattle.spelling.specs.Goals.{Goal, Shape, shape_of}
+use Rattle.spelling.specs.Goals.{Goal, Shape, at_type, in_table, shape_of, typed}
 use Rattle.spelling.specs.Places.{Place, Spot, stuck}
 use Rattle.spelling.specs.PlainReader.{◌>>=◌, reported}
 use Rattle.spelling.specs.declared.Cause.{Cause}
-use Rattle.spelling.specs.declared.Cause.TheVariants.{Bulk}
+use Rattle.spelling.specs.declared.Cause.TheVariants.{Bulk, Width}
+use Rattle.spelling_laws.specs.StepLaws.{when_true, when_false}
 use Rattle.typed_value.specs.Values.{Plain, most_parts}
 use Rattle.building.specs.Growing.{Grown}
-use Rattle.building.specs.PlainBuilder.{Made, make_goal, make_shape, making}
+use Rattle.building.specs.PlainBuilder.{Made, Maker, make_goal, make_shape, making}
 use Rattle.plan_building.specs.Begun.{starting}
-use Rattle.plan_building.specs.StopsLaws.{stops_more}
+use Rattle.typed_builder.proofs.Steps.{stops_same}
 
-pub making_begins : (levels : ℕ) (mode : Mode) (s : CoreSchema) (h : Spot) (g : Goal) (q new : ℕ) (v : Plain) (b : Grown)
-    → starting levels q h ≡ Ok new
-    → making levels most_parts mode s h g q v b ≡ make_goal mode s (making (levels - 1) most_parts mode s) h g new v b
+-- the builder of what stands in a value
+abbrev pub within : ℕ → Mode → CoreSchema → Maker
+within n mode schema = making (n - 1) most_parts mode schema
+
+by_test : (b : Bool) (k : ℕ) (p : Place) (f : ℕ → Result Made Place) → cond b (f k) (Err p) ≡ (cond b (Ok k) (Err p) >>= f)
+by_test true k p f = refl
+by_test false k p f = refl
+
+pub making_begins : (n : ℕ) (mode : Mode) (schema : CoreSchema) (h : Spot) (g : Goal) (q : ℕ) (v : Plain) (b : Grown)
+    → making n most_parts mode schema h g q v b
+    ≡ (starting n q h >>= (λ k. make_goal mode schema (within n mode schema) h g k v b))
 unfolding making
-making_begins zero mode s h g q new v b e = cc
-making_begins (suc n) mode s h g q new v b e = go (nat_lt q most_parts) e
-  where
-    less : n ≡ suc n - 1
-    less = omega arith
+making_begins zero mode schema h g q v b = refl
+making_begins (suc n) mode schema h g q v b =
+    let below : suc n - 1 ≡ n = omega arith in
+    rw below (by_test (nat_lt q most_parts) (q + 1) (stuck h Bulk) (λ k. make_goal mode schema (making n most_parts mode schema) h g k v b))
 
-    go : (t : Bool) → cond t (Ok (q + 1)) (Err (stuck h Bulk)) ≡ Ok new
-        → cond t (make_goal mode s (making n most_parts mode s) h g (q + 1) v b) (Err (stuck h Bulk))
-        ≡ make_goal mode s (making (suc n - 1) most_parts mode s) h g new v b
-    go true e =
-        let same : q + 1 ≡ new = cc in
-        λ i. make_goal mode s (making (less i) most_parts mode s) h g (same i) v b
-    go false e = cc
+-- where it has not
+pub begin_stops : (n : ℕ) (mode : Mode) (schema : CoreSchema) (h : Spot) (g : Goal) (q : ℕ) (v : Plain) (b : Grown)
+    (e : StopError) → Stops h e (starting n q h) → Stops h e (making n most_parts mode schema h g q v b)
+begin_stops n mode schema h g q v b e stop =
+    stops_same h e _ _ (making_begins n mode schema h g q v b)
+    (stops_then h e (starting n q h) (λ k. make_goal mode schema (within n mode schema) h g k v b) stop)
 
-making_refused : (levels : ℕ) (mode : Mode) (s : CoreSchema) (h : Spot) (g : Goal) (q : ℕ) (v : Plain) (b : Grown)
-    (p : Place) → starting levels q h ≡ Err p → making levels most_parts mode s h g q v b ≡ Err p
-unfolding making
-making_refused zero mode s h g q v b p e = ap (λ (p : Place). Err p) (one e)
-  where
-    one : {x y : Place} → (◌≡◌ {A = Result ℕ Place} (Err x) (Err y)) → x ≡ y
-    one e = cc
-making_refused (suc n) mode s h g q v b p e = go (nat_lt q most_parts) e
-  where
-    one : {x y : Place} → (◌≡◌ {A = Result ℕ Place} (Err x) (Err y)) → x ≡ y
-    one e = cc
+-- where it has begun
+making_on : (n : ℕ) (mode : Mode) (schema : CoreSchema) (h : Spot) (g : Goal) (q k : ℕ) (v : Plain) (b : Grown)
+    → starting n q h ≡ Ok k
+    → making n most_parts mode schema h g q v b ≡ make_goal mode schema (within n mode schema) h g k v b
+making_on n mode schema h g q k v b begun =
+    making_begins n mode schema h g q v b
+    ∙ ap (λ z. z >>= (λ k. make_goal mode schema (within n mode schema) h g k v b)) begun
 
-    go : (t : Bool) → (◌≡◌ {A = Result ℕ Place} (cond t (Ok (q + 1)) (Err (stuck h Bulk))) (Err p))
-        → cond t (make_goal mode s (making n most_parts mode s) h g (q + 1) v b) (Err (stuck h Bulk)) ≡ Err p
-    go true e = cc
-    go false e = ap (λ (p : Place). Err p) (one e)
+pub making_shaped : (n : ℕ) (mode : Mode) (schema : CoreSchema) (h : Spot) (g : Goal) (q k : ℕ) (v : Plain) (b : Grown)
+    (c : Shape) → starting n q h ≡ Ok k → shape_of g ≡ Ok c
+    → making n most_parts mode schema h g q v b ≡ make_shape mode schema (within n mode schema) h c k v b
+making_shaped n mode schema h g q k v b c begun shape =
+    making_on n mode schema h g q k v b begun
+    ∙ ap (λ z. reported h z >>= (λ c. make_shape mode schema (within n mode schema) h c k v b)) shape
 
-pub making_stops : (levels : ℕ) (mode : Mode) (s : CoreSchema) (h : Spot) (g : Goal) (q : ℕ) (v : Plain) (b : Grown)
-    (e : StopError) → Stops h e (starting levels q h) → Stops h e (making levels most_parts mode s h g q v b)
-making_stops levels mode s h g q v b e stops =
-    stops_more h e (starting levels q h) _ (λ p at. making_refused levels mode s h g q v b p at) stops
+pub making_refused : (n : ℕ) (mode : Mode) (schema : CoreSchema) (h : Spot) (g : Goal) (q k : ℕ) (v : Plain) (b : Grown)
+    (why : Cause) → starting n q h ≡ Ok k → shape_of g ≡ Err why
+    → making n most_parts mode schema h g q v b ≡ Err (stuck h why)
+making_refused n mode schema h g q k v b why begun refused =
+    making_on n mode schema h g q k v b begun
+    ∙ ap (λ z. reported h z >>= (λ c. make_shape mode schema (within n mode schema) h c k v b)) refused
 
--- ---- shapes
+-- at a closed type
+pub making_typed : (n : ℕ) (mode : Mode) (schema : CoreSchema) (h : Spot) (t : Closed) (q k : ℕ) (v : Plain) (b : Grown)
+    → starting n q h ≡ Ok k → in_table t ≡ true
+    → making n most_parts mode schema h (at_type t) q v b ≡ make_shape mode schema (within n mode schema) h (typed t) k v b
+making_typed n mode schema h t q k v b begun within_table =
+    making_shaped n mode schema h (at_type t) q k v b (typed t) begun
+    (when_true {A = Result Shape Cause} (in_table t) (Ok (typed t)) (Err Width) within_table)
 
-pub goal_closed : (mode : Mode) (s : CoreSchema) (n : ℕ) (h : Spot) (g : Goal) (c : Shape) (q : ℕ) (v : Plain) (b : Grown)
-    → shape_of g ≡ Ok c
-    → make_goal mode s (making n most_parts mode s) h g q v b ≡ make_shape mode s (making n most_parts mode s) h c q v b
-goal_closed mode s n h g c q v b e =
-    ap (λ z. reported h z >>= λ x. make_shape mode s (making n most_parts mode s) h x q v b) e
-
-pub goal_refused : (mode : Mode) (s : CoreSchema) (n : ℕ) (h : Spot) (g : Goal) (why : Cause) (q : ℕ) (v : Plain)
-    (b : Grown) → shape_of g ≡ Err why
-    → make_goal mode s (making n most_parts mode s) h g q v b ≡ Err (stuck h why)
-goal_refused mode s n h g why q v b e =
-    ap (λ z. reported h z >>= λ x. make_shape mode s (making n most_parts mode s) h x q v b) e
+pub making_too_wide : (n : ℕ) (mode : Mode) (schema : CoreSchema) (h : Spot) (t : Closed) (q k : ℕ) (v : Plain)
+    (b : Grown) → starting n q h ≡ Ok k → in_table t ≡ false
+    → making n most_parts mode schema h (at_type t) q v b ≡ Err (stuck h Width)
+making_too_wide n mode schema h t q k v b begun wide =
+    making_refused n mode schema h (at_type t) q k v b Width begun
+    (when_false {A = Result Shape Cause} (in_table t) (Ok (typed t)) (Err Width) wide)

@@ -1,2 +1,3 @@
-pub mod View
+pub mod Promise
 pub mod Turns
+pub mod View

@@ -1,7 +1,8 @@
 -- What the parts of a building stand for.
-use Rattle.std.specs.Prelude.{ℕ, List, map, Result, Ok}
+use Rattle.std.specs.Prelude.{ℕ, Bool, true, false, List, map, Result, Ok}
 use Rattle.cell_nodes.specs.declared.tree.Mode.{Mode}
 use Rattle.cell_nodes.specs.declared.tree.Tree.{Tree}
+use Rattle.core_form.specs.Closed.{Closed, whole}
 use Rattle.core_form.specs.Core.{CoreSchema}
 use Rattle.schema_leads.specs.Tags.{cores}
 use Rattle.spelling.specs.Goals.{Goal, as_cell, at_cell}
@@ -40,3 +41,8 @@ abbrev pub cell_of_shape : Mode → CoreSchema → Maker → Spot → ℕ → Pl
 cell_of_shape mode schema R h q v = do
   x ← make_shape mode schema R h as_cell q v empty
   Ok (finished at_cell x.1.held)
+
+-- whether the type is Any or Cell
+abbrev pub is_whole : Closed → Bool
+is_whole whole = true
+is_whole _ = false

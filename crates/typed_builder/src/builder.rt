@@ -7,7 +7,7 @@ ghost use Rattle.std.specs.Prelude.{◌≡◌, ◌+◌, ◌<◌, ◌≤◌, [], 
 ghost use Rattle.std.specs.Prelude.{IfOk, OnOk, IsSome, None, Some};
 ghost use Rattle.closed_type.specs.View.{closed_args, closed_type as type_view};
 ghost use Rattle.core_form.specs.Closed as closed;
-ghost use Rattle.core_form.specs.Core.{CoreSchema, Declaration};
+ghost use Rattle.core_form.specs.Core.{Declaration};
 ghost use Rattle.core_form.specs.Fit.{fit as fit_of};
 ghost use Rattle.core_form.specs.Scope.{Scope};
 ghost use Rattle.flat_form.specs.Sound.{OpIsSound, OpsAreSound};
@@ -22,8 +22,9 @@ ghost use Rattle.spelling.specs.Places.{Spot, start};
 ghost use Rattle.typed_value.specs.Values as forms;
 ghost use Rattle.typed_value.specs.View.{names_in, pair_of, pairs_of, value as value_view};
 ghost use Rattle.typed_builder.specs.Turns.{stepped, turn};
-ghost use Rattle.typed_builder.specs.View.{built_cell, cell_of_shape, core_of, list_of, maker_of, values_of};
+ghost use Rattle.typed_builder.specs.View.{built_cell, core_of, list_of, maker_of, values_of};
 
+use crate::forms::{inner_fields, is_whole, left_out, whole_cell};
 use bit_slice::{BitString, Name};
 use cell_nodes::{Cell, Mode};
 use closed_type::{ClosedArg, ClosedType};
@@ -37,7 +38,7 @@ use plan_building::{
 };
 use plan_reading::{
     FlatShape, ShapeError, StopError, check, fit, in_constructor, in_field, in_table, set, shape,
-    sought, stop_at_item, stop_at_result, stop_here, unseen, values,
+    sought, stop_at_item, stop_at_result, stop_here, values,
 };
 use spelling::Cause;
 use std::alloc::{AllocError, Global};
@@ -103,10 +104,7 @@ fn build_field(
     match shape(alloc, plan.flat(), condition, ty, env, types) {
         Err(ShapeError::NoMemory) => Err(StopError::NoMemory),
         Err(ShapeError::Refused(cause)) => Err(stop_here(alloc, cause)),
-        Ok(FlatShape::LeftOut) => match value {
-            Value::Absent => Ok(Outputs::Empty),
-            _ => Err(stop_here(alloc, Cause::Shape)),
-        },
+        Ok(FlatShape::LeftOut) => left_out(alloc, value),
         Ok(FlatShape::Typed(closed)) => {
             build_type(alloc, plan, mode, left, begun, &closed, value, b)
         }
@@ -141,11 +139,12 @@ fn build_inner(
         (value_view value.now) (grown b.old)) }
     ensures counts { OnOk result (begun.new + 1 ≡ begun.old + forms.parts (value_view value.now)) }
 {
-    let Value::Record(Record { name: None, fields }) = value else {
+    let Some(fields) = inner_fields(value) else {
         return Err(stop_here(alloc, Cause::Shape));
     };
-    let ops = plan.flat().operations(first, count);
-    if !has_fields(plan.flat(), ops, fields.as_slice()) {
+    let flat = plan.flat();
+    let ops = flat.operations(first, count);
+    if !has_fields(flat, ops, fields) {
         return Err(stop_here(alloc, Cause::Shape));
     }
     let mut inner = env.copy(alloc)?;
@@ -158,7 +157,7 @@ fn build_inner(
         ops,
         &mut inner,
         types,
-        fields.as_slice(),
+        fields,
         b,
     )?;
     Ok(Outputs::Empty)
@@ -317,21 +316,6 @@ fn build_ref(
     Ok(Outputs::Empty)
 }
 
-/// The cell of `^Any` and `^Cell`: one that would be read as hidden does not fit.
-fn whole_cell(alloc: Global, mode: Mode, value: &Value) -> Result<Cell, StopError>
-    ensures gives { (schema : CoreSchema) (R : plain.Maker) (h : Spot) (q : ℕ) → Gives h (λ c. c) result
-        (cell_of_shape mode schema R h q (value_view value.now)) }
-    ensures one { OnOk result (forms.parts (value_view value.now) ≡ 1) }
-{
-    let Value::Raw(cell) = value else {
-        return Err(stop_here(alloc, Cause::Shape));
-    };
-    if unseen(cell, mode).is_some() {
-        return Err(stop_here(alloc, Cause::Shape));
-    }
-    Ok(cell.share()?)
-}
-
 /// The cell that a value is built to under `^` of this type: of Any and Cell the cell as it is, of others the ordinary
 /// cell that holds just the value.
 #[cycle(build)]
@@ -349,7 +333,7 @@ pub(crate) fn build_cell(
         (value_view value.now)) }
     ensures counts { OnOk result (begun.new ≡ begun.old + forms.parts (value_view value.now)) }
 {
-    if let ClosedType::Whole = inner {
+    if is_whole(inner) {
         begin(alloc, levels, begun)?;
         return whole_cell(alloc, mode, value);
     }
@@ -486,8 +470,8 @@ fn build_leaves(
     for (key, value) in pairs {
         let mut content = Growing::new(alloc)?;
         build_closed(alloc, plan, mode, levels, begun, inner, value, &mut content)?;
-        let key = BitString::from_slice(alloc, key.slice())?;
-        leaves.push((key, content)).map_err(AllocError::from)?;
+        let copy = BitString::from_slice(alloc, key.slice())?;
+        leaves.push((copy, content)).map_err(AllocError::from)?;
     }
     Ok(leaves)
 }
@@ -502,25 +486,26 @@ fn build_declared(
     begun: &mut u32,
     name: &Name,
     args: &[ClosedArg],
-    record: &Record,
+    held: &Record,
     b: &mut Growing,
 ) -> Result<Outputs, StopError>
     ensures gives { (h : Spot) → Gives h (made b.new) result
         (plain.record_at (core_of plan.now.0) (maker_of levels mode plan.now.0) h
-        (goals.typed (closed.named name.now (closed_args args.now))) begun.old record.now.name
-        (names_in (map pair_of record.now.fields)) (values_of record.now.fields) (grown b.old)) }
-    ensures counts { OnOk result (begun.new ≡ begun.old + forms.parts_in (values_of record.now.fields)) }
+        (goals.typed (closed.named name.now (closed_args args.now))) begun.old held.now.name
+        (names_in (map pair_of held.now.fields)) (values_of held.now.fields) (grown b.old)) }
+    ensures counts { OnOk result (begun.new ≡ begun.old + forms.parts_in (values_of held.now.fields)) }
 {
-    let Some(shown) = &record.name else {
+    let Some(shown) = &held.name else {
         return Err(stop_here(alloc, Cause::Shape));
     };
-    let fields = record.fields.as_slice();
+    let fields = held.fields.as_slice();
     let Some(c) = plan.named(name, args, shown) else {
         return Err(stop_here(alloc, Cause::NoConstructor));
     };
     let entry = plan.entry(c);
-    let ops = plan.flat().operations(entry.first, entry.count);
-    if !has_fields(plan.flat(), ops, fields) {
+    let flat = plan.flat();
+    let ops = flat.operations(entry.first, entry.count);
+    if !has_fields(flat, ops, fields) {
         return Err(stop_here(alloc, Cause::Shape));
     }
     match build_constructor(alloc, plan, mode, levels, begun, c, args, fields, b) {

@@ -1,10 +1,11 @@
 //! Values of TL-B types built into cells, by the plan of an accepted schema.
 #![tactic(auto)]
 
-mod build;
 mod builder;
 mod error;
+mod forms;
+mod root;
 
-pub use build::build;
 pub use error::BuildError;
 pub use field_plan::{Holder, Place};
+pub use root::build;
