@@ -5,8 +5,7 @@ use Rattle.core_form.specs.Closed.{ClosedArgs}
 use Rattle.core_form.specs.Closed as closed
 use Rattle.core_form.specs.Core.{CoreSchema, Declaration, Items, Word}
 use Rattle.core_form.specs.Scope.{Scope, values_in}
-use Rattle.nat_solver.specs.Number.{Expr}
-use Rattle.plan_reading.specs.StopLaws.{stops_at, stops_moved, stops_then}
+use Rattle.plan_reading.specs.StopLaws.{stops_at, stops_then}
 use Rattle.plan_reading.specs.Stops.{Stops, StopsAt}
 use Rattle.plan_reading.specs.declared.stop.StopError.{StopError}
 use Rattle.spelling.specs.Goals.{fields_here, typed}
@@ -65,62 +64,53 @@ outputs_then d x = known (result_of (start d)) (values_in d.core.outputs x.0) >>
 abbrev fields_then : Maker → Declaration → Scope → ℕ → Plains → Grown → Result Made Place
 fields_then R d scope q vs g = make_fields R (start d) d.core.items scope q vs g >>= outputs_then d
 
-pub tag_stops : (R : Maker) (d : Declaration) (tag : List ℕ) (scope : Scope) (q : ℕ) (vs : Plains) (b : Grown)
-    (e r : StopError) → d.core.tag ≡ tag → Stops (tag_of (start d)) e (put (tag_of (start d)) (only_bits tag) false false b)
-    → ((p : Place) → StopsAt (tag_of (start d)) e p → StopsAt (start d) r p)
-    → Stops (start d) r (make_inside R d scope q vs b)
-tag_stops R d tag scope q vs b e r same stop moved =
-    stops_then (start d) r (put (tag_of (start d)) (only_bits d.core.tag) false false b) (fields_then R d scope q vs)
-    (stops_same (start d) r _ _ (ap (λ z. put (tag_of (start d)) (only_bits z) false false b) same)
-    (stops_moved (tag_of (start d)) (start d) e r (put (tag_of (start d)) (only_bits tag) false false b) moved stop))
+pub tag_stops : (R : Maker) (d : Declaration) (scope : Scope) (q : ℕ) (vs : Plains) (b : Grown) (e : StopError)
+    → Stops (start d) e (put (tag_of (start d)) (only_bits d.core.tag) false false b)
+    → Stops (start d) e (make_inside R d scope q vs b)
+tag_stops R d scope q vs b e stop =
+    stops_then (start d) e (put (tag_of (start d)) (only_bits d.core.tag) false false b) (fields_then R d scope q vs) stop
 
-inside_is : (R : Maker) (d : Declaration) (tag : List ℕ) (items : Items) (scope : Scope) (q : ℕ) (vs : Plains)
-    (b g : Grown) → d.core.tag ≡ tag → items ≡ d.core.items
-    → put (tag_of (start d)) (only_bits tag) false false b ≡ Ok g
+inside_is : (R : Maker) (d : Declaration) (items : Items) (scope : Scope) (q : ℕ) (vs : Plains) (b g : Grown)
+    → items ≡ d.core.items → put (tag_of (start d)) (only_bits d.core.tag) false false b ≡ Ok g
     → make_inside R d scope q vs b ≡ (make_fields R (start d) items scope q vs g >>= outputs_then d)
-inside_is R d tag items scope q vs b g same same_items puts =
-    goes_on (put (tag_of (start d)) (only_bits d.core.tag) false false b) (fields_then R d scope q vs) g
-    (ap (λ z. put (tag_of (start d)) (only_bits z) false false b) same ∙ puts)
-    ∙ ap (λ is. make_fields R (start d) is scope q vs g >>= outputs_then d) (sym same_items)
+inside_is R d items scope q vs b g same puts =
+    goes_on (put (tag_of (start d)) (only_bits d.core.tag) false false b) (fields_then R d scope q vs) g puts
+    ∙ ap (λ is. make_fields R (start d) is scope q vs g >>= outputs_then d) (sym same)
 
-pub inside_stops : (R : Maker) (d : Declaration) (tag : List ℕ) (items : Items) (scope : Scope) (q : ℕ) (vs : Plains)
-    (b g : Grown) (e : StopError) → d.core.tag ≡ tag → items ≡ d.core.items
-    → put (tag_of (start d)) (only_bits tag) false false b ≡ Ok g
+pub inside_stops : (R : Maker) (d : Declaration) (items : Items) (scope : Scope) (q : ℕ) (vs : Plains) (b g : Grown)
+    (e : StopError) → items ≡ d.core.items → put (tag_of (start d)) (only_bits d.core.tag) false false b ≡ Ok g
     → Stops (start d) e (make_fields R (start d) items scope q vs g)
     → Stops (start d) e (make_inside R d scope q vs b)
-inside_stops R d tag items scope q vs b g e same same_items puts stop =
-    stops_same (start d) e _ _ (inside_is R d tag items scope q vs b g same same_items puts)
+inside_stops R d items scope q vs b g e same puts stop =
+    stops_same (start d) e _ _ (inside_is R d items scope q vs b g same puts)
     (stops_then (start d) e (make_fields R (start d) items scope q vs g) (outputs_then d) stop)
 
-ended : (R : Maker) (d : Declaration) (tag : List ℕ) (items : Items) (exprs : List Expr) (scope : Scope) (q : ℕ)
-    (vs : Plains) (b g : Grown) (x : Scope × Grown) → d.core.tag ≡ tag → items ≡ d.core.items → exprs ≡ d.core.outputs
-    → put (tag_of (start d)) (only_bits tag) false false b ≡ Ok g
+ended : (R : Maker) (d : Declaration) (items : Items) (scope : Scope) (q : ℕ) (vs : Plains) (b g : Grown)
+    (x : Scope × Grown) → items ≡ d.core.items → put (tag_of (start d)) (only_bits d.core.tag) false false b ≡ Ok g
     → make_fields R (start d) items scope q vs g ≡ Ok x
-    → make_inside R d scope q vs b
-    ≡ (known (result_of (start d)) (values_in exprs x.0) >>= λ outs. Ok (let y : Made = (outs, x.1) in y))
-ended R d tag items exprs scope q vs b g x same same_items same_exprs puts made =
-    inside_is R d tag items scope q vs b g same same_items puts
+    → make_inside R d scope q vs b ≡ outputs_then d x
+ended R d items scope q vs b g x same puts made =
+    inside_is R d items scope q vs b g same puts
     ∙ goes_on (make_fields R (start d) items scope q vs g) (outputs_then d) x made
-    ∙ ap (λ es. known (result_of (start d)) (values_in es x.0) >>= λ outs. Ok (let y : Made = (outs, x.1) in y)) (sym same_exprs)
 
-pub inside_overflows : (R : Maker) (d : Declaration) (tag : List ℕ) (items : Items) (exprs : List Expr) (scope : Scope)
-    (q : ℕ) (vs : Plains) (b g : Grown) (x : Scope × Grown) (e : StopError) → d.core.tag ≡ tag → items ≡ d.core.items
-    → exprs ≡ d.core.outputs → put (tag_of (start d)) (only_bits tag) false false b ≡ Ok g
-    → make_fields R (start d) items scope q vs g ≡ Ok x → None ≡ values_in exprs x.0
+pub inside_overflows : (R : Maker) (d : Declaration) (items : Items) (scope : Scope) (q : ℕ) (vs : Plains) (b g : Grown)
+    (x : Scope × Grown) (e : StopError) → items ≡ d.core.items
+    → put (tag_of (start d)) (only_bits d.core.tag) false false b ≡ Ok g
+    → make_fields R (start d) items scope q vs g ≡ Ok x → None ≡ values_in d.core.outputs x.0
     → StopsAt (start d) e (stuck (result_of (start d)) Overflow)
     → Stops (start d) e (make_inside R d scope q vs b)
-inside_overflows R d tag items exprs scope q vs b g x e same same_items same_exprs puts made none at =
+inside_overflows R d items scope q vs b g x e same puts made none at =
     stops_at (start d) e (stuck (result_of (start d)) Overflow) (make_inside R d scope q vs b) at
-    (ended R d tag items exprs scope q vs b g x same same_items same_exprs puts made
+    (ended R d items scope q vs b g x same puts made
     ∙ ap (λ o. known (result_of (start d)) o >>= λ outs. Ok (let y : Made = (outs, x.1) in y)) (sym none))
 
-pub inside_on : (R : Maker) (d : Declaration) (tag : List ℕ) (items : Items) (exprs : List Expr) (scope : Scope)
-    (q : ℕ) (vs : Plains) (b g : Grown) (x : Scope × Grown) (outs : List ℕ) → d.core.tag ≡ tag → items ≡ d.core.items
-    → exprs ≡ d.core.outputs → put (tag_of (start d)) (only_bits tag) false false b ≡ Ok g
-    → make_fields R (start d) items scope q vs g ≡ Ok x → Some outs ≡ values_in exprs x.0
+pub inside_on : (R : Maker) (d : Declaration) (items : Items) (scope : Scope) (q : ℕ) (vs : Plains) (b g : Grown)
+    (x : Scope × Grown) (outs : List ℕ) → items ≡ d.core.items
+    → put (tag_of (start d)) (only_bits d.core.tag) false false b ≡ Ok g
+    → make_fields R (start d) items scope q vs g ≡ Ok x → Some outs ≡ values_in d.core.outputs x.0
     → make_inside R d scope q vs b ≡ Ok (outs, x.1)
-inside_on R d tag items exprs scope q vs b g x outs same same_items same_exprs puts made some =
-    ended R d tag items exprs scope q vs b g x same same_items same_exprs puts made
+inside_on R d items scope q vs b g x outs same puts made some =
+    ended R d items scope q vs b g x same puts made
     ∙ ap (λ o. known (result_of (start d)) o >>= λ outs. Ok (let y : Made = (outs, x.1) in y)) (sym some)
 
 -- ---- a declared type, by the choice

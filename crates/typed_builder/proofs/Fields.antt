@@ -93,13 +93,13 @@ all_counted R f ops start from fields first c scope q (x ∷ due) b s none = abs
 -- ---- by the number of an operation
 
 pub at_op : (R : Maker) (f : Flat) (ops : List PlanOp) (start : Scope) (from : ℕ) (fields : Plains) (first : Grown)
-    (c : Option (ℕ × ℕ)) (op : PlanOp) (k : ℕ) (scope : Scope) (q : ℕ) (due : Plains) (b : Grown)
-    → k < length ops → op ≡ get_or ops k op → SoFar R f ops start from fields first c (drop k ops) scope q due b
-    → SoFar R f ops start from fields first c (op ∷ drop (k + 1) ops) scope q due b
-at_op R f ops start from fields first c op k scope q due b within at s =
+    (c : Option (ℕ × ℕ)) (other : PlanOp) (k : ℕ) (scope : Scope) (q : ℕ) (due : Plains) (b : Grown)
+    → k < length ops → SoFar R f ops start from fields first c (drop k ops) scope q due b
+    → SoFar R f ops start from fields first c (get_or ops k other ∷ drop (k + 1) ops) scope q due b
+at_op R f ops start from fields first c other k scope q due b within s =
     let next : suc k ≡ k + 1 = omega arith in
     let T : List PlanOp → Type 0 = λ rest. SoFar R f ops start from fields first c rest scope q due b in
-    subst T (drop-cons ops k op within ∙ ap (λ z. z ∷ drop (suc k) ops) (sym at) ∙ ap (λ n. op ∷ drop n ops) next) s
+    subst T (drop-cons ops k other within ∙ ap (λ n. get_or ops k other ∷ drop n ops) next) s
 
 pub at_end : (R : Maker) (f : Flat) (ops : List PlanOp) (start : Scope) (from : ℕ) (fields : Plains) (first : Grown)
     (c : Option (ℕ × ℕ)) (k : ℕ) (scope : Scope) (q : ℕ) (due : Plains) (b : Grown) → length ops ≤ k
@@ -107,4 +107,4 @@ pub at_end : (R : Maker) (f : Flat) (ops : List PlanOp) (start : Scope) (from : 
     → SoFar R f ops start from fields first c [] scope q due b
 at_end R f ops start from fields first c k scope q due b after s =
     let T : List PlanOp → Type 0 = λ rest. SoFar R f ops start from fields first c rest scope q due b in
-    subst T (drop_all ops k after) s
+    subst T (drop_all k ops after) s

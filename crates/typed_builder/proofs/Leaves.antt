@@ -95,4 +95,4 @@ pub at_last : (R : Maker) (t : Closed) (whole : List (List ℕ × Plain)) (from 
     → Leaved R t whole from xs (map pair_of (drop k pairs)) q → Leaved R t whole from xs [] q
 at_last R t whole from xs pairs k q after l =
     let T : List (List ℕ × Value) → Type 0 = λ rest. Leaved R t whole from xs (map pair_of rest) q in
-    subst T (drop_all pairs k after) l
+    subst T (drop_all k pairs after) l

@@ -1,10 +1,10 @@
 pub mod Choosing
 pub mod Declared
-pub mod Dicts
 pub mod Fields
 pub mod Leaves
 pub mod Levels
 pub mod Lists
+pub mod Maps
 pub mod Planned
 pub mod Refs
 pub mod Roots

@@ -1,6 +1,5 @@
 -- Values one after the other.
 use Rattle.std.proofs.Common.{◌≡◌, ℕ, suc, ◌+◌, Bool, true, false, cond, nat_eq, ◌<◌, ◌≤◌, List, [], ◌∷◌, Result, Ok, Err, drop, drop-cons, get_or, length, refl, ap, sym, ◌∙◌, subst, arith}
-use Rattle.std.proofs.lemmas.Bool.{eq-eqb, eqb-true}
 use Rattle.std.proofs.lemmas.List.{drop_all}
 use Rattle.core_form.specs.Closed.{Closed}
 use Rattle.core_form.specs.Closed as closed
@@ -26,38 +25,28 @@ pub count_is : (vs : List Value) → count (list_of vs) ≡ length vs
 count_is [] = refl
 count_is (v ∷ vs) = ap suc (count_is vs)
 
-list_is : (R : Maker) (h : Spot) (n : ℕ) (t : Closed) (q : ℕ) (vs : List Value) (b : Grown) → length vs ≡ n
+list_is : (R : Maker) (h : Spot) (n : ℕ) (t : Closed) (q : ℕ) (vs : List Value) (b : Grown)
+    → nat_eq (count (list_of vs)) n ≡ true
     → list_at R h (typed (closed.repeat n t)) q (list_of vs) b
     ≡ (make_items R h t q (list_of vs) b >>= (λ (g : Grown). Ok ([], g)))
-list_is R h n t q vs b e =
-    when_true {A = Result Made Place} (nat_eq (count (list_of vs)) n) _ _
-    (eq-eqb (count (list_of vs)) n (count_is vs ∙ e))
+list_is R h n t q vs b e = when_true {A = Result Made Place} (nat_eq (count (list_of vs)) n) _ _ e
 
-pub list_on : (R : Maker) (h : Spot) (n : ℕ) (t : Closed) (q : ℕ) (vs : List Value) (b g : Grown) → length vs ≡ n
-    → make_items R h t q (list_of vs) b ≡ Ok g
+pub list_on : (R : Maker) (h : Spot) (n : ℕ) (t : Closed) (q : ℕ) (vs : List Value) (b g : Grown)
+    → nat_eq (count (list_of vs)) n ≡ true → make_items R h t q (list_of vs) b ≡ Ok g
     → list_at R h (typed (closed.repeat n t)) q (list_of vs) b ≡ Ok ([], g)
-list_on R h n t q vs b g e made =
-    list_is R h n t q vs b e ∙ goes_on (make_items R h t q (list_of vs) b) (λ (g : Grown). Ok ([], g)) g made
+list_on R h n t q vs b g e built =
+    list_is R h n t q vs b e ∙ goes_on (make_items R h t q (list_of vs) b) (λ (g : Grown). Ok ([], g)) g built
 
 pub list_stops : (R : Maker) (h : Spot) (n : ℕ) (t : Closed) (q : ℕ) (vs : List Value) (b : Grown) (e : StopError)
-    → length vs ≡ n → Stops h e (make_items R h t q (list_of vs) b)
+    → nat_eq (count (list_of vs)) n ≡ true → Stops h e (make_items R h t q (list_of vs) b)
     → Stops h e (list_at R h (typed (closed.repeat n t)) q (list_of vs) b)
 list_stops R h n t q vs b e is stop =
     stops_same h e _ _ (list_is R h n t q vs b is)
     (stops_then h e (make_items R h t q (list_of vs) b) (λ (g : Grown). Ok ([], g)) stop)
 
-other_count : (a n : ℕ) → (a ≡ n → ⊥) → nat_eq a n ≡ false
-other_count a n f = go (nat_eq a n) refl
-  where
-    go : (t : Bool) → nat_eq a n ≡ t → nat_eq a n ≡ false
-    go true e = absurd (f (eqb-true a n e))
-    go false e = e
-
 pub list_not : (R : Maker) (h : Spot) (n : ℕ) (t : Closed) (q : ℕ) (vs : List Value) (b : Grown)
-    → (length vs ≡ n → ⊥) → list_at R h (typed (closed.repeat n t)) q (list_of vs) b ≡ Err (stuck h Shape)
-list_not R h n t q vs b f =
-    when_false {A = Result Made Place} (nat_eq (count (list_of vs)) n) _ _
-    (other_count (count (list_of vs)) n (λ e. f (sym (count_is vs) ∙ e)))
+    → nat_eq (count (list_of vs)) n ≡ false → list_at R h (typed (closed.repeat n t)) q (list_of vs) b ≡ Err (stuck h Shape)
+list_not R h n t q vs b e = when_false {A = Result Made Place} (nat_eq (count (list_of vs)) n) _ _ e
 
 -- ---- one item more
 
@@ -124,4 +113,4 @@ pub at_last : (R : Maker) (t : Closed) (whole : List Value) (from : ℕ) (first 
     → length whole ≤ k → Itemed R t whole from first (drop k whole) q b → Itemed R t whole from first [] q b
 at_last R t whole from first k q b after i =
     let T : List Value → Type 0 = λ rest. Itemed R t whole from first rest q b in
-    subst T (drop_all whole k after) i
+    subst T (drop_all k whole after) i

@@ -19,8 +19,8 @@ use Rattle.spelling.specs.Places.{Place, Spot, field_of, item_of, stuck}
 use Rattle.spelling.specs.PlainReader.{◌>>=◌, Reader, known, reported, sought_number}
 use Rattle.spelling.specs.PlainReader as reader
 use Rattle.spelling.specs.declared.Cause.{Cause}
-use Rattle.spelling.specs.declared.Cause.TheVariants.{Constraint, Overflow}
-use Rattle.typed_value.specs.Values.{Plain, Plains, a_val, parts}
+use Rattle.spelling.specs.declared.Cause.TheVariants.{Constraint, Overflow, Shape}
+use Rattle.typed_value.specs.Values.{Plain, Plains, a_val, no_vals, parts}
 use Rattle.building.specs.Growing.{Grown}
 use Rattle.building.specs.PlainBuilder.{Made, Maker, Step, step}
 use Rattle.typed_builder.specs.Turns.{Turned, alone, stepped, turn}
@@ -112,25 +112,34 @@ solve_stops R h f c v a b i scope q vs g why e at stop =
 -- ---- a field
 
 pub field_turned : (R : Maker) (h : Spot) (f : Flat) (c : Option Condition) (x t v : ℕ) (scope next : Scope) (q k : ℕ)
-    (u : Plain) (vs : Plains) (g : Grown) (made : Made)
+    (u : Plain) (us vs : Plains) (g : Grown) (made : Made) → us ≡ a_val u vs
     → R (field_of h (name_at f x)) (at_field c (type_at f t) scope) q u g ≡ Ok made
     → bind (sets (slot_of v) (type_at f t)) made.0 scope ≡ next → k ≡ q + parts u
-    → turn R h f c (Field x t v) scope q (a_val u vs) g ≡ Ok (stepped next k vs made.1, None)
-field_turned R h f c x t v scope next q k u vs g made e bound count_of =
-    ap (λ z. alone (z >>= (λ (y : Made). Ok (stepped (bind (sets (slot_of v) (type_at f t)) y.0 scope) (q + parts u) vs y.1)))) e
+    → turn R h f c (Field x t v) scope q us g ≡ Ok (stepped next k vs made.1, None)
+field_turned R h f c x t v scope next q k u us vs g made due e bound count_of =
+    ap (λ z. turn R h f c (Field x t v) scope q z g) due
+    ∙ ap (λ z. alone (z >>= (λ (y : Made). Ok (stepped (bind (sets (slot_of v) (type_at f t)) y.0 scope) (q + parts u) vs y.1)))) e
     ∙ (λ i. Ok (stepped (bound i) (sym count_of i) vs made.1, None))
 
 pub field_stops : (R : Maker) (h : Spot) (f : Flat) (c : Option Condition) (x t v : ℕ) (scope : Scope) (q : ℕ)
-    (u : Plain) (vs : Plains) (g : Grown) (e r : StopError)
+    (u : Plain) (us vs : Plains) (g : Grown) (e r : StopError) → us ≡ a_val u vs
     → Stops (field_of h (name_at f x)) e (R (field_of h (name_at f x)) (at_field c (type_at f t) scope) q u g)
     → ((p : Place) → StopsAt (field_of h (name_at f x)) e p → StopsAt h r p)
-    → Stops h r (turn R h f c (Field x t v) scope q (a_val u vs) g)
-field_stops R h f c x t v scope q u vs g e r stop moved =
+    → Stops h r (turn R h f c (Field x t v) scope q us g)
+field_stops R h f c x t v scope q u us vs g e r due stop moved =
     let k = field_of h (name_at f x) in
-    alone_stops h r (step R h (field (name_at f x) (slot_of v) c (type_at f t)) scope q (a_val u vs) g)
+    stops_same h r _ _ (ap (λ z. turn R h f c (Field x t v) scope q z g) due)
+    (alone_stops h r (step R h (field (name_at f x) (slot_of v) c (type_at f t)) scope q (a_val u vs) g)
     (stops_then h r (R k (at_field c (type_at f t) scope) q u g)
     (λ (y : Made). Ok (stepped (bind (sets (slot_of v) (type_at f t)) y.0 scope) (q + parts u) vs y.1))
-    (stops_moved k h e r (R k (at_field c (type_at f t) scope) q u g) moved stop))
+    (stops_moved k h e r (R k (at_field c (type_at f t) scope) q u g) moved stop)))
+
+pub field_missing : (R : Maker) (h : Spot) (f : Flat) (c : Option Condition) (x t v : ℕ) (scope : Scope) (q : ℕ)
+    (vs : Plains) (g : Grown) (e : StopError) → vs ≡ no_vals → StopsAt h e (stuck h Shape)
+    → Stops h e (turn R h f c (Field x t v) scope q vs g)
+field_missing R h f c x t v scope q vs g e none at =
+    stops_at h e (stuck h Shape) (turn R h f c (Field x t v) scope q vs g) at
+    (ap (λ z. turn R h f c (Field x t v) scope q z g) none)
 
 -- ---- by what the operation is
 

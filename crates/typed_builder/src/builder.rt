@@ -24,7 +24,9 @@ ghost use Rattle.typed_value.specs.View.{names_in, pair_of, pairs_of, value as v
 ghost use Rattle.typed_builder.specs.Turns.{stepped, turn};
 ghost use Rattle.typed_builder.specs.View.{built_cell, core_of, list_of, maker_of, values_of};
 
-use crate::forms::{inner_fields, is_whole, left_out, whole_cell};
+use crate::dicts::{add_below, add_here, add_leaf, fits_below, fits_here};
+use crate::forms::{has_count, inner_fields, is_whole, left_out, next_field, whole_cell};
+use crate::records::{fitted, has_all, inner_operations, operations, put_tag, results};
 use bit_slice::{BitString, Name};
 use cell_nodes::{Cell, Mode};
 use closed_type::{ClosedArg, ClosedType};
@@ -32,16 +34,15 @@ use field_plan::Plan;
 use flat_form::PlanOp;
 use nat_solver::Env;
 use plan_building::{
-    Growing, Outputs, begin, bind_outputs, fits_edge, fits_root, grew, has_fields, in_tag,
-    make_number, make_string, plant_here, plant_root, put_bits, put_hidden, put_ref, put_rest,
-    with_keys,
+    Growing, Outputs, begin, bind_outputs, grew, make_number, make_string, put_hidden, put_ref,
+    put_rest,
 };
 use plan_reading::{
-    FlatShape, ShapeError, StopError, check, fit, in_constructor, in_field, in_table, set, shape,
-    sought, stop_at_item, stop_at_result, stop_here, values,
+    FlatShape, ShapeError, StopError, check, in_constructor, in_field, in_table, set, shape, sought,
+    stop_at_item, stop_at_result, stop_here,
 };
 use spelling::Cause;
-use std::alloc::{AllocError, Global};
+use std::alloc::Global;
 use tlb_memory::NoMemory;
 use typed_value::{Dict, Record, Value};
 
@@ -142,9 +143,8 @@ fn build_inner(
     let Some(fields) = inner_fields(value) else {
         return Err(stop_here(alloc, Cause::Shape));
     };
-    let flat = plan.flat();
-    let ops = flat.operations(first, count);
-    if !has_fields(flat, ops, fields) {
+    let ops = inner_operations(plan, first, count);
+    if !has_all(plan, ops, fields) {
         return Err(stop_here(alloc, Cause::Shape));
     }
     let mut inner = env.copy(alloc)?;
@@ -360,7 +360,7 @@ fn build_list(
         begun.old (list_of items.now) (grown b.old)) }
     ensures counts { OnOk result (begun.new ≡ begun.old + forms.parts_in (list_of items.now)) }
 {
-    if items.len() != count as usize {
+    if !has_count(items, count) {
         return Err(stop_here(alloc, Cause::Shape));
     }
     build_items(alloc, plan, mode, levels, begun, inner, items, b)?;
@@ -413,13 +413,13 @@ fn build_dict(
         (pairs_of (map pair_of dict.now.pairs)) dict.now.unknown (grown b.old)) }
     ensures counts { OnOk result (begun.new ≡ begun.old + forms.parts_by (pairs_of (map pair_of dict.now.pairs))) }
 {
-    let pairs = dict.pairs.as_slice();
-    let unknown = dict.unknown.as_slice();
-    if !fits_edge(alloc, mode, n, with_keys(alloc, pairs)?, unknown)? {
+    let fits = fits_here(alloc, mode, n, dict)?;
+    if !fits {
         return Err(stop_here(alloc, Cause::Shape));
     }
+    let pairs = dict.pairs.as_slice();
     let leaves = build_leaves(alloc, plan, mode, levels, begun, inner, pairs)?;
-    plant_here(alloc, n, leaves, unknown, b)
+    add_here(alloc, n, leaves, dict, b)
 }
 
 /// A dictionary that may be empty.
@@ -441,13 +441,13 @@ fn build_dict_e(
         (pairs_of (map pair_of dict.now.pairs)) dict.now.unknown (grown b.old)) }
     ensures counts { OnOk result (begun.new ≡ begun.old + forms.parts_by (pairs_of (map pair_of dict.now.pairs))) }
 {
-    let pairs = dict.pairs.as_slice();
-    let unknown = dict.unknown.as_slice();
-    if !fits_root(alloc, mode, n, with_keys(alloc, pairs)?, unknown)? {
+    let fits = fits_below(alloc, mode, n, dict)?;
+    if !fits {
         return Err(stop_here(alloc, Cause::Shape));
     }
+    let pairs = dict.pairs.as_slice();
     let leaves = build_leaves(alloc, plan, mode, levels, begun, inner, pairs)?;
-    plant_root(alloc, n, leaves, unknown, b)
+    add_below(alloc, n, leaves, dict, b)
 }
 
 /// The contents of leaves by key, in order.
@@ -470,8 +470,7 @@ fn build_leaves(
     for (key, value) in pairs {
         let mut content = Growing::new(alloc)?;
         build_closed(alloc, plan, mode, levels, begun, inner, value, &mut content)?;
-        let copy = BitString::from_slice(alloc, key.slice())?;
-        leaves.push((copy, content)).map_err(AllocError::from)?;
+        add_leaf(alloc, key, content, &mut leaves)?;
     }
     Ok(leaves)
 }
@@ -502,10 +501,8 @@ fn build_declared(
     let Some(c) = plan.named(name, args, shown) else {
         return Err(stop_here(alloc, Cause::NoConstructor));
     };
-    let entry = plan.entry(c);
-    let flat = plan.flat();
-    let ops = flat.operations(entry.first, entry.count);
-    if !has_fields(flat, ops, fields) {
+    let ops = operations(plan, c);
+    if !has_all(plan, ops, fields) {
         return Err(stop_here(alloc, Cause::Shape));
     }
     match build_constructor(alloc, plan, mode, levels, begun, c, args, fields, b) {
@@ -536,15 +533,9 @@ fn build_constructor(
         (plain.make_inside (maker_of levels mode plan.now.0) d scope begun.old (values_of fields.now) (grown b.old)) }
     ensures counts { OnOk result (begun.new ≡ begun.old + forms.parts_in (values_of fields.now)) }
 {
-    let entry = plan.entry(c);
-    let Some(mut slots) = fit(alloc, plan.inputs(c), args, entry.slots)? else {
-        unreachable!()
-    };
-    let flat = plan.flat();
-    if let Err(error) = put_bits(alloc, plan.tag(c), b) {
-        return Err(in_tag(error));
-    }
-    let ops = flat.operations(entry.first, entry.count);
+    let mut slots = fitted(alloc, plan, c, args)?;
+    put_tag(alloc, plan, c, b)?;
+    let ops = operations(plan, c);
     build_fields(
         alloc,
         plan,
@@ -557,7 +548,7 @@ fn build_constructor(
         fields,
         b,
     )?;
-    match values(alloc, flat, plan.outputs(c), &slots.numbers)? {
+    match results(alloc, plan, c, &slots.numbers)? {
         None => Err(stop_at_result(alloc, Cause::Overflow)),
         Some(outputs) => Ok(Outputs::Several(outputs)),
     }
@@ -651,7 +642,7 @@ fn build_op<'a>(
             due: fields,
         }),
         PlanOp::Field(name, ty, slot) => {
-            let Some(((_, value), due)) = fields.split_first() else {
+            let Some((value, due)) = next_field(fields) else {
                 return Err(stop_here(alloc, Cause::Shape));
             };
             match build_field(

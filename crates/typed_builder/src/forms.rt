@@ -1,5 +1,5 @@
 //! Tests of types and values, and values that are built at once.
-ghost use Rattle.std.specs.Prelude.{◌≡◌, ℕ, IfNone, IfSome, None, OnOk, Err, map};
+ghost use Rattle.std.specs.Prelude.{◌≡◌, ℕ, IfNone, IfSome, None, OnOk, Err, map, nat_eq};
 ghost use Rattle.building.specs.Growing.{Grown};
 ghost use Rattle.building.specs.PlainBuilder as plain;
 ghost use Rattle.cell_nodes.specs.declared.tree.Mode.{Mode as Reading};
@@ -13,7 +13,7 @@ ghost use Rattle.spelling.specs.Places.{Spot, stuck};
 ghost use Rattle.spelling.specs.declared.Cause.TheVariants.{Shape};
 ghost use Rattle.typed_value.specs.Values as forms;
 ghost use Rattle.typed_value.specs.View.{names_in, pair_of, value as value_view, vals_in};
-ghost use Rattle.typed_builder.specs.View.{cell_of_shape, is_whole};
+ghost use Rattle.typed_builder.specs.View.{cell_of_shape, is_whole, list_of, values_of};
 
 use bit_slice::Name;
 use cell_nodes::{Cell, Mode};
@@ -78,4 +78,20 @@ pub fn whole_cell(alloc: Global, mode: Mode, value: &Value) -> Result<Cell, Stop
         return Err(stop_here(alloc, Cause::Shape));
     }
     Ok(cell.share()?)
+}
+
+/// Whether there are so many values.
+pub fn has_count(items: &[Value], count: u32) -> bool
+    ensures { result ≡ nat_eq (plain.count (list_of items.now)) count }
+{
+    items.len() == count as usize
+}
+
+/// The value of the first field, and the fields after it.
+pub fn next_field<'a>(fields: &'a [(Name, Value)]) -> Option<(&'a Value, &'a [(Name, Value)])>
+    ensures is { IfSome result (λ x. values_of fields.entry.now ≡ forms.a_val (value_view x.0.now) (values_of x.1.now)) }
+    ensures none { IfNone result (values_of fields.entry.now ≡ forms.no_vals) }
+{
+    let ((_, value), due) = fields.split_first()?;
+    Some((value, due))
 }

@@ -2,8 +2,10 @@
 #![tactic(auto)]
 
 mod builder;
+mod dicts;
 mod error;
 mod forms;
+mod records;
 mod root;
 
 pub use error::BuildError;
