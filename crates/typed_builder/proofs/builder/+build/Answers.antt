@@ -21,7 +21,7 @@ use Rattle.spelling.specs.Places.{at_root, field_of, item_of, start, stuck}
 use Rattle.spelling.specs.PlainReader.{step}
 use Rattle.spelling.specs.Slices.{nothing}
 use Rattle.spelling.specs.declared.Cause.TheVariants.{Shape, Width}
-use Rattle.std.proofs.Common.{Err, List, None, Ok, Option, Some, [], ap, arith, drop, get_or, length, map, refl, rules, subst, sym, ℕ, ◌++◌, ◌+◌, ◌∙◌, ◌∷◌, ◌≡◌}
+use Rattle.std.proofs.Common.{Err, List, None, Ok, Option, Some, [], ap, arith, drop, get_or, length, map, refl, rules, subst, sym, ℕ, ◌++◌, ◌+◌, ◌-◌, ◌∙◌, ◌∷◌, ◌≡◌}
 use Rattle.std.proofs.lemmas.Bool.{eq-eqb, eqb-true}
 use Rattle.std.proofs.lemmas.Option.{same_Some}
 use Rattle.std.proofs.lemmas.Result.{err_from_is_err_and}
@@ -522,7 +522,7 @@ build_constructor-returns-in_err-build_fields-clause-gives t c = λ d scope ther
     let R = maker_of c.args.levels c.args.mode c.args.plan.now.0 in
     let is = items_in c.args.plan.now.1 (type_at c.args.plan.now.1) None c.operations-ops.result.now in
     let bound : slots_view c.in_ok-slots.slots ≡ scope = same_Some (slots_view c.in_ok-slots.slots) scope (sym (c.in_ok-slots.ensures d there) ∙ fits) in
-    let slots_are = ap (scope_of c.in_ok-slots.slots.numbers) c.as_slice.ensures ∙ bound in
+    let slots_are = ap (scope_of c.in_ok-slots.slots.numbers) c.as_slice.ensures.value ∙ bound in
     let T : Scope → Type 0 = λ z. Stops (start d) c.in_err-build_fields.field-0.0
         (make_fields R (start d) is z c.args.begun.now (values_of c.args.fields.now) (grown c.put_tag.new.b)) in
     gives_err (start d) (made c.build_fields.new.b) c.from_residual-in_err-build_fields.result c.in_err-build_fields.field-0.0 _ (p.1 ∙ ap Err p.2)
@@ -535,7 +535,7 @@ build_constructor-returns-in-None-clause-gives t c = λ d scope there fits.
     let R = maker_of c.args.levels c.args.mode c.args.plan.now.0 in
     let is = items_in c.args.plan.now.1 (type_at c.args.plan.now.1) None c.operations-ops.result.now in
     let bound : slots_view c.in_ok-slots.slots ≡ scope = same_Some (slots_view c.in_ok-slots.slots) scope (sym (c.in_ok-slots.ensures d there) ∙ fits) in
-    let slots_are = ap (scope_of c.in_ok-slots.slots.numbers) c.as_slice.ensures ∙ bound in
+    let slots_are = ap (scope_of c.in_ok-slots.slots.numbers) c.as_slice.ensures.value ∙ bound in
     let x : Scope × Grown = (scope_of c.build_fields.new.env c.as_slice.result.now, grown c.build_fields.new.b) in
     let T : Scope → Type 0 = λ z. make_fields R (start d) is z c.args.begun.now (values_of c.args.fields.now) (grown c.put_tag.new.b) ≡ Ok x in
     inside_overflows R d is scope c.args.begun.now (values_of c.args.fields.now) (grown c.args.b.now) (grown c.put_tag.new.b) x
@@ -543,12 +543,12 @@ build_constructor-returns-in-None-clause-gives t c = λ d scope there fits.
     (subst T slots_are (c.in_ok-build_fields.ensures.gives (start d))) (c.in-None.ensures c.as_slice.result.now d there)
     (c.stop_at_result.ensures (start d))
 
-pub build_constructor-returns-in-Some-clause-gives : goal.build_constructor-returns-in-Some-clause-gives
-build_constructor-returns-in-Some-clause-gives t c = λ d scope there fits.
+pub build_constructor-returns-clause-gives : goal.build_constructor-returns-clause-gives
+build_constructor-returns-clause-gives t c = λ d scope there fits.
     let R = maker_of c.args.levels c.args.mode c.args.plan.now.0 in
     let is = items_in c.args.plan.now.1 (type_at c.args.plan.now.1) None c.operations-ops.result.now in
     let bound : slots_view c.in_ok-slots.slots ≡ scope = same_Some (slots_view c.in_ok-slots.slots) scope (sym (c.in_ok-slots.ensures d there) ∙ fits) in
-    let slots_are = ap (scope_of c.in_ok-slots.slots.numbers) c.as_slice.ensures ∙ bound in
+    let slots_are = ap (scope_of c.in_ok-slots.slots.numbers) c.as_slice.ensures.value ∙ bound in
     let x : Scope × Grown = (scope_of c.build_fields.new.env c.as_slice.result.now, grown c.build_fields.new.b) in
     let T : Scope → Type 0 = λ z. make_fields R (start d) is z c.args.begun.now (values_of c.args.fields.now) (grown c.put_tag.new.b) ≡ Ok x in
     inside_on R d is scope c.args.begun.now (values_of c.args.fields.now) (grown c.args.b.now) (grown c.put_tag.new.b) x
