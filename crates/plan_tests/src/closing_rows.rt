@@ -2,7 +2,7 @@
 ghost use Rattle.std.specs.Prelude.{◌≡◌};
 ghost use Rattle.flat_form.specs.Sound.{IsFlat};
 
-use crate::texts::schema;
+use crate::texts::{plan, schema};
 use closed_type::{ClosedArg, ClosedType, Name};
 use flat_form::Flat;
 use nat_solver::Env;
@@ -73,4 +73,39 @@ fn closed_types_have_at_most_4096_nodes(rt: HostRuntime) {
     for row in ROWS.iter() {
         assert!(rt; closes(&rt, rt.alloc(), row), "at {}", row.0);
     }
+}
+
+// Each turn doubles the argument of T.
+static DOUBLED: &str =
+    "both$_ {X:Type} {Y:Type} first:X second:Y = Both X Y; a$0 {X:Type} x:(T (Both X X)) = T X; b$1 {X:Type} = T X;";
+
+// The number of its type `T (Both X X)`: X, Y, X, X and `Both X X` stand before it.
+const DOUBLING: u32 = 5;
+
+fn argument(rt: &impl Abort, alloc: Global, closed: ClosedType) -> ClosedType {
+    let ClosedType::Named(_, args) = closed else {
+        return ClosedType::Whole;
+    };
+    match args.get(0) {
+        Some(ClosedArg::Ty(inner)) => inner.copy(alloc).expect(rt, "memory"),
+        _ => ClosedType::Whole,
+    }
+}
+
+#[test]
+fn the_twelfth_type_that_doubles_is_too_large(rt: HostRuntime) {
+    let plan = plan(&rt, rt.alloc(), DOUBLED);
+    assert!(rt; (DOUBLING as usize) < plan.types().len());
+    let env = Env::new(rt.alloc(), 1).expect(&rt, "memory");
+    let mut x = ClosedType::Uint(8);
+    for turn in 1..13u32 {
+        match plan.close_type(rt.alloc(), DOUBLING, &env, &[Some(x)]) {
+            Ok(closed) => x = argument(&rt, rt.alloc(), closed),
+            Err(error) => {
+                assert!(rt; turn == 12 && error == CloseError::BigType);
+                return;
+            }
+        }
+    }
+    assert!(rt; false);
 }

@@ -2,6 +2,8 @@
 #![tactic(auto)]
 
 #[cfg(test)]
+mod choice_rows;
+#[cfg(test)]
 mod closing_rows;
 #[cfg(test)]
 mod plan_rows;
