@@ -1,5 +1,5 @@
 -- The constructor of a name, by what the plan says of it.
-use Rattle.std.proofs.Common.{◌≡◌, ℕ, zero, suc, ◌<◌, length, Bool, true, false, cond, ◌&&◌, List, [], ◌∷◌, Option, Some, None, IsSome, refl, sym, ap, ◌∙◌, slice_get}
+use Rattle.std.proofs.Common.{◌≡◌, ℕ, zero, suc, ◌<◌, length, Bool, true, false, cond, ◌&&◌, List, [], ◌∷◌, Option, Some, None, IsSome, refl, sym, ap, ◌∙◌, slice_get, arith, is_some}
 use Rattle.std.specs.Prelude.{bytes_eq}
 use Rattle.std.proofs.lemmas.Slice.Eq.{bytes_eq-Decides}
 use Rattle.core_form.specs.Closed.{ClosedArgs}
@@ -28,7 +28,7 @@ no_candidate x name args d f = go (bytes_eq d.of_type x) (bytes_eq d.shown name)
     }))
       where
         some : {o : Option Scope} {z : Scope} → o ≡ Some z → IsSome o
-        some e = rw e tt
+        some e = ap is_some e
 
 is_candidate : (x name : Word) (args : ClosedArgs) (d : Declaration) (scope : Scope) → IsNamed x args name d
     → fit d.core args ≡ Some scope → candidate x name args d ≡ Some scope

@@ -9,6 +9,7 @@ pub mod Planned
 pub mod Refs
 pub mod Roots
 pub mod Shapes
+pub mod Shown
 pub mod Steps
 pub mod Turned
 pub mod Turning

@@ -29,7 +29,7 @@ use Rattle.typed_builder.proofs.Declared.{inner_misnamed, inner_on, inner_stops,
 use Rattle.typed_builder.proofs.Fields.{SoFar, all_counted, all_made, at_end, at_op, none_yet, one_more, one_stops, some_due}
 use Rattle.typed_builder.proofs.Leaves.{Leaved, all_leaved, at_last, at_pair, leaf_stops, none_leaved, one_leaved}
 use Rattle.typed_builder.proofs.Levels.{begin_stops, making_refused, making_shaped, making_too_wide, making_typed, within}
-use Rattle.typed_builder.proofs.Lists.{at_item, at_last, idle_stops, item_stops, list_not, list_on, list_stops, none_itemed, one_itemed}
+use Rattle.typed_builder.proofs.Lists.{at_item, at_last as at_last_item, idle_stops, item_stops, list_not, list_on, list_stops, none_itemed, one_itemed}
 use Rattle.typed_builder.proofs.Maps.{dict_e_not, dict_e_on, dict_e_stops, dict_not, dict_on, dict_stops, fit_edge, fit_root}
 use Rattle.typed_builder.proofs.Refs.{child_crowded, child_on, child_stops, typed_on, typed_stops, whole_on, whole_stops}
 use Rattle.typed_builder.proofs.Shapes.{here_sound, shape_not, shape_on, under_sound}
@@ -158,14 +158,14 @@ build_items-returns-clause-gives t c =
     let at = c.loop-item in
     let R = maker_of c.args.levels c.args.mode c.args.plan.now.0 in
     let t = type_view c.args.inner.now in
-    let last = at_last R t c.args.items.now c.args.begun.now (grown c.args.b.now) at.item-index at.begun (grown at.b)
+    let last = at_last_item R t c.args.items.now c.args.begun.now (grown c.args.b.now) at.item-index at.begun (grown at.b)
         c.loop-item-test.false at.invariant in
     λ h. last.so_far h
 
 pub build_items-returns-clause-counts : goal.build_items-returns-clause-counts
 build_items-returns-clause-counts t c =
     let at = c.loop-item in
-    let last = at_last (maker_of c.args.levels c.args.mode c.args.plan.now.0) (type_view c.args.inner.now) c.args.items.now c.args.begun.now
+    let last = at_last_item (maker_of c.args.levels c.args.mode c.args.plan.now.0) (type_view c.args.inner.now) c.args.items.now c.args.begun.now
         (grown c.args.b.now) at.item-index at.begun (grown at.b) c.loop-item-test.false at.invariant in
     let counted = last.counts in
     omega (arith, counted)
