@@ -99,13 +99,6 @@ module _ (s : SchemaView) (f : Flat) (plans : List ConstructorPlan) (c : ℕ) (p
         ∙ ap (λ z. meet_all z args (unset q.0.entry.slots)) st.inputs
         ∙ ap (λ z. meet_all d.core.inputs args (unset z)) st.slots
 
-    pub entry_outputs : (outs : List ℕ) → OutputsAre plans c outs → map (expr_at f) outs ≡ d.core.outputs
-    entry_outputs outs are =
-        let q = some_there plans c below in
-        let st = planned.stand c d q.0 there q.1 in
-        let same = had (λ (p : ConstructorPlan). p.outputs) (slice_get plans c) q.0 outs q.1 are in
-        ap (map (expr_at f)) (sym same) ∙ st.outputs
-
 -- where it fits, its inputs are met
 pub fits_some : (s : SchemaView) (f : Flat) (plans : List ConstructorPlan) (c : ℕ) → Planned s f plans → c < length plans
     → (e : Entry) → EntryIs plans c e → (inputs : List PlanInput) (args : ClosedArgs) → InputsAre plans c inputs
@@ -131,6 +124,15 @@ pub entry_ops : (s : SchemaView) (f : Flat) (plans : List ConstructorPlan) (c : 
 entry_ops s f plans c planned below e entry d there ops is =
     ap (items_in f (type_at f) None) is ∙ entry_items s f plans c planned below e entry d there
 
+pub outputs_are : (s : SchemaView) (f : Flat) (plans : List ConstructorPlan) (c : ℕ) → Planned s f plans → c < length plans
+    → (d : Declaration) → slice_get (cores s) c ≡ Some d → (outs : List ℕ) → OutputsAre plans c outs
+    → map (expr_at f) outs ≡ d.core.outputs
+outputs_are s f plans c planned below d there outs are =
+    let q = some_there plans c below in
+    let st = planned.stand c d q.0 there q.1 in
+    let same = had (λ (p : ConstructorPlan). p.outputs) (slice_get plans c) q.0 outs q.1 are in
+    ap (map (expr_at f)) (sym same) ∙ st.outputs
+
 pub outputs_plain : (s : SchemaView) (f : Flat) (plans : List ConstructorPlan) (c : ℕ) → Planned s f plans → c < length plans
     → (outs : List ℕ) → OutputsAre plans c outs → All (IsPlainNumber f) outs
 outputs_plain s f plans c planned below outs are =
@@ -141,3 +143,7 @@ outputs_plain s f plans c planned below outs are =
 
 pub tag_there : (s : SchemaView) (c : ℕ) → c < length (cores s) → c < length s
 tag_there s c below = omega (arith, below, core_count s [] s)
+
+pub plan_there : (s : SchemaView) (f : Flat) (plans : List ConstructorPlan) (c : ℕ) → Planned s f plans
+    → c < length (cores s) → c < length plans
+plan_there s f plans c planned below = omega (arith, below, planned.count, core_count s [] s)

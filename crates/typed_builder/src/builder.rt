@@ -25,7 +25,7 @@ ghost use Rattle.typed_builder.specs.Turns.{stepped, turn};
 ghost use Rattle.typed_builder.specs.View.{built_cell, core_of, list_of, maker_of, values_of};
 
 use crate::dicts::{add_below, add_here, add_leaf, fits_below, fits_here};
-use crate::forms::{has_count, inner_fields, is_whole, left_out, next_field, whole_cell};
+use crate::forms::{has_count, inner_fields, is_whole, left_out, next_field, refuse, whole_cell};
 use crate::records::{fitted, has_all, inner_operations, operations, put_tag, results};
 use bit_slice::{BitString, Name};
 use cell_nodes::{Cell, Mode};
@@ -186,29 +186,90 @@ fn build_under(
     ensures counts { OnOk result (begun.new + 1 ≡ begun.old + forms.parts (value_view value.now)) }
 {
     match value {
-        Value::Ref(held) => {
-            // The record is a value of its own, with a level and a part.
-            begin(alloc, levels, begun)?;
-            let mut content = Growing::new(alloc)?;
-            build_inner(
-                alloc,
-                plan,
-                mode,
-                levels - 1,
-                begun,
-                first,
-                count,
-                env,
-                types,
-                held.get(),
-                &mut content,
-            )?;
-            put_ref(alloc, content.finish(alloc)?, b)?;
-            Ok(Outputs::Empty)
-        }
+        Value::Ref(held) => build_record_ref(
+            alloc,
+            plan,
+            mode,
+            levels,
+            begun,
+            first,
+            count,
+            env,
+            types,
+            held.get(),
+            b,
+        ),
         Value::Unknown(hidden) => put_hidden(alloc, mode, *hidden, b),
-        _ => Err(stop_here(alloc, Cause::Shape)),
+        _ => Err(refuse(alloc, Cause::Shape)),
     }
+}
+
+/// The reference to a cell that holds just a record in a record.
+#[cycle(build)]
+fn build_record_ref(
+    alloc: Global,
+    plan: &Plan,
+    mode: Mode,
+    levels: u32,
+    begun: &mut u32,
+    first: u32,
+    count: u32,
+    env: &Env,
+    types: &[Option<ClosedType>],
+    value: &Value,
+    b: &mut Growing,
+) -> Result<Outputs, StopError>
+    requires { IsRecord plan.now.1 (length plan.now.1.types) first count }
+    ensures gives { (h : Spot) → Gives h (made b.new) result
+        (plain.make_child (maker_of levels mode plan.now.0) h
+        (goals.at_fields (record_at plan.now.1 first count) (scope_of env.now types.now)) begun.old
+        (value_view value.now) (grown b.old)) }
+    ensures counts { OnOk result (begun.new ≡ begun.old + forms.parts (value_view value.now)) }
+{
+    let cell = build_record_cell(
+        alloc, plan, mode, levels, begun, first, count, env, types, value,
+    )?;
+    put_ref(alloc, cell, b)?;
+    Ok(Outputs::Empty)
+}
+
+/// The ordinary cell that holds just a record in a record, which is a value of its own.
+#[cycle(build)]
+fn build_record_cell(
+    alloc: Global,
+    plan: &Plan,
+    mode: Mode,
+    levels: u32,
+    begun: &mut u32,
+    first: u32,
+    count: u32,
+    env: &Env,
+    types: &[Option<ClosedType>],
+    value: &Value,
+) -> Result<Cell, StopError>
+    requires { IsRecord plan.now.1 (length plan.now.1.types) first count }
+    ensures gives { (h : Spot) → Gives h (λ c. c) result
+        (built_cell (maker_of levels mode plan.now.0) h
+        (goals.at_fields (record_at plan.now.1 first count) (scope_of env.now types.now)) begun.old
+        (value_view value.now)) }
+    ensures counts { OnOk result (begun.new ≡ begun.old + forms.parts (value_view value.now)) }
+{
+    begin(alloc, levels, begun)?;
+    let mut content = Growing::new(alloc)?;
+    build_inner(
+        alloc,
+        plan,
+        mode,
+        levels - 1,
+        begun,
+        first,
+        count,
+        env,
+        types,
+        value,
+        &mut content,
+    )?;
+    Ok(content.finish(alloc)?)
 }
 
 /// A value of a closed type whose width is in the table, which has taken its level and its part.
@@ -244,7 +305,7 @@ fn build_type(
                 record,
                 b,
             ),
-            _ => Err(stop_here(alloc, Cause::Shape)),
+            _ => Err(refuse(alloc, Cause::Shape)),
         },
         Value::List(items) => match ty {
             ClosedType::Repeat(count, inner) => build_list(
@@ -258,7 +319,7 @@ fn build_type(
                 items.as_slice(),
                 b,
             ),
-            _ => Err(stop_here(alloc, Cause::Shape)),
+            _ => Err(refuse(alloc, Cause::Shape)),
         },
         Value::Ref(held) => match ty {
             ClosedType::Ref(inner) => build_ref(
@@ -271,11 +332,11 @@ fn build_type(
                 held.get(),
                 b,
             ),
-            _ => Err(stop_here(alloc, Cause::Shape)),
+            _ => Err(refuse(alloc, Cause::Shape)),
         },
         Value::Unknown(hidden) => match ty {
             ClosedType::Ref(_) => put_hidden(alloc, mode, *hidden, b),
-            _ => Err(stop_here(alloc, Cause::Shape)),
+            _ => Err(refuse(alloc, Cause::Shape)),
         },
         Value::Map(dict) => match ty {
             ClosedType::Dict(n, inner) => {
@@ -284,13 +345,13 @@ fn build_type(
             ClosedType::DictE(n, inner) => {
                 build_dict_e(alloc, plan, mode, levels, begun, *n, inner.get(), dict, b)
             }
-            _ => Err(stop_here(alloc, Cause::Shape)),
+            _ => Err(refuse(alloc, Cause::Shape)),
         },
         Value::Rest(rest) => match ty {
             ClosedType::Whole => put_rest(alloc, rest, b),
-            _ => Err(stop_here(alloc, Cause::Shape)),
+            _ => Err(refuse(alloc, Cause::Shape)),
         },
-        Value::Absent | Value::Raw(_) => Err(stop_here(alloc, Cause::Shape)),
+        Value::Absent | Value::Raw(_) => Err(refuse(alloc, Cause::Shape)),
     }
 }
 
@@ -494,6 +555,8 @@ fn build_declared(
         (names_in (map pair_of held.now.fields)) (values_of held.now.fields) (grown b.old)) }
     ensures counts { OnOk result (begun.new ≡ begun.old + forms.parts_in (values_of held.now.fields)) }
 {
+    // The lists have as many constructors as the schema.
+    let _flat = plan.flat();
     let Some(shown) = &held.name else {
         return Err(stop_here(alloc, Cause::Shape));
     };

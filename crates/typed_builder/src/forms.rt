@@ -3,11 +3,12 @@ ghost use Rattle.std.specs.Prelude.{◌≡◌, ℕ, IfNone, IfSome, None, OnOk, 
 ghost use Rattle.building.specs.Growing.{Grown};
 ghost use Rattle.building.specs.PlainBuilder as plain;
 ghost use Rattle.cell_nodes.specs.declared.tree.Mode.{Mode as Reading};
+ghost use Rattle.cell_nodes.specs.declared.tree.Tree.{Tree as TheTree};
 ghost use Rattle.closed_type.specs.View.{closed_type as type_view};
 ghost use Rattle.core_form.specs.Core.{CoreSchema, Items};
 ghost use Rattle.core_form.specs.Scope.{Scope};
 ghost use Rattle.plan_building.specs.View.{outputs_of};
-ghost use Rattle.plan_reading.specs.Stops.{Gives};
+ghost use Rattle.plan_reading.specs.Stops.{Gives, Stops};
 ghost use Rattle.spelling.specs.Goals as goals;
 ghost use Rattle.spelling.specs.Places.{Spot, stuck};
 ghost use Rattle.spelling.specs.declared.Cause.TheVariants.{Shape};
@@ -38,6 +39,14 @@ pub fn is_whole(ty: &ClosedType) -> bool
     matches!(ty, ClosedType::Whole)
 }
 
+/// A stop where the call began, in place of what is built.
+pub fn refuse(alloc: Global, cause: Cause) -> StopError
+    ensures value { (h : Spot) → Stops {Y = plain.Made} h result (Err (stuck h cause)) }
+    ensures cell { (h : Spot) → Stops {Y = TheTree} h result (Err (stuck h cause)) }
+{
+    stop_here(alloc, cause)
+}
+
 /// The value of a field whose condition doesn't hold: nothing is put.
 pub fn left_out(alloc: Global, value: &Value) -> Result<Outputs, StopError>
     ensures gives { (mode : Reading) (schema : CoreSchema) (R : plain.Maker) (h : Spot) (q : ℕ) (b : Grown)
@@ -47,7 +56,7 @@ pub fn left_out(alloc: Global, value: &Value) -> Result<Outputs, StopError>
 {
     match value {
         Value::Absent => Ok(Outputs::Empty),
-        _ => Err(stop_here(alloc, Cause::Shape)),
+        _ => Err(refuse(alloc, Cause::Shape)),
     }
 }
 
@@ -72,7 +81,7 @@ pub fn whole_cell(alloc: Global, mode: Mode, value: &Value) -> Result<Cell, Stop
     ensures one { OnOk result (forms.parts (value_view value.now) ≡ 1) }
 {
     let Value::Raw(cell) = value else {
-        return Err(stop_here(alloc, Cause::Shape));
+        return Err(refuse(alloc, Cause::Shape));
     };
     if unseen(cell, mode).is_some() {
         return Err(stop_here(alloc, Cause::Shape));

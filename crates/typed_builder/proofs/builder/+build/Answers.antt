@@ -1,8 +1,8 @@
 use Rattle.building.specs.Growing.{Grown}
-use Rattle.building.specs.PlainBuilder.{has_fields, make_fields, make_leaves}
+use Rattle.building.specs.PlainBuilder.{has_fields, make_fields, make_inside, make_leaves}
 use Rattle.cell_nodes.specs.declared.tree.Tree.{Tree}
 use Rattle.closed_type.specs.View.{closed_args, closed_type as type_view}
-use Rattle.core_form.specs.Core.{Word, check, sets}
+use Rattle.core_form.specs.Core.{Declaration, Word, check, sets}
 use Rattle.core_form.specs.Scope.{Scope, bind}
 use Rattle.flat_form.specs.Stands.{expr_at, items_in, name_at, record_at, slot_of, type_at}
 use Rattle.flat_form.specs.declared.lists.Flat.{Flat}
@@ -15,29 +15,37 @@ use Rattle.plan_closing.specs.Counted.{scope_of}
 use Rattle.plan_reading.specs.Gives.{unchanged}
 use Rattle.plan_reading.specs.Shaped.{governed}
 use Rattle.plan_reading.specs.Slots.{slots_view}
-use Rattle.plan_reading.specs.StopLaws.{stops_at, stops_then}
+use Rattle.plan_reading.specs.StopLaws.{stops_at, stops_moved, stops_then}
 use Rattle.plan_reading.specs.Stops.{Stops, StopsAt}
 use Rattle.spelling.specs.Places.{at_root, field_of, item_of, start, stuck}
 use Rattle.spelling.specs.PlainReader.{step}
 use Rattle.spelling.specs.Slices.{nothing}
 use Rattle.spelling.specs.declared.Cause.TheVariants.{Shape, Width}
-use Rattle.std.proofs.Common.{Err, List, None, Ok, Option, Some, [], ap, arith, drop, get_or, length, map, refl, rules, subst, sym, ℕ, ◌++◌, ◌+◌, ◌-◌, ◌∙◌, ◌∷◌, ◌≡◌}
+use Rattle.spelling.specs.declared.Cause.{Cause}
+use Rattle.closed_type.specs.declared.tree.ClosedType.{the_lemmas as type_lemmas}
+use Rattle.core_form.specs.Closed.{named}
+use Rattle.tlb_syntax.specs.View.{schema as schema_view}
+use Rattle.typed_value.specs.Values.{record_of}
+use Rattle.std.proofs.Common.{Err, List, false, true, slice_get, None, Ok, Option, Some, [], ap, arith, drop, get_or, length, map, refl, rules, subst, sym, ℕ, ◌++◌, ◌+◌, ◌-◌, ◌∙◌, ◌∷◌, ◌≡◌}
 use Rattle.std.proofs.lemmas.Bool.{eq-eqb, eqb-true}
 use Rattle.std.proofs.lemmas.Option.{same_Some}
 use Rattle.std.proofs.lemmas.Result.{err_from_is_err_and}
-use Rattle.typed_builder.proofs.Declared.{inner_misnamed, inner_on, inner_stops, inside_on, inside_overflows, inside_stops, tag_stops}
+use Rattle.typed_builder.proofs.Declared.{no_name, none_enters, one_enters, one_misnamed, inner_misnamed, inner_on, inner_stops, inside_on, inside_overflows, inside_stops, tag_stops}
 use Rattle.typed_builder.proofs.Fields.{SoFar, all_counted, all_made, at_end, at_op, none_yet, one_more, one_stops, some_due}
 use Rattle.typed_builder.proofs.Leaves.{Leaved, all_leaved, at_last, at_pair, leaf_stops, none_leaved, one_leaved}
 use Rattle.typed_builder.proofs.Levels.{begin_stops, making_refused, making_shaped, making_too_wide, making_typed, within}
 use Rattle.typed_builder.proofs.Lists.{at_item, at_last as at_last_item, idle_stops, item_stops, list_not, list_on, list_stops, none_itemed, one_itemed}
 use Rattle.typed_builder.proofs.Maps.{dict_e_not, dict_e_on, dict_e_stops, dict_not, dict_on, dict_stops, fit_edge, fit_root}
-use Rattle.typed_builder.proofs.Refs.{child_crowded, child_on, child_stops, typed_on, typed_stops, whole_on, whole_stops}
+use Rattle.typed_builder.proofs.Refs.{child_crowded, child_on, child_stops, inner_begins, inner_on as record_on, inner_stops as record_stops, typed_on, typed_stops, whole_on, whole_stops}
+use Rattle.typed_builder.proofs.Choosing.{chosen_at, named_none}
+use Rattle.typed_builder.proofs.Planned.{had, plan_there}
+use Rattle.typed_builder.proofs.Shown.{as_record}
 use Rattle.typed_builder.proofs.Shapes.{here_sound, shape_not, shape_on, under_sound}
 use Rattle.typed_builder.proofs.Steps.{gives_err, gives_same, stops_same}
 use Rattle.typed_builder.proofs.Turned.{check_stops, check_turned, field_missing, field_stops, field_turned, no_reader, solve_stops, solve_turned, stops_as, turns_as}
 use Rattle.typed_builder.specs.View.{core_of, list_of, maker_of, values_of}
 use Rattle.typed_value.specs.View.{names_in, pair_of, pairs_of, vals_in, value as value_view}
-use Rattle.typed_value.specs.declared.value.Value.{Value}
+use Rattle.typed_value.specs.declared.value.Value.{Value, the_lemmas}
 use Rattle.spelling.specs.Goals as goals
 use Rattle.typed_builder.proofs.builder.+build.Goals as goal
 
@@ -233,7 +241,7 @@ build_fields-build_op-requires t c =
         (scope_of c.args.env.now c.args.types.now) c.args.begun.now (values_of c.args.fields.now) (grown c.args.b.now) at.condition
         (Check 0 Eq 0 0) at.op-index (scope_of at.env c.args.types.now) at.begun (values_of at.due.now) (grown at.b)
         c.loop-op-test.true at.invariant in
-    record { sound = s.sound.0; condition = s.condition }
+    (omega (arith, c.decreases), (s.sound.0, s.condition))
 
 pub build_fields-loop-op-preserved : goal.build_fields-loop-op-preserved
 build_fields-loop-op-preserved t c =
@@ -540,7 +548,7 @@ build_constructor-returns-in-None-clause-gives t c = λ d scope there fits.
     let T : Scope → Type 0 = λ z. make_fields R (start d) is z c.args.begun.now (values_of c.args.fields.now) (grown c.put_tag.new.b) ≡ Ok x in
     inside_overflows R d is scope c.args.begun.now (values_of c.args.fields.now) (grown c.args.b.now) (grown c.put_tag.new.b) x
     c.stop_at_result.result (c.operations-ops.ensures.items d there) (c.in_ok-put_tag.ensures (start d) d there)
-    (subst T slots_are (c.in_ok-build_fields.ensures.gives (start d))) (c.in-None.ensures c.as_slice.result.now d there)
+    (subst T slots_are (c.in_ok-build_fields.ensures.gives (start d))) (sym c.in-None.is ∙ c.in_ok-results.ensures c.as_slice.result.now d there)
     (c.stop_at_result.ensures (start d))
 
 pub build_constructor-returns-clause-gives : goal.build_constructor-returns-clause-gives
@@ -553,7 +561,7 @@ build_constructor-returns-clause-gives t c = λ d scope there fits.
     let T : Scope → Type 0 = λ z. make_fields R (start d) is z c.args.begun.now (values_of c.args.fields.now) (grown c.put_tag.new.b) ≡ Ok x in
     inside_on R d is scope c.args.begun.now (values_of c.args.fields.now) (grown c.args.b.now) (grown c.put_tag.new.b) x
     c.in-Some.outputs (c.operations-ops.ensures.items d there) (c.in_ok-put_tag.ensures (start d) d there)
-    (subst T slots_are (c.in_ok-build_fields.ensures.gives (start d))) (c.in-Some.ensures c.as_slice.result.now d there)
+    (subst T slots_are (c.in_ok-build_fields.ensures.gives (start d))) (sym c.in-Some.is ∙ c.in_ok-results.ensures c.as_slice.result.now d there)
 
 pub build_field-returns-in_err-begin-clause-gives : goal.build_field-returns-in_err-begin-clause-gives
 build_field-returns-in_err-begin-clause-gives t c =
@@ -570,10 +578,11 @@ build_field-returns-in-Err-Refused-clause-gives t c =
     let g = c.args.plan.now.1 in
     let scope = scope_of c.args.env.now c.args.types.now in
     let it = c.in-Err-Refused in
-    λ h. stops_at h c.stop_here.result (stuck h it.cause) _ (c.stop_here.ensures h)
+    λ h. (let P : Cause → Type 0 = λ z. StopsAt h c.stop_here.result (stuck h z) in
+    stops_at h c.stop_here.result (stuck h it.cause) _ (subst P it.cause-is (c.stop_here.ensures h))
     (making_refused c.args.levels c.args.mode (core_of c.args.plan.now.0) h (goals.at_field (governed g c.args.condition) (type_at g c.args.ty) scope)
     c.args.begun.now c.begin.new.begun (value_view c.args.value.now) (grown c.args.b.now) it.cause (c.in_ok-begin.ensures.begins h)
-    (shape_not f g c.args.condition c.args.ty scope it.field-0 it.cause c.flat.ensures.lists it.field-0-is it.ensures.shapes))
+    (shape_not f g c.args.condition c.args.ty scope it.field-0 it.cause c.flat.ensures.lists it.field-0-is it.ensures.shapes)))
 
 pub build_field-returns-in-Ok-LeftOut-clause-gives : goal.build_field-returns-in-Ok-LeftOut-clause-gives
 build_field-returns-in-Ok-LeftOut-clause-gives t c =
@@ -625,10 +634,160 @@ build_field-returns-in-Ok-Under-clause-gives t c =
 
 pub build_field-build_inner-requires : goal.build_field-build_inner-requires
 build_field-build_inner-requires t c =
-    here_sound c.flat.result.now c.args.plan.now.1 c.args.ty c.in-Ok-Here.first c.in-Ok-Here.count c.in-Ok-Here.field-0 c.flat.ensures.lists
-    c.in-Ok-Here.field-0-is c.requires.there c.in-Ok-Here.ensures.sound
+    (omega (arith, c.decreases), here_sound c.flat.result.now c.args.plan.now.1 c.args.ty c.in-Ok-Here.first c.in-Ok-Here.count
+    c.in-Ok-Here.field-0 c.flat.ensures.lists c.in-Ok-Here.field-0-is c.requires.there c.in-Ok-Here.ensures.sound)
 
 pub build_field-build_under-requires : goal.build_field-build_under-requires
 build_field-build_under-requires t c =
-    under_sound c.flat.result.now c.args.plan.now.1 c.args.ty c.in-Ok-Under.first c.in-Ok-Under.count c.in-Ok-Under.field-0 c.flat.ensures.lists
-    c.in-Ok-Under.field-0-is c.requires.there c.in-Ok-Under.ensures.sound
+    (omega (arith, c.decreases), under_sound c.flat.result.now c.args.plan.now.1 c.args.ty c.in-Ok-Under.first c.in-Ok-Under.count
+    c.in-Ok-Under.field-0 c.flat.ensures.lists c.in-Ok-Under.field-0-is c.requires.there c.in-Ok-Under.ensures.sound)
+
+pub build_declared-operations-ops-requires : goal.build_declared-operations-ops-requires
+build_declared-operations-ops-requires t c =
+    plan_there (schema_view c.args.plan.now.0) c.flat-flat.result.now c.args.plan.now.2 c.in-Some-named.c c.flat-flat.ensures.planned
+    c.in-Some-named.ensures.there
+
+pub build_declared-number-requires : goal.build_declared-number-requires
+build_declared-number-requires t c =
+    plan_there (schema_view c.args.plan.now.0) c.flat-flat.result.now c.args.plan.now.2 c.in-Some-named.c c.flat-flat.ensures.planned
+    c.in-Some-named.ensures.there
+
+pub build_declared-build_constructor-requires : goal.build_declared-build_constructor-requires
+build_declared-build_constructor-requires t c =
+    let there = plan_there (schema_view c.args.plan.now.0) c.flat-flat.result.now c.args.plan.now.2 c.in-Some-named.c
+    c.flat-flat.ensures.planned c.in-Some-named.ensures.there in
+    (omega (arith, c.decreases), (there, λ d at. (c.in-Some-named.ensures.named c.in-Some-named.c d at refl).fits))
+
+pub build_declared-returns-in_default-clause-gives : goal.build_declared-returns-in_default-clause-gives
+build_declared-returns-in_default-clause-gives t c =
+    λ h. no_name (core_of c.args.plan.now.0) (maker_of c.args.levels c.args.mode c.args.plan.now.0) h c.args.name.now
+    (closed_args c.args.args.now) c.args.begun.now c.args.held.now.name (names_in (map pair_of c.args.held.now.fields))
+    (values_of c.args.held.now.fields) (grown c.args.b.now) c.stop_here.result (search rules) (c.stop_here.ensures h)
+
+pub build_declared-returns-in_default-named-clause-gives : goal.build_declared-returns-in_default-named-clause-gives
+build_declared-returns-in_default-named-clause-gives t c =
+    let S = core_of c.args.plan.now.0 in
+    let args = closed_args c.args.args.now in
+    λ h. none_enters S (maker_of c.args.levels c.args.mode c.args.plan.now.0) h c.args.name.now args c.args.begun.now
+    c.args.held.now.name c.in-Some.shown.now (names_in (map pair_of c.args.held.now.fields))
+    (values_of c.args.held.now.fields) (grown c.args.b.now) c.stop_here-in_default-named.result (search rules)
+    (named_none S c.args.name.now c.in-Some.shown.now args c.in_default-named.ensures.only) (c.stop_here-in_default-named.ensures h)
+
+pub build_declared-returns-then-not-has_all-clause-gives : goal.build_declared-returns-then-not-has_all-clause-gives
+build_declared-returns-then-not-has_all-clause-gives t c =
+    let S = core_of c.args.plan.now.0 in
+    let args = closed_args c.args.args.now in
+    let ch = chosen_at S c.args.name.now c.in-Some.shown.now args c.in-Some-named.c c.in-Some-named.ensures.there
+    c.in-Some-named.ensures.named c.in-Some-named.ensures.only in
+    let is = items_in c.args.plan.now.1 (type_at c.args.plan.now.1) None c.operations-ops.result.now in
+    let fs = c.as_slice-fields.result.now in
+    λ h. one_misnamed S (maker_of c.args.levels c.args.mode c.args.plan.now.0) h c.args.name.now args c.args.begun.now
+    c.args.held.now.name c.in-Some.shown.now (names_in (map pair_of c.args.held.now.fields))
+    (values_of c.args.held.now.fields) (grown c.args.b.now) ch.declaration ch.scope is c.stop_here-then-not-has_all.result
+    (search rules) ch.is (c.operations-ops.ensures.items ch.declaration ch.there)
+    (let T : List (List ℕ × Value) → Type 0 = λ z. has_fields (names_in (map pair_of z)) (values_of z) is ≡ false in
+    subst T c.as_slice-fields.ensures (sym c.if-not-has_all.ensures))
+    (c.stop_here-then-not-has_all.ensures h)
+
+pub build_declared-returns-in-Err-clause-gives : goal.build_declared-returns-in-Err-clause-gives
+build_declared-returns-in-Err-clause-gives t c =
+    let S = core_of c.args.plan.now.0 in
+    let args = closed_args c.args.args.now in
+    let R = maker_of c.args.levels c.args.mode c.args.plan.now.0 in
+    let ch = chosen_at S c.args.name.now c.in-Some.shown.now args c.in-Some-named.c c.in-Some-named.ensures.there
+    c.in-Some-named.ensures.named c.in-Some-named.ensures.only in
+    let d = ch.declaration in
+    let is = items_in c.args.plan.now.1 (type_at c.args.plan.now.1) None c.operations-ops.result.now in
+    let number_is = had (λ (z : Declaration). z.number) (slice_get S c.in-Some-named.c) d c.number.result ch.there c.number.ensures in
+    let fields = c.as_slice-fields.ensures in
+    let T : List (List ℕ × Value) → Type 0 = λ z. has_fields (names_in (map pair_of z)) (values_of z) is ≡ true in
+    let U : List (List ℕ × Value) → Type 0 = λ z. Stops (start d) c.in-Err.error (make_inside R d ch.scope c.args.begun.now (values_of z) (grown c.args.b.now)) in
+    λ h. stops_same h c.in_constructor.result _ _
+    (one_enters S R h c.args.name.now args c.args.begun.now
+    c.args.held.now.name c.in-Some.shown.now (names_in (map pair_of c.args.held.now.fields))
+    (values_of c.args.held.now.fields) (grown c.args.b.now) d ch.scope is (search rules) ch.is
+    (c.operations-ops.ensures.items d ch.there) (subst T fields (sym c.if-not-has_all.ensures)))
+    (stops_moved (start d) h c.in-Err.error c.in_constructor.result _ (λ p. c.in_constructor.ensures h d p ch.named.of_type number_is)
+    (subst U fields (c.in-Err.ensures.gives d ch.scope ch.there ch.fits)))
+
+pub build_declared-returns-in-Ok-clause-gives : goal.build_declared-returns-in-Ok-clause-gives
+build_declared-returns-in-Ok-clause-gives t c =
+    let S = core_of c.args.plan.now.0 in
+    let args = closed_args c.args.args.now in
+    let R = maker_of c.args.levels c.args.mode c.args.plan.now.0 in
+    let ch = chosen_at S c.args.name.now c.in-Some.shown.now args c.in-Some-named.c c.in-Some-named.ensures.there
+    c.in-Some-named.ensures.named c.in-Some-named.ensures.only in
+    let d = ch.declaration in
+    let is = items_in c.args.plan.now.1 (type_at c.args.plan.now.1) None c.operations-ops.result.now in
+    let fields = c.as_slice-fields.ensures in
+    let T : List (List ℕ × Value) → Type 0 = λ z. has_fields (names_in (map pair_of z)) (values_of z) is ≡ true in
+    let U : List (List ℕ × Value) → Type 0 = λ z. make_inside R d ch.scope c.args.begun.now (values_of z) (grown c.args.b.now)
+        ≡ Ok (made c.build_constructor.new.b c.in-Ok.outputs) in
+    λ h. one_enters S R h c.args.name.now args c.args.begun.now
+    c.args.held.now.name c.in-Some.shown.now (names_in (map pair_of c.args.held.now.fields))
+    (values_of c.args.held.now.fields) (grown c.args.b.now) d ch.scope is (search rules) ch.is
+    (c.operations-ops.ensures.items d ch.there) (subst T fields (sym c.if-not-has_all.ensures))
+    ∙ subst U fields (c.in-Ok.ensures.gives d ch.scope ch.there ch.fits)
+
+pub build_type-returns-in-Named-clause-gives : goal.build_type-returns-in-Named-clause-gives
+build_type-returns-in-Named-clause-gives t c =
+    let r = c.in-Record.record in
+    let S = core_of c.args.plan.now.0 in
+    let R = maker_of c.args.levels c.args.mode c.args.plan.now.0 in
+    let seen : value_view c.args.value.now ≡ record_of r.name (names_in (map pair_of r.fields)) (values_of r.fields) =
+        rw c.in-Record.is (search (the_lemmas, rules)) in
+    let typed_so : type_view c.args.ty.now ≡ named c.in-Named.name (closed_args c.in-Named.args) =
+        rw c.in-Named.is (search (type_lemmas, rules)) in
+    let same : type_view c.args.ty.now ≡ named c.in-Named.name (closed_args c.as_slice.result.now) =
+        typed_so ∙ ap (λ z. named c.in-Named.name (closed_args z)) (sym c.as_slice.ensures) in
+    λ h. gives_same h (made c.build_declared.new.b) c.build_declared.result _ _
+    (as_record c.args.mode S R h (type_view c.args.ty.now) _ c.args.begun.now (value_view c.args.value.now) (grown c.args.b.now)
+    r.name (names_in (map pair_of r.fields)) (values_of r.fields) seen same) (c.build_declared.ensures.gives h)
+
+pub build_record_cell-returns-in_err-begin-clause-gives : goal.build_record_cell-returns-in_err-begin-clause-gives
+build_record_cell-returns-in_err-begin-clause-gives t c =
+    let p = err_from_is_err_and c.from_residual.result c.from_residual.ensures.1 in
+    λ h. gives_err h (λ (z : Tree). z) c.from_residual.result c.in_err-begin.field-0.0 _ (p.1 ∙ ap Err p.2)
+    (inner_begins c.args.levels c.args.mode (core_of c.args.plan.now.0) h (record_at c.args.plan.now.1 c.args.first c.args.count)
+    (scope_of c.args.env.now c.args.types.now) c.args.begun.now (value_view c.args.value.now) c.in_err-begin.field-0.0
+    (c.in_err-begin.ensures.begins h))
+
+pub build_record_cell-returns-in_err-build_inner-clause-gives : goal.build_record_cell-returns-in_err-build_inner-clause-gives
+build_record_cell-returns-in_err-build_inner-clause-gives t c =
+    let p = err_from_is_err_and c.from_residual-in_err-build_inner.result c.from_residual-in_err-build_inner.ensures.1 in
+    λ h. gives_err h (λ (z : Tree). z) c.from_residual-in_err-build_inner.result c.in_err-build_inner.field-0.0 _ (p.1 ∙ ap Err p.2)
+    (record_stops c.args.levels c.args.mode (core_of c.args.plan.now.0) h (record_at c.args.plan.now.1 c.args.first c.args.count)
+    (scope_of c.args.env.now c.args.types.now) c.args.begun.now c.begin.new.begun (value_view c.args.value.now)
+    (grown c.in_ok-content.content) c.in_err-build_inner.field-0.0 (c.in_ok-begin.ensures.begins h) c.in_ok-content.ensures
+    (c.in_err-build_inner.ensures.gives h))
+
+pub build_record_cell-returns-clause-gives : goal.build_record_cell-returns-clause-gives
+build_record_cell-returns-clause-gives t c =
+    λ h. record_on c.args.levels c.args.mode (core_of c.args.plan.now.0) h (record_at c.args.plan.now.1 c.args.first c.args.count)
+    (scope_of c.args.env.now c.args.types.now) c.args.begun.now c.begin.new.begun (value_view c.args.value.now)
+    (grown c.in_ok-content.content) (made c.build_inner.new.b c.in_ok-build_inner.field-0) c.in_ok-finish.field-0
+    (c.in_ok-begin.ensures.begins h) c.in_ok-content.ensures (c.in_ok-build_inner.ensures.gives h) c.in_ok-finish.ensures
+
+pub build_record_ref-returns-in_err-cell-clause-gives : goal.build_record_ref-returns-in_err-cell-clause-gives
+build_record_ref-returns-in_err-cell-clause-gives t c =
+    let p = err_from_is_err_and c.from_residual.result c.from_residual.ensures.1 in
+    λ h. gives_err h (made c.args.b.now) c.from_residual.result c.in_err-cell.field-0.0 _ (p.1 ∙ ap Err p.2)
+    (child_stops (maker_of c.args.levels c.args.mode c.args.plan.now.0) h
+    (goals.at_fields (record_at c.args.plan.now.1 c.args.first c.args.count) (scope_of c.args.env.now c.args.types.now)) c.args.begun.now
+    (value_view c.args.value.now) (grown c.args.b.now) c.in_err-cell.field-0.0 (c.in_err-cell.ensures.gives h))
+
+pub build_record_ref-returns-in_err-put_ref-clause-gives : goal.build_record_ref-returns-in_err-put_ref-clause-gives
+build_record_ref-returns-in_err-put_ref-clause-gives t c =
+    let p = err_from_is_err_and c.from_residual-in_err-put_ref.result c.from_residual-in_err-put_ref.ensures.1 in
+    λ h. gives_err h (made c.put_ref.new.b) c.from_residual-in_err-put_ref.result c.in_err-put_ref.field-0.0 _ (p.1 ∙ ap Err p.2)
+    (child_crowded (maker_of c.args.levels c.args.mode c.args.plan.now.0) h
+    (goals.at_fields (record_at c.args.plan.now.1 c.args.first c.args.count) (scope_of c.args.env.now c.args.types.now)) c.args.begun.now
+    (value_view c.args.value.now) (grown c.args.b.now) c.in_ok-cell.cell c.in_err-put_ref.field-0.0 (c.in_ok-cell.ensures.gives h)
+    (c.in_err-put_ref.ensures h))
+
+pub build_record_ref-returns-clause-gives : goal.build_record_ref-returns-clause-gives
+build_record_ref-returns-clause-gives t c =
+    λ h. child_on (maker_of c.args.levels c.args.mode c.args.plan.now.0) h 
+    (goals.at_fields (record_at c.args.plan.now.1 c.args.first c.args.count) (scope_of c.args.env.now c.args.types.now)) c.args.begun.now
+    (value_view c.args.value.now) (grown c.args.b.now) c.in_ok-cell.cell (grown c.put_ref.new.b) (c.in_ok-cell.ensures.gives h)
+    (c.in_ok-put_ref.ensures h)

@@ -17,7 +17,13 @@ abbrev pub decreases-build_field : goal.decreases-build_field
 decreases-build_field l = 8 * l.levels
 
 abbrev pub decreases-build_under : goal.decreases-build_under
-decreases-build_under l = 8 * l.levels
+decreases-build_under l = 8 * l.levels + 2
+
+abbrev pub decreases-build_record_ref : goal.decreases-build_record_ref
+decreases-build_record_ref l = 8 * l.levels + 1
+
+abbrev pub decreases-build_record_cell : goal.decreases-build_record_cell
+decreases-build_record_cell l = 8 * l.levels
 
 abbrev pub decreases-build_op : goal.decreases-build_op
 decreases-build_op l = 8 * l.levels + 1

@@ -5,7 +5,7 @@ use Rattle.core_form.specs.Scope.{values_in}
 use Rattle.flat_form.specs.Stands.{expr_at}
 use Rattle.plan_closing.specs.Counted.{scope_of}
 use Rattle.tlb_syntax.specs.View.{schema as schema_view}
-use Rattle.typed_builder.proofs.Planned.{entry_outputs, outputs_plain}
+use Rattle.typed_builder.proofs.Planned.{outputs_are, outputs_plain}
 use Rattle.typed_builder.specs.View.{core_of}
 use Rattle.typed_builder.proofs.records.results.Goals as goal
 
@@ -23,6 +23,6 @@ returns c = λ types.
     (λ (ns : Option (List ℕ)). (d : Declaration) → slice_get (core_of c.args.plan.now.0) c.args.c ≡ Some d
     → ns ≡ values_in d.core.outputs scope)
     (λ ns is d there. is ∙ ap (λ z. values_in z scope)
-    (entry_outputs (schema_view c.args.plan.now.0) f c.args.plan.now.2 c.args.c c.flat-flat.ensures.planned
+    (outputs_are (schema_view c.args.plan.now.0) f c.args.plan.now.2 c.args.c c.flat-flat.ensures.planned
     c.requires d there c.outputs.result.now c.outputs.ensures))
     (c.values.ensures types)
