@@ -22,7 +22,7 @@ use Rattle.spelling.specs.PlainReader.{step}
 use Rattle.spelling.specs.Slices.{nothing}
 use Rattle.spelling.specs.declared.Cause.TheVariants.{Shape, Width}
 use Rattle.spelling.specs.declared.Cause.{Cause}
-use Rattle.closed_type.specs.declared.tree.ClosedType.{the_lemmas as type_lemmas}
+use Rattle.closed_type.specs.declared.tree.ClosedArg.TheFolds.{the_lemmas as type_lemmas}
 use Rattle.core_form.specs.Closed.{named}
 use Rattle.tlb_syntax.specs.View.{schema as schema_view}
 use Rattle.typed_value.specs.Values.{record_of}
@@ -634,12 +634,12 @@ build_field-returns-in-Ok-Under-clause-gives t c =
 
 pub build_field-build_inner-requires : goal.build_field-build_inner-requires
 build_field-build_inner-requires t c =
-    (omega (arith, c.decreases), here_sound c.flat.result.now c.args.plan.now.1 c.args.ty c.in-Ok-Here.first c.in-Ok-Here.count
+    (omega (arith, c.decreases, c.in_ok-begin.ensures.left), here_sound c.flat.result.now c.args.plan.now.1 c.args.ty c.in-Ok-Here.first c.in-Ok-Here.count
     c.in-Ok-Here.field-0 c.flat.ensures.lists c.in-Ok-Here.field-0-is c.requires.there c.in-Ok-Here.ensures.sound)
 
 pub build_field-build_under-requires : goal.build_field-build_under-requires
 build_field-build_under-requires t c =
-    (omega (arith, c.decreases), under_sound c.flat.result.now c.args.plan.now.1 c.args.ty c.in-Ok-Under.first c.in-Ok-Under.count
+    (omega (arith, c.decreases, c.in_ok-begin.ensures.left), under_sound c.flat.result.now c.args.plan.now.1 c.args.ty c.in-Ok-Under.first c.in-Ok-Under.count
     c.in-Ok-Under.field-0 c.flat.ensures.lists c.in-Ok-Under.field-0-is c.requires.there c.in-Ok-Under.ensures.sound)
 
 pub build_declared-operations-ops-requires : goal.build_declared-operations-ops-requires
@@ -669,20 +669,20 @@ build_declared-returns-in_default-named-clause-gives t c =
     let S = core_of c.args.plan.now.0 in
     let args = closed_args c.args.args.now in
     λ h. none_enters S (maker_of c.args.levels c.args.mode c.args.plan.now.0) h c.args.name.now args c.args.begun.now
-    c.args.held.now.name c.in-Some.shown.now (names_in (map pair_of c.args.held.now.fields))
+    c.args.held.now.name c.in-Some.shown (names_in (map pair_of c.args.held.now.fields))
     (values_of c.args.held.now.fields) (grown c.args.b.now) c.stop_here-in_default-named.result (search rules)
-    (named_none S c.args.name.now c.in-Some.shown.now args c.in_default-named.ensures.only) (c.stop_here-in_default-named.ensures h)
+    (named_none S c.args.name.now c.in-Some.shown args c.in_default-named.ensures.only) (c.stop_here-in_default-named.ensures h)
 
 pub build_declared-returns-then-not-has_all-clause-gives : goal.build_declared-returns-then-not-has_all-clause-gives
 build_declared-returns-then-not-has_all-clause-gives t c =
     let S = core_of c.args.plan.now.0 in
     let args = closed_args c.args.args.now in
-    let ch = chosen_at S c.args.name.now c.in-Some.shown.now args c.in-Some-named.c c.in-Some-named.ensures.there
+    let ch = chosen_at S c.args.name.now c.in-Some.shown args c.in-Some-named.c c.in-Some-named.ensures.there
     c.in-Some-named.ensures.named c.in-Some-named.ensures.only in
     let is = items_in c.args.plan.now.1 (type_at c.args.plan.now.1) None c.operations-ops.result.now in
     let fs = c.as_slice-fields.result.now in
     λ h. one_misnamed S (maker_of c.args.levels c.args.mode c.args.plan.now.0) h c.args.name.now args c.args.begun.now
-    c.args.held.now.name c.in-Some.shown.now (names_in (map pair_of c.args.held.now.fields))
+    c.args.held.now.name c.in-Some.shown (names_in (map pair_of c.args.held.now.fields))
     (values_of c.args.held.now.fields) (grown c.args.b.now) ch.declaration ch.scope is c.stop_here-then-not-has_all.result
     (search rules) ch.is (c.operations-ops.ensures.items ch.declaration ch.there)
     (let T : List (List ℕ × Value) → Type 0 = λ z. has_fields (names_in (map pair_of z)) (values_of z) is ≡ false in
@@ -694,7 +694,7 @@ build_declared-returns-in-Err-clause-gives t c =
     let S = core_of c.args.plan.now.0 in
     let args = closed_args c.args.args.now in
     let R = maker_of c.args.levels c.args.mode c.args.plan.now.0 in
-    let ch = chosen_at S c.args.name.now c.in-Some.shown.now args c.in-Some-named.c c.in-Some-named.ensures.there
+    let ch = chosen_at S c.args.name.now c.in-Some.shown args c.in-Some-named.c c.in-Some-named.ensures.there
     c.in-Some-named.ensures.named c.in-Some-named.ensures.only in
     let d = ch.declaration in
     let is = items_in c.args.plan.now.1 (type_at c.args.plan.now.1) None c.operations-ops.result.now in
@@ -704,7 +704,7 @@ build_declared-returns-in-Err-clause-gives t c =
     let U : List (List ℕ × Value) → Type 0 = λ z. Stops (start d) c.in-Err.error (make_inside R d ch.scope c.args.begun.now (values_of z) (grown c.args.b.now)) in
     λ h. stops_same h c.in_constructor.result _ _
     (one_enters S R h c.args.name.now args c.args.begun.now
-    c.args.held.now.name c.in-Some.shown.now (names_in (map pair_of c.args.held.now.fields))
+    c.args.held.now.name c.in-Some.shown (names_in (map pair_of c.args.held.now.fields))
     (values_of c.args.held.now.fields) (grown c.args.b.now) d ch.scope is (search rules) ch.is
     (c.operations-ops.ensures.items d ch.there) (subst T fields (sym c.if-not-has_all.ensures)))
     (stops_moved (start d) h c.in-Err.error c.in_constructor.result _ (λ p. c.in_constructor.ensures h d p ch.named.of_type number_is)
@@ -715,7 +715,7 @@ build_declared-returns-in-Ok-clause-gives t c =
     let S = core_of c.args.plan.now.0 in
     let args = closed_args c.args.args.now in
     let R = maker_of c.args.levels c.args.mode c.args.plan.now.0 in
-    let ch = chosen_at S c.args.name.now c.in-Some.shown.now args c.in-Some-named.c c.in-Some-named.ensures.there
+    let ch = chosen_at S c.args.name.now c.in-Some.shown args c.in-Some-named.c c.in-Some-named.ensures.there
     c.in-Some-named.ensures.named c.in-Some-named.ensures.only in
     let d = ch.declaration in
     let is = items_in c.args.plan.now.1 (type_at c.args.plan.now.1) None c.operations-ops.result.now in
@@ -724,7 +724,7 @@ build_declared-returns-in-Ok-clause-gives t c =
     let U : List (List ℕ × Value) → Type 0 = λ z. make_inside R d ch.scope c.args.begun.now (values_of z) (grown c.args.b.now)
         ≡ Ok (made c.build_constructor.new.b c.in-Ok.outputs) in
     λ h. one_enters S R h c.args.name.now args c.args.begun.now
-    c.args.held.now.name c.in-Some.shown.now (names_in (map pair_of c.args.held.now.fields))
+    c.args.held.now.name c.in-Some.shown (names_in (map pair_of c.args.held.now.fields))
     (values_of c.args.held.now.fields) (grown c.args.b.now) d ch.scope is (search rules) ch.is
     (c.operations-ops.ensures.items d ch.there) (subst T fields (sym c.if-not-has_all.ensures))
     ∙ subst U fields (c.in-Ok.ensures.gives d ch.scope ch.there ch.fits)

@@ -9,6 +9,6 @@ use Rattle.typed_builder.proofs.forms.whole_cell.Goals as goal
 
 pub returns-then-is_some-clause-gives : goal.returns-then-is_some-clause-gives
 returns-then-is_some-clause-gives c = λ schema R h q.
-    stops_at h c.stop_here-then-is_some.result (stuck h Shape) _ (c.stop_here-then-is_some.ensures h)
+    stops_at h c.stop_here.result (stuck h Shape) _ (c.stop_here.ensures h)
     (seen_stuck c.args.mode schema R h q (value_view c.args.value.now) c.in-Raw.cell c.unseen.result
     (rw c.in-Raw.is (search (the_lemmas, rules))) c.unseen.ensures (cc))
