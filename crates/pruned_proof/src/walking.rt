@@ -1,9 +1,31 @@
 //! The walk: a value beside the references that it takes, by its type, from the ways of chosen paths alone into cells.
 //!
 //! `levels` is how many levels of values are left.
-ghost use Rattle.std.specs.Prelude.{◌≡◌, ◌<◌, ◌≤◌, length};
+ghost use Rattle.std.specs.Prelude.{◌≡◌, ◌+◌, ◌<◌, ◌≤◌, ◌∷◌, ◌++◌, ℕ, Bool, [], List, None, Option, IfOk, length, map, true};
+ghost use Rattle.cell_nodes.specs.declared.tree.Tree.{Tree};
+ghost use Rattle.closed_type.specs.View.{closed_args, closed_type as type_view};
+ghost use Rattle.closed_type.specs.declared.tree.ClosedType.{ClosedType as TheClosedType};
+ghost use Rattle.core_form.specs.Closed as closed;
+ghost use Rattle.core_form.specs.Scope.{Scope, bind as bound};
+ghost use Rattle.core_form.specs.Core.{sets};
 ghost use Rattle.flat_form.specs.Sound.{IsFlat, OpIsSound, OpsAreSound};
-ghost use Rattle.plan_reading.specs.Shaped.{GovernIsSound, IsRecord};
+ghost use Rattle.flat_form.specs.Stands.{items_in, record_at, slot_of, type_at};
+ghost use Rattle.flat_form.specs.declared.lists.PlanOp.{PlanOp as Operation};
+ghost use Rattle.hashmap_tree.specs.Entries.{Slice};
+ghost use Rattle.plan_closing.specs.Counted.{scope_of};
+ghost use Rattle.plan_reading.specs.Shaped.{GovernIsSound, IsRecord, governed};
+ghost use Rattle.pruning.specs.Cut.{cell_with};
+ghost use Rattle.pruning.specs.Laid.{Laid, LaidEdge, Laids};
+ghost use Rattle.pruning.specs.SpellsLaid.{EachLaid, SpellsEdge, SpellsLaid, SpellsLaidShape};
+ghost use Rattle.schema_leads.specs.Tags.{cores};
+ghost use Rattle.spelling.specs.Goals as goals;
+ghost use Rattle.spelling.specs.Spells.{Repeats, SpellsNumber};
+ghost use Rattle.tlb_syntax.specs.View.{schema as schema_view};
+ghost use Rattle.typed_value.specs.Values as forms;
+ghost use Rattle.typed_value.specs.View.{pair_of, pairs_of, vals_of, value as value_view, record_parts, names_in, vals_in};
+ghost use Rattle.pruned_proof.specs.View.{rests_of};
+ghost use Rattle.pruned_proof.specs.Walks.{Are, Due, Fills, Gives, HasBit, Is, IsBranch, IsEdge, Lies, Moves, outputs_of};
+ghost use Rattle.pruned_proof.specs.Wanted.{below, cut_at, cut_edge_for, cut_for, cut_items_for};
 
 use crate::cutting::{CutError, Cutting, Outputs};
 use crate::wanted::{Reached, Wanted};
@@ -27,7 +49,11 @@ fn cut_value(
     value: &Value,
     wanted: &Wanted<'_>,
     cell: &mut Cutting<'_>,
-) -> Result<Outputs, CutError> {
+) -> Result<Outputs, CutError>
+    ensures { (d : Laid) (outs : List ℕ) (after : Slice) → Is d (value_view value.now) levels
+        → Lies (SpellsLaid (cores (schema_view plan.now.0)) d (goals.at_type (type_view ty.now))) cell.old.left outs after
+        → Gives (λ x. (outputs_of x ≡ outs) × Moves (cut_for (rests_of wanted.now) d) after.refs cell.old cell.new) result }
+{
     if levels == 0 {
         return Err(CutError::Unread);
     }
@@ -80,7 +106,11 @@ fn cut_value(
 }
 
 // The output of a number, which is the number itself at the types of naturals.
-fn own_output(ty: &ClosedType, size: u128) -> Result<Outputs, CutError> {
+fn own_output(ty: &ClosedType, size: u128) -> Result<Outputs, CutError>
+    ensures { (negative : Bool) (outs : List ℕ) (before after : Slice) → goals.in_table (type_view ty.now) ≡ true
+        → SpellsNumber negative size (goals.row (type_view ty.now)) before outs after
+        → Gives (λ x. outputs_of x ≡ outs) result }
+{
     match ty {
         ClosedType::Nat32 | ClosedType::Bits(_) | ClosedType::Below(_) | ClosedType::UpTo(_) => {
             if size > 4_294_967_295 {
@@ -102,7 +132,11 @@ fn cut_ref(
     held: &Value,
     wanted: &Wanted<'_>,
     cell: &mut Cutting<'_>,
-) -> Result<(), CutError> {
+) -> Result<(), CutError>
+    ensures { (d : Laid) (outs : List ℕ) (after : Slice) → Is d (forms.ref_to tt (value_view held.now)) (levels + 1)
+        → Lies (SpellsLaidShape (cores (schema_view plan.now.0)) d (goals.typed (closed.ref (type_view inner.now)))) cell.old.left outs after
+        → Gives (λ x. Moves (cut_for (rests_of wanted.now) d) after.refs cell.old cell.new) result }
+{
     let child = cell.next()?;
     if wanted.is_nothing() {
         return cell.hide(alloc, child);
@@ -127,7 +161,11 @@ pub(crate) fn cut_cell(
     value: &Value,
     wanted: &Wanted<'_>,
     from: &Cell,
-) -> Result<Cell, CutError> {
+) -> Result<Cell, CutError>
+    ensures { (d : Laid) → Is d (value_view value.now) levels
+        → Fills (cores (schema_view plan.now.0)) (goals.under_ref (type_view ty.now)) d from.now
+        → Gives (λ c. c ≡ cell_with from.now (cut_for (rests_of wanted.now) d)) result }
+{
     let mut inner = Cutting::of(alloc, from);
     cut_value(alloc, plan, levels, ty, value, wanted, &mut inner)?;
     inner.finish(alloc, from)
@@ -143,7 +181,11 @@ fn cut_items(
     items: &[Value],
     wanted: &Wanted<'_>,
     cell: &mut Cutting<'_>,
-) -> Result<(), CutError> {
+) -> Result<(), CutError>
+    ensures { (ds : Laids) (count : ℕ) (outs : List ℕ) (after : Slice) → Are ds (vals_of (map value_view items.now)) levels
+        → Lies (λ b o a. Repeats (EachLaid (cores (schema_view plan.now.0)) ds) count (type_view inner.now) b a) cell.old.left outs after
+        → Gives (λ x. Moves (cut_items_for (rests_of wanted.now) 0 ds) after.refs cell.old cell.new) result }
+{
     let mut place = 0u32;
     for item in items {
         let here = wanted.onward(alloc, Reached::Item(place))?;
@@ -163,7 +205,12 @@ fn cut_root_edge(
     pairs: &[(BitString, Value)],
     wanted: &Wanted<'_>,
     cell: &mut Cutting<'_>,
-) -> Result<(), CutError> {
+) -> Result<(), CutError>
+    ensures { (d : Laid) (n : ℕ) (outs : List ℕ) (after : Slice) → n ≤ 1023
+        → Is d (forms.map_of tt (pairs_of (map pair_of pairs.now)) []) (levels + 1)
+        → Lies (SpellsLaidShape (cores (schema_view plan.now.0)) d (goals.typed (closed.dict_e n (type_view inner.now)))) cell.old.left outs after
+        → Gives (λ x. Moves (cut_for (rests_of wanted.now) d) after.refs cell.old cell.new) result }
+{
     let Some((key, _)) = pairs.first() else {
         return Ok(());
     };
@@ -185,7 +232,13 @@ fn cut_branch(
     end: u32,
     wanted: &Wanted<'_>,
     cell: &mut Cutting<'_>,
-) -> Result<(), CutError> {
+) -> Result<(), CutError>
+    ensures { (q : List ℕ) (e : LaidEdge) (n : ℕ) (c : Tree) (after : List Tree) → n ≤ left → end ≡ length q
+        → IsEdge q e (pairs_of (map pair_of pairs.now)) levels
+        → IsBranch (cores (schema_view plan.now.0)) n (type_view inner.now) q e key.now c cell.old.left after
+        → Gives (λ x. Moves (cut_at (below q (rests_of wanted.now)) c
+        (cut_edge_for (below q (rests_of wanted.now)) q e) ∷ []) after cell.old cell.new) result }
+{
     let child = cell.next()?;
     let Some((prefix, _)) = key.slice().take(end) else {
         return Err(CutError::Unread);
@@ -213,7 +266,12 @@ fn cut_edge(
     pairs: &[(BitString, Value)],
     wanted: &Wanted<'_>,
     cell: &mut Cutting<'_>,
-) -> Result<(), CutError> {
+) -> Result<(), CutError>
+    ensures { (q : List ℕ) (e : LaidEdge) (n : ℕ) (outs : List ℕ) (after : Slice) → n ≤ left
+        → IsEdge q e (pairs_of (map pair_of pairs.now)) levels
+        → Lies (λ b o a. SpellsEdge (cores (schema_view plan.now.0)) e n (type_view inner.now) b a) cell.old.left outs after
+        → Gives (λ x. Moves (cut_edge_for (rests_of wanted.now) q e) after.refs cell.old cell.new) result }
+{
     let Some(((first, value), others)) = pairs.split_first() else {
         return Err(CutError::Unread);
     };
@@ -255,7 +313,9 @@ fn cut_edge(
 }
 
 // How many of the first bits of both are the same.
-fn common(a: &BitString, b: &BitString) -> u32 {
+fn common(a: &BitString, b: &BitString) -> u32
+    ensures { (p x y : List ℕ) → a.now ≡ p ++ 0 ∷ x → b.now ≡ p ++ 1 ∷ y → result ≡ length p }
+{
     let (a, b) = (a.slice(), b.slice());
     let most = a.len().min(b.len());
     for i in 0..most {
@@ -267,7 +327,11 @@ fn common(a: &BitString, b: &BitString) -> u32 {
 }
 
 // How many keys have no 1 at that place: those before the first that has.
-fn turn(pairs: &[(BitString, Value)], place: u32) -> usize {
+fn turn(pairs: &[(BitString, Value)], place: u32) -> usize
+    ensures { (k : ℕ) → k ≤ length pairs.now
+        → ((i : ℕ) → i < k → HasBit place 0 i (map (λ p. p.0) pairs.now))
+        → ((i : ℕ) → k ≤ i → i < length pairs.now → HasBit place 1 i (map (λ p. p.0) pairs.now)) → result ≡ k }
+{
     let mut low = 0usize;
     let mut high = pairs.len();
     'halves: while low < high {
@@ -292,7 +356,13 @@ fn cut_declared(
     record: &Record,
     wanted: &Wanted<'_>,
     cell: &mut Cutting<'_>,
-) -> Result<Outputs, CutError> {
+) -> Result<Outputs, CutError>
+    ensures { (d : Laid) (outs : List ℕ) (after : Slice)
+        → Is d (forms.record_of (record_parts record.now).0 (names_in (record_parts record.now).1)
+        (vals_in (record_parts record.now).1)) (levels + 1)
+        → Lies (SpellsLaidShape (cores (schema_view plan.now.0)) d (goals.typed (closed.named name.now (closed_args args.now)))) cell.old.left outs after
+        → Gives (λ x. (outputs_of x ≡ outs) × Moves (cut_for (rests_of wanted.now) d) after.refs cell.old cell.new) result }
+{
     let Some(shown) = &record.name else {
         return Err(CutError::Unread);
     };
@@ -338,6 +408,10 @@ fn cut_fields(
     cell: &mut Cutting<'_>,
 ) -> Result<(), CutError>
     requires { OpsAreSound plan.now.1 (length plan.now.1.types) ops.now }
+    ensures { (end : Scope) (after : Slice) (all : List Tree)
+        → Due (cores (schema_view plan.now.0)) (rests_of wanted.now) levels end after all
+        (items_in plan.now.1 (type_at plan.now.1) None ops.now) (scope_of env.old types.now) (map pair_of fields.now) cell.old
+        → Gives (λ x. (scope_of env.new types.now ≡ end) × (cell.new.left ≡ after.refs) × (cell.new.made.items ≡ all)) result }
 {
     let mut condition = None;
     let mut due = fields;
@@ -368,6 +442,12 @@ fn cut_op<'a>(
 ) -> Result<(Option<(u32, u32)>, &'a [(Name, Value)]), CutError>
     requires sound { OpIsSound plan.now.1 (length plan.now.1.types) op }
     requires condition { GovernIsSound plan.now.1 condition }
+    ensures gives { (ops : List Operation) (end : Scope) (after : Slice) (all : List Tree)
+        → Due (cores (schema_view plan.now.0)) (rests_of wanted.now) levels end after all
+        (items_in plan.now.1 (type_at plan.now.1) (governed plan.now.1 condition) (op ∷ ops)) (scope_of env.old types.now) (map pair_of fields.entry.now) cell.old
+        → Gives (λ x. Due (cores (schema_view plan.now.0)) (rests_of wanted.now) levels end after all
+        (items_in plan.now.1 (type_at plan.now.1) (governed plan.now.1 x.0) ops) (scope_of env.new types.now) (map pair_of x.1.now) cell.new) result }
+    ensures condition { IfOk result (λ x. GovernIsSound plan.now.1 x.0) }
 {
     let flat = plan.flat();
     match op {
@@ -422,6 +502,12 @@ fn cut_field(
 ) -> Result<Outputs, CutError>
     requires there { ty < length plan.now.1.types }
     requires condition { GovernIsSound plan.now.1 condition }
+    ensures { (types : List (Option TheClosedType)) → bound (sets (slot_of slot) (type_at flat.now ty)) (outputs_of outputs.now)
+        (scope_of env.old types) ≡ scope_of env.new types }
+    ensures { (d : Laid) (outs : List ℕ) (after : Slice) → Is d (value_view value.now) levels
+        → Lies (SpellsLaid (cores (schema_view plan.now.0)) d (goals.at_field (governed plan.now.1 condition) (type_at plan.now.1 ty)
+        (scope_of env.now types.now))) cell.old.left outs after
+        → Gives (λ x. (outputs_of x ≡ outs) × Moves (cut_for (rests_of wanted.now) d) after.refs cell.old cell.new) result }
 {
     match shape(alloc, plan.flat(), condition, ty, env, types) {
         Err(ShapeError::NoMemory) => Err(CutError::NoMemory),
@@ -460,6 +546,10 @@ fn cut_inner(
     cell: &mut Cutting<'_>,
 ) -> Result<(), CutError>
     requires { IsRecord plan.now.1 (length plan.now.1.types) first count }
+    ensures { (d : Laid) (outs : List ℕ) (after : Slice) → Is d (value_view value.now) levels
+        → Lies (SpellsLaidShape (cores (schema_view plan.now.0)) d (goals.fields_here (record_at plan.now.1 first count)
+        (scope_of env.now types.now))) cell.old.left outs after
+        → Gives (λ x. Moves (cut_for (rests_of wanted.now) d) after.refs cell.old cell.new) result }
 {
     if levels == 0 {
         return Err(CutError::Unread);
@@ -497,6 +587,10 @@ fn cut_under(
     cell: &mut Cutting<'_>,
 ) -> Result<(), CutError>
     requires { IsRecord plan.now.1 (length plan.now.1.types) first count }
+    ensures { (d : Laid) (outs : List ℕ) (after : Slice) → Is d (value_view value.now) levels
+        → Lies (SpellsLaidShape (cores (schema_view plan.now.0)) d (goals.fields_under (record_at plan.now.1 first count)
+        (scope_of env.now types.now))) cell.old.left outs after
+        → Gives (λ x. Moves (cut_for (rests_of wanted.now) d) after.refs cell.old cell.new) result }
 {
     let child = cell.next()?;
     if wanted.is_nothing() {
