@@ -478,6 +478,8 @@ fn cut_op<'a>(
 fn bind_outputs(flat: &Flat, ty: u32, slot: u32, outputs: &Outputs, env: &mut Env)
     requires flat { IsFlat flat.now }
     requires there { ty < length flat.now.types }
+    ensures { (types : List (Option TheClosedType)) → bound (sets (slot_of slot) (type_at flat.now ty)) (outputs_of outputs.now)
+        (scope_of env.old types) ≡ scope_of env.new types }
 {
     match outputs {
         Outputs::Empty => bind(flat, ty, slot, &[], env),
@@ -502,8 +504,6 @@ fn cut_field(
 ) -> Result<Outputs, CutError>
     requires there { ty < length plan.now.1.types }
     requires condition { GovernIsSound plan.now.1 condition }
-    ensures { (types : List (Option TheClosedType)) → bound (sets (slot_of slot) (type_at flat.now ty)) (outputs_of outputs.now)
-        (scope_of env.old types) ≡ scope_of env.new types }
     ensures { (d : Laid) (outs : List ℕ) (after : Slice) → Is d (value_view value.now) levels
         → Lies (SpellsLaid (cores (schema_view plan.now.0)) d (goals.at_field (governed plan.now.1 condition) (type_at plan.now.1 ty)
         (scope_of env.now types.now))) cell.old.left outs after
