@@ -1,26 +1,20 @@
 -- What the walk gives for each laid value that is the one given.
-use Rattle.std.specs.Prelude.{◌≡◌, ℕ, ◌≤◌, List, [], ◌∷◌, ◌++◌, Some, Result, Ok, Err, slice_get}
-use Rattle.std.specs.Borrow.{Bor}
+use Rattle.std.specs.Prelude.{Bool, true, false, ◌≡◌, ℕ, ◌+◌, ◌≤◌, List, [], ◌∷◌, ◌++◌, Option, Some, None, Result, Ok, Err, slice_get}
 use Rattle.cell_nodes.specs.declared.tree.Mode.TheVariants.{Whole}
 use Rattle.cell_nodes.specs.declared.tree.Tree.{Tree}
 use Rattle.core_form.specs.Closed.{Closed}
 use Rattle.core_form.specs.Core.{CoreSchema, Items}
 use Rattle.core_form.specs.Scope.{Scope}
 use Rattle.hashmap_tree.specs.Entries.{Slice}
-use Rattle.flat_form.specs.Stands.{items_in, type_at}
-use Rattle.flat_form.specs.declared.lists.Flat.{Flat}
-use Rattle.flat_form.specs.declared.lists.PlanOp.{PlanOp}
-use Rattle.plan_reading.specs.Shaped.{governed}
 use Rattle.spelling.specs.Goals.{Goal}
-use Rattle.spelling.specs.Spells.{Fields, Holds}
+use Rattle.spelling.specs.Spells.{Fields, Holds, Repeats}
 use Rattle.typed_value.specs.Values.{Plain, levels, levels_in, levels_by}
-use Rattle.typed_value.specs.View.{names_in, vals_in}
-use Rattle.pruning.specs.Cut.{cell_with}
+use Rattle.typed_value.specs.View.{names_in, vals_in, vals_of}
 use Rattle.pruning.specs.Laid.{Laid, Laids, LaidEdge, plain, plain_all, plain_pairs, below}
 use Rattle.pruning.specs.SpellsLaid.{SpellsLaid, EachLaid, SpellsEdge, EdgeCell}
 use Rattle.pruning_laws.specs.CleanLaws.{IsClean, AllClean}
 use Rattle.typed_value.specs.Values as values
-use Rattle.pruned_proof.specs.Wanted.{Rests, cut_fields_for, cut_for}
+use Rattle.pruned_proof.specs.Wanted.{Rests, cut_fields_for, cut_items_for}
 use Rattle.pruned_proof.specs.declared.cutting.CutError.{CutError}
 use Rattle.pruned_proof.specs.declared.cutting.CutError.TheVariants as cuts
 use Rattle.pruned_proof.specs.declared.cutting.Cutting.{Cutting}
@@ -32,11 +26,29 @@ outputs_of Empty = []
 outputs_of (One n) = n ∷ []
 outputs_of (Several ns) = ns
 
+-- the cell of a reference, as it is
+abbrev pub is_raw : Plain → Bool
+is_raw (values.raw c) = true
+is_raw _ = false
+
+-- the value of a reference, and the names and the values of a record
+abbrev pub held_in : Plain → Option Plain
+held_in (values.ref_to a v) = Some v
+held_in _ = None
+
+abbrev pub fields_of : Plain → Option (List (List ℕ) × values.Plains)
+fields_of (values.record_of name names vs) = Some (names, vs)
+fields_of _ = None
+
+-- the one failure is that memory ran out
+abbrev pub Fails : CutError → Type 0
+Fails cuts.Unread = ⊥
+Fails cuts.NoMemory = Unit {0}
+
 -- this holds of the answer, or memory ran out
 abbrev pub Gives : {A : Type 0} → (A → Type 0) → Result A CutError → Type 0
 Gives P (Ok x) = P x
-Gives P (Err cuts.Unread) = ⊥
-Gives P (Err cuts.NoMemory) = Unit {0}
+Gives P (Err e) = Fails e
 
 -- these references are left, and what is made goes on with those
 abbrev pub Moves : List Tree → List Tree → Cutting → Cutting → Type 0
@@ -91,3 +103,16 @@ pub record Due (schema : CoreSchema) (k : Rests) (most : ℕ) (end : Scope) (aft
   pub clean : AllClean cell.left
   pub spelled : Fields is (EachLaid schema laids) scope before end after
   pub made : cell.made.items ++ cut_fields_for k (names_in fields) laids ≡ all
+
+-- the same of the items of a repetition, from a number on
+pub record DueItems (schema : CoreSchema) (k : Rests) (most : ℕ) (t : Closed) (after : Slice) (all : List Tree) (place : ℕ)
+    (vs : List Plain) (cell : Cutting) : Type 0 where
+  pub laids : Laids
+  pub count : ℕ
+  pub are : Are laids (vals_of vs) most
+  pub few : place + count ≤ 4294967295
+  pub before : Slice
+  pub refs : before.refs ≡ cell.left
+  pub clean : AllClean cell.left
+  pub spelled : Repeats (EachLaid schema laids) count t before after
+  pub made : cell.made.items ++ cut_items_for k place laids ≡ all

@@ -4,7 +4,8 @@ ghost use Rattle.cell_nodes.specs.declared.tree.Mode.TheVariants.{Partial};
 ghost use Rattle.accepted_schema.specs.Accepted.{kept_cores};
 ghost use Rattle.closed_type.specs.View.{closed_type as type_view};
 ghost use Rattle.tlb_syntax.specs.View.{schema as schema_view};
-ghost use Rattle.pruning.specs.SpellsLaid.{LaidRoot, IsLaidRoot, plain_root};
+ghost use Rattle.pruning.specs.SpellsLaid.{LaidReading, LaidRoot, plain_root};
+ghost use Rattle.cell_nodes.specs.Tree.{mask};
 ghost use Rattle.spelling.specs.Spells.{Reading};
 ghost use Rattle.typed_value.specs.Values.{Plain};
 ghost use Rattle.typed_value.specs.View.{value as value_view};
@@ -12,12 +13,15 @@ ghost use Rattle.pruned_proof.specs.Proved.{Answers, CutsTo, Named, ProvesOver, 
 
 use crate::cutting::CutError;
 use crate::error::ProveError;
-use crate::walking::cut_cell;
+use crate::walking::{cut_cell, is_raw};
 use crate::wanted::Wanted;
+use accepted_pruning::laws::{one_prove_answer, prove_then_view, pruning_commutes};
+use accepted_spelling::laws::read_or_stuck;
 use cell_nodes::{Cell, CellError, Mode};
 use closed_type::ClosedType;
 use field_plan::Plan;
 use path_knowledge::names;
+use proof_laws::laws::laid_is_read;
 use std::alloc::Global;
 use typed_reader::{ReadError, read};
 use typed_value::{Path, Value};
@@ -59,11 +63,15 @@ fn cut_root(
     value: &Value,
     paths: &[Path],
 ) -> Result<Cell, CutError>
+    requires { mask cell.now ≡ 0 }
     ensures { (r : LaidRoot) → plain_root r ≡ value_view value.now
-        → IsLaidRoot (kept_cores (schema_view plan.now.0)) (type_view ty.now) cell.now r
+        → LaidReading (kept_cores (schema_view plan.now.0)) (type_view ty.now) cell.now r
         → CutsTo (path_views paths.now) r cell.now result }
 {
-    if let Value::Raw(_) = value {
+    // The walk goes by the whole schema, which is the same.
+    plan.schema();
+    cell.good();
+    if is_raw(value) {
         return Ok(cell.share()?);
     }
     let wanted = Wanted::of(alloc, paths)?;
@@ -116,6 +124,14 @@ pub fn prove(
     requires { length keep.now ≤ 64 }
     ensures { Answers (kept_cores (schema_view plan.now.0)) (type_view ty.now) cell.now (path_views keep.now) result }
 {
+    one_prove_answer();
+    prove_then_view();
+    pruning_commutes();
+    read_or_stuck();
+    laid_is_read();
+    // The laws hold of the schema of a plan, which is accepted, and of a cell, which is good.
+    plan.schema();
+    cell.good();
     let value = match read(alloc, plan, ty, cell, Mode::Whole) {
         Ok(value) => value,
         Err(ReadError::NoMemory) => return Err(ProveError::NoMemory),

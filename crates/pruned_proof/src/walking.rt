@@ -1,7 +1,7 @@
 //! The walk: a value beside the references that it takes, by its type, from the ways of chosen paths alone into cells.
 //!
 //! `levels` is how many levels of values are left.
-ghost use Rattle.std.specs.Prelude.{◌≡◌, ◌+◌, ◌<◌, ◌≤◌, ◌∷◌, ◌++◌, ℕ, Bool, [], List, None, Option, IfOk, length, map, true};
+ghost use Rattle.std.specs.Prelude.{◌≡◌, ◌+◌, ◌<◌, ◌≤◌, ◌∷◌, ◌++◌, ℕ, Bool, [], List, None, Option, IfOk, length, map, option_map, true};
 ghost use Rattle.cell_nodes.specs.declared.tree.Tree.{Tree};
 ghost use Rattle.closed_type.specs.View.{closed_args, closed_type as type_view};
 ghost use Rattle.closed_type.specs.declared.tree.ClosedType.{ClosedType as TheClosedType};
@@ -15,17 +15,17 @@ ghost use Rattle.hashmap_tree.specs.Entries.{Slice};
 ghost use Rattle.plan_closing.specs.Counted.{scope_of};
 ghost use Rattle.plan_reading.specs.Shaped.{GovernIsSound, IsRecord, governed};
 ghost use Rattle.pruning.specs.Cut.{cell_with};
-ghost use Rattle.pruning.specs.Laid.{Laid, LaidEdge, Laids};
-ghost use Rattle.pruning.specs.SpellsLaid.{EachLaid, SpellsEdge, SpellsLaid, SpellsLaidShape};
+ghost use Rattle.pruning.specs.Laid.{Laid, LaidEdge};
+ghost use Rattle.pruning.specs.SpellsLaid.{SpellsEdge, SpellsLaid, SpellsLaidShape};
 ghost use Rattle.schema_leads.specs.Tags.{cores};
 ghost use Rattle.spelling.specs.Goals as goals;
-ghost use Rattle.spelling.specs.Spells.{Repeats, SpellsNumber};
+ghost use Rattle.spelling.specs.Spells.{SpellsNumber};
 ghost use Rattle.tlb_syntax.specs.View.{schema as schema_view};
 ghost use Rattle.typed_value.specs.Values as forms;
-ghost use Rattle.typed_value.specs.View.{pair_of, pairs_of, vals_of, value as value_view, record_parts, names_in, vals_in};
+ghost use Rattle.typed_value.specs.View.{pair_of, pairs_of, value as value_view, record_parts, names_in, vals_in};
 ghost use Rattle.pruned_proof.specs.View.{rests_of};
-ghost use Rattle.pruned_proof.specs.Walks.{Are, Due, Fills, Gives, HasBit, Is, IsBranch, IsEdge, Lies, Moves, outputs_of};
-ghost use Rattle.pruned_proof.specs.Wanted.{below, cut_at, cut_edge_for, cut_for, cut_items_for};
+ghost use Rattle.pruned_proof.specs.Walks.{Due, DueItems, Fills, Gives, HasBit, Is, IsBranch, IsEdge, Lies, Moves, fields_of, held_in, is_raw, outputs_of};
+ghost use Rattle.pruned_proof.specs.Wanted.{below, cut_at, cut_edge_for, cut_for};
 
 use crate::cutting::{CutError, Cutting, Outputs};
 use crate::wanted::{Reached, Wanted};
@@ -122,6 +122,38 @@ fn own_output(ty: &ClosedType, size: u128) -> Result<Outputs, CutError>
     }
 }
 
+// Whether it is a cell as it is.
+pub(crate) fn is_raw(value: &Value) -> bool
+    ensures { result ≡ is_raw (value_view value.now) }
+{
+    match value {
+        Value::Raw(_) => true,
+        Value::Number(_) | Value::Bits(_) | Value::Record(_) | Value::Absent | Value::List(_) => false,
+        Value::Ref(_) | Value::Unknown(_) | Value::Map(_) | Value::Rest(_) => false,
+    }
+}
+
+// The value that a reference holds.
+fn held<'a>(value: &'a Value) -> Option<&'a Value>
+    ensures { option_map (λ v. value_view v.now) result ≡ held_in (value_view value.entry.now) }
+{
+    match value {
+        Value::Ref(inner) => Some(inner.get()),
+        _ => None,
+    }
+}
+
+// The fields of a record.
+fn fields_of<'a>(value: &'a Value) -> Option<&'a [(Name, Value)]>
+    ensures { option_map (λ fs. (names_in (map pair_of fs.now), vals_in (map pair_of fs.now))) result
+        ≡ fields_of (value_view value.entry.now) }
+{
+    match value {
+        Value::Record(record) => Some(record.fields.as_slice()),
+        _ => None,
+    }
+}
+
 /// A reference to a cell that holds just the value.
 #[cycle(cut)]
 fn cut_ref(
@@ -144,7 +176,7 @@ fn cut_ref(
     if wanted.is_whole() {
         return cell.keep(child);
     }
-    if let Value::Raw(_) = held {
+    if is_raw(held) {
         return cell.keep(child);
     }
     let made = cut_cell(alloc, plan, levels, inner, held, wanted, child)?;
@@ -182,9 +214,10 @@ fn cut_items(
     wanted: &Wanted<'_>,
     cell: &mut Cutting<'_>,
 ) -> Result<(), CutError>
-    ensures { (ds : Laids) (count : ℕ) (outs : List ℕ) (after : Slice) → Are ds (vals_of (map value_view items.now)) levels
-        → Lies (λ b o a. Repeats (EachLaid (cores (schema_view plan.now.0)) ds) count (type_view inner.now) b a) cell.old.left outs after
-        → Gives (λ x. Moves (cut_items_for (rests_of wanted.now) 0 ds) after.refs cell.old cell.new) result }
+    ensures { (after : Slice) (all : List Tree)
+        → DueItems (cores (schema_view plan.now.0)) (rests_of wanted.now) levels (type_view inner.now) after all 0
+        (map value_view items.now) cell.old
+        → Gives (λ x. (cell.new.left ≡ after.refs) × (cell.new.made.items ≡ all)) result }
 {
     let mut place = 0u32;
     for item in items {
@@ -554,7 +587,7 @@ fn cut_inner(
     if levels == 0 {
         return Err(CutError::Unread);
     }
-    let Value::Record(record) = value else {
+    let Some(fields) = fields_of(value) else {
         return Err(CutError::Unread);
     };
     let ops = plan.flat().operations(first, count);
@@ -566,7 +599,7 @@ fn cut_inner(
         ops,
         &mut inner,
         types,
-        record.fields.as_slice(),
+        fields,
         wanted,
         cell,
     )
@@ -599,7 +632,7 @@ fn cut_under(
     if wanted.is_whole() {
         return cell.keep(child);
     }
-    let Value::Ref(held) = value else {
+    let Some(held) = held(value) else {
         return Err(CutError::Unread);
     };
     let mut content = Cutting::of(alloc, child);
@@ -611,7 +644,7 @@ fn cut_under(
         count,
         env,
         types,
-        held.get(),
+        held,
         wanted,
         &mut content,
     )?;

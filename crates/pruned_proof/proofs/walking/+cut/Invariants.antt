@@ -1,4 +1,17 @@
-use Rattle.std.proofs.Common.{◌+◌, ◌*◌}
+use Rattle.std.proofs.Common.{◌+◌, ◌*◌, List, None, drop, length, map}
+use Rattle.cell_nodes.specs.declared.tree.Tree.{Tree}
+use Rattle.closed_type.specs.View.{closed_type as type_view}
+use Rattle.core_form.specs.Scope.{Scope}
+use Rattle.flat_form.specs.Sound.{OpsAreSound}
+use Rattle.flat_form.specs.Stands.{items_in, type_at}
+use Rattle.hashmap_tree.specs.Entries.{Slice}
+use Rattle.plan_closing.specs.Counted.{scope_of}
+use Rattle.plan_reading.specs.Shaped.{GovernIsSound, governed}
+use Rattle.schema_leads.specs.Tags.{cores}
+use Rattle.tlb_syntax.specs.View.{schema as schema_view}
+use Rattle.typed_value.specs.View.{pair_of, value as value_view}
+use Rattle.pruned_proof.specs.View.{rests_of}
+use Rattle.pruned_proof.specs.Walks.{Due, DueItems}
 use Rattle.pruned_proof.proofs.walking.+cut.Given as goal
 
 abbrev pub decreases-cut_value : goal.decreases-cut_value
@@ -39,3 +52,23 @@ decreases-cut_branch l = 4096 * l.levels + 2 * l.left + 2
 
 abbrev pub decreases-cut_root_edge : goal.decreases-cut_root_edge
 decreases-cut_root_edge l = 4096 * l.levels + 2049
+
+abbrev pub invariant-cut_fields-loop-op : goal.invariant-cut_fields-loop-op
+invariant-cut_fields-loop-op l = record {
+  sound : OpsAreSound l.plan.1 (length l.plan.1.types) (drop l.op-index l.ops);
+  condition : GovernIsSound l.plan.1 l.condition;
+  due : (end : Scope) (after : Slice) (all : List Tree)
+      → Due (cores (schema_view l.plan.0)) (rests_of l.wanted) l.levels end after all
+      (items_in l.plan.1 (type_at l.plan.1) None l.ops) (scope_of l.fn.env l.types) (map pair_of l.fields) l.fn.cell
+      → Due (cores (schema_view l.plan.0)) (rests_of l.wanted) l.levels end after all
+      (items_in l.plan.1 (type_at l.plan.1) (governed l.plan.1 l.condition) (drop l.op-index l.ops)) (scope_of l.env l.types)
+      (map pair_of l.due) l.cell;
+}
+
+abbrev pub invariant-cut_items-loop-item : goal.invariant-cut_items-loop-item
+invariant-cut_items-loop-item l =
+    (after : Slice) (all : List Tree)
+    → DueItems (cores (schema_view l.plan.0)) (rests_of l.wanted) l.levels (type_view l.inner) after all 0
+    (map value_view l.items) l.fn.cell
+    → DueItems (cores (schema_view l.plan.0)) (rests_of l.wanted) l.levels (type_view l.inner) after all l.place
+    (map value_view (drop l.item-index l.items)) l.cell
