@@ -90,6 +90,7 @@ module _ (one : OneProveAnswer) (then : ProveThenView) (commutes : PruningCommut
             record { named = subst P (sym x.is) named; whole = whole }
 
         shown_is : (p : Tree) (x : IsChild p) (w : Plain) → Reading Partial (kept_cores s) t p w → w ≡ shown_for paths x.laid_root
+        unfolding child_reads
         shown_is p x w r =
             let y = child_reads p x in
             (exact Partial s accepted t p).one_reading w y.0 r y.1

@@ -6,3 +6,4 @@ mod Led
 mod Pruned
 mod Recorded
 mod Rooted
+mod Shaped

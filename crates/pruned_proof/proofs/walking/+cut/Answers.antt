@@ -29,6 +29,9 @@ use Rattle.pruned_proof.proofs.Led.{led_raw, led_opened}
 use Rattle.pruned_proof.proofs.Pruned.{finished}
 use Rattle.pruned_proof.proofs.Recorded.{no_record, record_due}
 use Rattle.pruned_proof.proofs.Fielded.{due_solved, solve_found, field_due, first_due, none_due, first_item, no_item}
+use Rattle.pruned_proof.proofs.Shaped.{shaped, at_shape, here_outs, under_outs, left_is, here_within, under_within, items_there}
+use Rattle.pruned_proof.proofs.Shaped.{op_next, ops_end}
+use Rattle.plan_reading.specs.declared.shapes.FlatShape.TheVariants.{Here, Under, LeftOut, Typed}
 use Rattle.pruned_proof.proofs.walking.+cut.Goals as goal
 
 pub cut_ref-returns-in_err-child : goal.cut_ref-returns-in_err-child
@@ -272,3 +275,21 @@ cut_inner-returns-in_default t c = λ d outs after is l.
     let v = value_view c.args.value.now in
     absurd (no_record S k items scope v c.args.levels c.args.cell.now outs after d is l
     (ap (option_map _) (sym c.in_default.is) ∙ c.fields_of.ensures))
+
+pub cut_inner-returns : goal.cut_inner-returns
+cut_inner-returns t c = λ d outs after is l.
+    let S = cores (schema_view c.args.plan.now.0) in
+    let items = record_at c.args.plan.now.1 c.args.first c.args.count in
+    let scope = scope_of c.args.env.now c.args.types.now in
+    let k = rests_of c.args.wanted.now in
+    let v = value_view c.args.value.now in
+    let due = record_due S k items scope v c.args.levels c.args.cell.now outs after d (map pair_of c.in-Some.fields.now) is l
+    (ap (option_map _) (sym c.in-Some.is) ∙ c.fields_of.ensures) in
+    let D : Items → Scope → Type 0 = λ z y. Due S k (c.args.levels - 1) due.end after (c.args.cell.now.made.items ++ cut_for k d) z y
+    (map pair_of c.in-Some.fields.now) c.args.cell.now in
+    let there = items_there c.flat.result.now c.args.plan.now.1 c.args.first c.args.count c.operations-ops.result.now
+    c.flat.ensures.lists c.operations-ops.ensures in
+    let at = subst (λ z. D z scope) (sym there) due.due in
+    let copied = ap (λ z. scope_of z c.args.types.now) (sym c.in_ok-inner.ensures) in
+    gives_as _ _ c.cut_fields.result (λ x m. (m.1, m.2))
+    (c.cut_fields.ensures due.end after (c.args.cell.now.made.items ++ cut_for k d) (subst (D _) copied at))
