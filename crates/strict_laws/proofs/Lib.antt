@@ -1,0 +1,3 @@
+mod Less
+mod Labels
+mod Steps

@@ -1,0 +1,2 @@
+pub mod NoLonger
+pub mod Laws
