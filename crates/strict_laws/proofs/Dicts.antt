@@ -14,7 +14,7 @@ use Rattle.hashmap_tree.specs.First.{LeafEdge, Fork, forked}
 use Rattle.hashmap_tree.specs.OnceLaws.{good-both}
 use Rattle.strict_laws.proofs.Less.{Less, AllLess, Fine, Shorter, less_cell, good_fine}
 use Rattle.strict_laws.proofs.Labels.{Relabelled, relabel, label_parts}
-use Rattle.strict_laws.proofs.Steps.{MovesAlike, Stretch, Relaxed}
+use Rattle.strict_laws.proofs.Steps.{MovesAlike, Stretch, Tightened}
 
 -- ---- entries with the same keys whose contents are no longer
 
@@ -183,9 +183,9 @@ mutual
 
 -- ---- the first edge in place
 
-pub leaf_relaxed : (n : ℕ) (k : List ℕ) (before middle : Slice) → LeafEdge Lax n k before middle → Fine before
-    → Relaxed (λ b a. LeafEdge Whole n k b a) before middle
-leaf_relaxed n k before middle e fine = record {
+pub leaf_tightened : (n : ℕ) (k : List ℕ) (before middle : Slice) → LeafEdge Lax n k before middle → Fine before
+    → Tightened (λ b a. LeafEdge Whole n k b a) before middle
+leaf_tightened n k before middle e fine = record {
   fine = after_label n k before middle e.label e.refs fine;
   strict = λ end h.
     let r = relabel n k before.bits middle.bits end.bits e.label fine.bits h.bits h.short in
@@ -224,9 +224,9 @@ fork_moves before after start end z o x y e f a b =
     let s = ap (length {A = Tree}) f in
     inr (omega (arith, r, a), omega (arith, s, b))
 
-pub fork_relaxed : (n : ℕ) (es us : Entries) (before after : Slice) → Fork Lax n es before after → Fine before
-    → EntriesLess us es → Relaxed (λ b a. Fork Whole n us b a) before after
-fork_relaxed n es us before after e fine less = record {
+pub fork_tightened : (n : ℕ) (es us : Entries) (before after : Slice) → Fork Lax n es before after → Fine before
+    → EntriesLess us es → Tightened (λ b a. Fork Whole n us b a) before after
+fork_tightened n es us before after e fine less = record {
   fine = (fork_fine n es before after e fine).1;
   strict = go e;
 }

@@ -1,3 +1,7 @@
 mod Less
 mod Labels
 mod Steps
+mod Dicts
+mod Forms
+mod Maps
+mod Values

@@ -27,7 +27,7 @@ pub record Stretch (W : Slice → Slice → Type 0) (before after end : Slice) :
   pub alike : MovesAlike before after start end
 
 -- the rest is bits and good trees, and before each shorter rest there is a shorter slice that leaves it
-pub record Relaxed (W : Slice → Slice → Type 0) (before after : Slice) : Type 0 where
+pub record Tightened (W : Slice → Slice → Type 0) (before after : Slice) : Type 0 where
   pub fine : Fine after
   pub strict : (end : Slice) → Shorter end after → Stretch W before after end
 
@@ -47,9 +47,9 @@ moves_then a b c x y z (inr p) (inr q) =
     let p0 = p.0 in let p1 = p.1 in let q0 = q.0 in let q1 = q.1 in
     inr (omega (arith, p0, q0), omega (arith, p1, q1))
 
-pub relaxed_then : (V W : Slice → Slice → Type 0) (before middle after : Slice) → Relaxed V before middle
-    → Relaxed W middle after → Relaxed (λ b a. (m : Slice) × V b m × W m a) before after
-relaxed_then V W before middle after first second = record {
+pub tightened_then : (V W : Slice → Slice → Type 0) (before middle after : Slice) → Tightened V before middle
+    → Tightened W middle after → Tightened (λ b a. (m : Slice) × V b m × W m a) before after
+tightened_then V W before middle after first second = record {
   fine = second.fine;
   strict = λ end h.
     let w = second.strict end h in
@@ -61,9 +61,9 @@ relaxed_then V W before middle after first second = record {
     };
 }
 
-pub relaxed_as : (V W : Slice → Slice → Type 0) (before after : Slice) → ((b a : Slice) → V b a → W b a)
-    → Relaxed V before after → Relaxed W before after
-relaxed_as V W before after f r = record {
+pub tightened_as : (V W : Slice → Slice → Type 0) (before after : Slice) → ((b a : Slice) → V b a → W b a)
+    → Tightened V before after → Tightened W before after
+tightened_as V W before after f r = record {
   fine = r.fine;
   strict = λ end h.
     let v = r.strict end h in
@@ -72,8 +72,8 @@ relaxed_as V W before after f r = record {
 
 -- ---- nothing is taken
 
-pub relaxed_none : (before after : Slice) → after ≡ before → Fine before → Relaxed (λ b a. a ≡ b) before after
-relaxed_none before after e fine =
+pub tightened_none : (before after : Slice) → after ≡ before → Fine before → Tightened (λ b a. a ≡ b) before after
+tightened_none before after e fine =
     let P : Slice → Type 0 = λ s. Fine s in record {
       fine = subst P (sym e) fine;
       strict = λ end h.
@@ -105,9 +105,9 @@ bits_alike (x ∷ bits) before after end e =
     let j = length-append bits end.bits in
     inr (omega (arith, l, r, k), omega (arith, j))
 
-pub relaxed_bits : (bits : List ℕ) (before after : Slice) → Then before (only_bits bits) after → Fine before
-    → Relaxed (λ b a. Then b (only_bits bits) a) before after
-relaxed_bits bits before after e fine =
+pub tightened_bits : (bits : List ℕ) (before after : Slice) → Then before (only_bits bits) after → Fine before
+    → Tightened (λ b a. Then b (only_bits bits) a) before after
+tightened_bits bits before after e fine =
     let f = bits_fine bits before after e fine in
     let l = ap (length {A = ℕ}) e.bits in
     let k = length-append bits after.bits in record {
@@ -145,10 +145,10 @@ ref_fine bits c before after e fine =
     let g : AllGood (c ∷ after.refs) = subst R e.refs fine.refs in
     (p.0, all_good-head c after.refs g, record { bits = p.1; refs = all_good-tail c after.refs g })
 
-pub relaxed_ref : (P : Tree → Type 0) (bits : List ℕ) (c d : Tree) (before after : Slice)
+pub tightened_ref : (P : Tree → Type 0) (bits : List ℕ) (c d : Tree) (before after : Slice)
     → Then before (bits_and_ref bits c) after → Fine before → P d → Less d c
-    → Relaxed (RefWith P bits) before after
-relaxed_ref P bits c d before after e fine p less =
+    → Tightened (RefWith P bits) before after
+tightened_ref P bits c d before after e fine p less =
     let f = ref_fine bits c before after e fine in
     let l = ap (length {A = ℕ}) e.bits in
     let r = ap (length {A = Tree}) e.refs in
