@@ -30,10 +30,10 @@ EntriesLess [] (e ∷ es) = ⊥
 EntriesLess (u ∷ us) [] = ⊥
 EntriesLess (u ∷ us) (e ∷ es) = (u.0 ≡ e.0) × PartLess u.1 e.1 × EntriesLess us es
 
--- contents of bits and good trees
+-- contents of bits and good trees, and no hidden parts
 abbrev pub PartFine : Part → Type 0
 PartFine (leaf c) = Fine c
-PartFine (hidden h) = Unit {0}
+PartFine (hidden h) = ⊥
 
 abbrev pub AllFine : Entries → Type 0
 AllFine [] = Unit {0}

@@ -5,3 +5,4 @@ mod Dicts
 mod Forms
 mod Maps
 mod Values
+mod Ranges

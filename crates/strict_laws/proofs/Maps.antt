@@ -28,13 +28,7 @@ contents_tightened : (Ls Ws : Keyed) → TightensBy Ls Ws → (us : List (List �
 contents_tightened no_keyed no_keyed r us t [] fine e = record { entries = []; less = tt; hold = e }
 contents_tightened no_keyed (a_keyed j W Ws) r us t [] fine e = absurd r
 contents_tightened (a_keyed k L Ls) Ws r us t [] fine e = absurd e.0
-contents_tightened Ls Ws r us t ((k, hidden h) ∷ es) fine e =
-    let Us = hidden_in es in
-    let more = contents_tightened Ls Ws r Us t es fine.1 (e.0, refl) in record {
-      entries = (k, hidden h) ∷ more.entries;
-      less = (refl, refl, more.less);
-      hold = (more.hold.0, ap (λ (l : List (List ℕ × Hidden)). (k, h) ∷ l) more.hold.1 ∙ e.1);
-    }
+contents_tightened Ls Ws r us t ((k, hidden h) ∷ es) fine e = absurd fine.0
 contents_tightened no_keyed Ws r us t ((k, leaf c) ∷ es) fine e = let wrong = e.0 in cc
 contents_tightened (a_keyed j L Ls) no_keyed r us t ((k, leaf c) ∷ es) fine e = absurd r
 contents_tightened (a_keyed j L Ls) (a_keyed i W Ws) r us t ((k, leaf c) ∷ es) fine e =

@@ -7,6 +7,7 @@ use Rattle.typed_value.specs.Values.{Plain}
 use Rattle.core_form.specs.Core.{CoreSchema}
 use Rattle.core_form.specs.Closed.{Closed}
 use Rattle.spelling.specs.Spells.{Reading}
+use Rattle.building.specs.Buildable.{IsBuildable, InRange}
 use Rattle.building_laws.specs.Laws.{IsTreeOf}
 use Rattle.strict_laws.specs.NoLonger.{IsNoLonger}
 
@@ -15,8 +16,24 @@ pub record IsStrictOf (schema : CoreSchema) (t : Closed) (v : Plain) (c d : Tree
   pub tree : IsTreeOf Whole schema t v d
   pub shape : IsNoLonger d c
 
--- what has a reading in mode Lax has such a tree
+-- whatever the schema, what has a reading in mode Lax has such a tree
 abbrev pub LaxHasTree : Type 0
 LaxHasTree =
     (schema : CoreSchema) (t : Closed) (v : Plain) (c : Tree) → IsTreeOf Lax schema t v c
     → (d : Tree) × IsStrictOf schema t v c d
+
+-- and its reading is in range
+abbrev pub LaxInRange : Type 0
+LaxInRange =
+    (schema : CoreSchema) (t : Closed) (v : Plain) (c : Tree) → IsGood c → Reading Lax schema t c v → InRange v
+
+-- that tree, and no other good tree has the reading in mode Whole
+pub record IsOneStrictOf (schema : CoreSchema) (t : Closed) (v : Plain) (c d : Tree) : Type 0 where
+  pub strict : IsStrictOf schema t v c d
+  pub only : (e : Tree) → IsGood e → Reading Whole schema t e v → e ≡ d
+
+-- so it has exactly one
+abbrev pub LaxHasStrict : Type 0
+LaxHasStrict =
+    (schema : CoreSchema) → IsBuildable schema → (t : Closed) (v : Plain) (c : Tree) → IsTreeOf Lax schema t v c
+    → (d : Tree) × IsOneStrictOf schema t v c d
