@@ -6,3 +6,4 @@ mod Forms
 mod Maps
 mod Values
 mod Ranges
+mod Loose

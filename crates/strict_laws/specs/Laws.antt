@@ -9,6 +9,8 @@ use Rattle.core_form.specs.Closed.{Closed}
 use Rattle.spelling.specs.Spells.{Reading}
 use Rattle.building.specs.Buildable.{IsBuildable, InRange}
 use Rattle.building_laws.specs.Laws.{IsTreeOf}
+use Rattle.tlb_syntax.specs.Tree.{SchemaView}
+use Rattle.accepted_schema.specs.Accepted.{IsAccepted, kept_cores}
 use Rattle.strict_laws.specs.NoLonger.{IsNoLonger}
 
 -- a good tree within the limit of cells that has the reading in mode Whole, and no cell of which is longer
@@ -32,8 +34,27 @@ pub record IsOneStrictOf (schema : CoreSchema) (t : Closed) (v : Plain) (c d : T
   pub strict : IsStrictOf schema t v c d
   pub only : (e : Tree) → IsGood e → Reading Whole schema t e v → e ≡ d
 
--- so it has exactly one
-abbrev pub LaxHasStrict : Type 0
-LaxHasStrict =
+-- so where two constructors of one type are told apart there is exactly one
+abbrev pub LaxHasOneTree : Type 0
+LaxHasOneTree =
     (schema : CoreSchema) → IsBuildable schema → (t : Closed) (v : Plain) (c : Tree) → IsTreeOf Lax schema t v c
     → (d : Tree) × IsOneStrictOf schema t v c d
+
+-- in every accepted schema
+abbrev pub LaxHasStrict : Type 0
+LaxHasStrict =
+    (s : SchemaView) → IsAccepted s → (t : Closed) (v : Plain) (c : Tree) → IsTreeOf Lax (kept_cores s) t v c
+    → (d : Tree) × IsOneStrictOf (kept_cores s) t v c d
+
+-- ---- the other way
+
+-- a reading in mode Whole is one in mode Lax
+abbrev pub WholeIsLax : Type 0
+WholeIsLax =
+    (schema : CoreSchema) (t : Closed) (v : Plain) (c : Tree) → Reading Whole schema t c v → Reading Lax schema t c v
+
+-- so the tree that was found is that of itself
+abbrev pub StrictStays : Type 0
+StrictStays =
+    (schema : CoreSchema) (t : Closed) (v : Plain) (c d : Tree) → IsOneStrictOf schema t v c d
+    → IsTreeOf Lax schema t v d × IsOneStrictOf schema t v d d
