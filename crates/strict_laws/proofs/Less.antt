@@ -11,10 +11,10 @@ use Rattle.cell_nodes.specs.Tree.{Marks, marks, mask, depth, deepest, greatest, 
 use Rattle.cell_nodes.specs.declared.tree.Kind.{Kind}
 use Rattle.cell_nodes.specs.declared.tree.Kind.TheVariants.{Ordinary}
 use Rattle.cell_nodes.specs.declared.tree.Tree.{Tree, out-Tree}
-use Rattle.hashmap_tree.specs.CellLaws.{kind-cell_of, content-cell_of}
-use Rattle.hashmap_tree.specs.Entries.{Slice, content, cell_of}
+use Rattle.hashmap_tree.specs.CellLaws.{content-cell_of}
+use Rattle.hashmap_tree.specs.Entries.{Slice, cell_of}
 use Rattle.hashmap_tree.specs.ExceedsLaws.{good-within}
-use Rattle.strict_laws.specs.NoLonger.{IsNoLonger, no_longer, AreNoLonger, no_trees, more_trees}
+use Rattle.strict_laws.specs.NoLonger.{IsNoLonger, no_longer, AreNoLonger, no_trees, more_trees, no_longer_cell}
 
 -- a good tree that is no longer than another, with its mask, its depths and its number of cells
 pub record Less (u t : Tree) : Type 0 where
@@ -140,20 +140,10 @@ cell_good u s g h =
     let less = h.short in
     good-tree_of Ordinary u.bits u.refs h.bits (omega (arith, short, less)) (omega (arith, few, n)) refl (subst D (sym same) deep) (less_good u.refs s.refs h.refs)
 
-cell_shape : (u s : Slice) → Shorter u s → IsNoLonger (cell_of u) (cell_of s)
-cell_shape u s h =
-    let B : Slice → Slice → Type 0 = λ x y. length x.bits ≤ length y.bits in
-    let R : Slice → Slice → Type 0 = λ x y. AreNoLonger x.refs y.refs in
-    let cu = sym (content-cell_of u) in
-    let cs = sym (content-cell_of s) in
-    no_longer (cell_of u) (cell_of s) (kind-cell_of u ∙ sym (kind-cell_of s))
-    (subst (B (content (cell_of u))) cs (subst (λ (x : Slice). B x s) cu h.short))
-    (subst (R (content (cell_of u))) cs (subst (λ (x : Slice). R x s) cu (less_shape u.refs s.refs h.refs)))
-
 pub less_cell : (u s : Slice) → IsGood (cell_of s) → Shorter u s → Less (cell_of u) (cell_of s)
 less_cell u s g h = record {
   fine = cell_good u s g h;
-  shape = cell_shape u s h;
+  shape = no_longer_cell u s h.short (less_shape u.refs s.refs h.refs);
   same_mask = mask-tree_of Ordinary u.bits u.refs ∙ less_union u.refs s.refs h.refs ∙ sym (mask-tree_of Ordinary s.bits s.refs);
   same_depth = cell_depth u s h.refs;
   same_cells = unfolded-tree_of Ordinary u.bits u.refs ∙ ap (λ (x : ℕ). 1 + x) (less_cells u.refs s.refs h.refs) ∙ sym (unfolded-tree_of Ordinary s.bits s.refs);

@@ -102,8 +102,8 @@ unknown_loosened h _ s outs after e = absurd e
 
 -- ---- maps
 
-label_loosened : (n : ℕ) (l s rest : List ℕ) → IsLabel Required n l s rest → IsLabel Every n l s rest
-label_loosened n l s rest e = (e.0, e.1, tt, e.3)
+label_loosened : (n : ℕ) (l s more : List ℕ) → IsLabel Required n l s more → IsLabel Every n l s more
+label_loosened n l s more e = (e.0, e.1, tt, e.3)
 
 mutual
   tree_loosened : (n : ℕ) (es : Entries) (s : Slice) → DictTree Whole n es s → DictTree Lax n es s

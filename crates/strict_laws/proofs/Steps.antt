@@ -87,7 +87,7 @@ pub bits_parts : (a b : List ℕ) → AreBits (a ++ b) → AreBits a × AreBits 
 bits_parts [] b h = (tt, h)
 bits_parts (x ∷ a) b h = let r = bits_parts a b h.1 in ((h.0, r.0), r.1)
 
-bits_fine : (bits : List ℕ) (before after : Slice) → Then before (only_bits bits) after → Fine before
+pub bits_fine : (bits : List ℕ) (before after : Slice) → Then before (only_bits bits) after → Fine before
     → AreBits bits × Fine after
 bits_fine bits before after e fine =
     let B : List ℕ → Type 0 = λ l. AreBits l in

@@ -32,12 +32,12 @@ mutual
   shape_tightened schema (raw c) = raw_tightened c
   shape_tightened schema (rest s) = rest_tightened s
 
-  all_tightened : (schema : CoreSchema) (vs : Plains) → TightensAll (Each Lax schema vs) (Each Whole schema vs)
+  pub all_tightened : (schema : CoreSchema) (vs : Plains) → TightensAll (Each Lax schema vs) (Each Whole schema vs)
   all_tightened schema no_vals = tt
   all_tightened schema (a_val v vs) =
       (by_shape (SpellsShape Lax schema v) (SpellsShape Whole schema v) (shape_tightened schema v), all_tightened schema vs)
 
-  by_tightened : (schema : CoreSchema) (ps : PlainPairs) → TightensBy (EachPair Lax schema ps) (EachPair Whole schema ps)
+  pub by_tightened : (schema : CoreSchema) (ps : PlainPairs) → TightensBy (EachPair Lax schema ps) (EachPair Whole schema ps)
   by_tightened schema no_pairs = tt
   by_tightened schema (a_pair k v ps) =
       (refl, by_shape (SpellsShape Lax schema v) (SpellsShape Whole schema v) (shape_tightened schema v), by_tightened schema ps)
