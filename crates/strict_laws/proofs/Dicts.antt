@@ -1,9 +1,7 @@
 -- A dictionary's tree in mode Lax, with its labels in their required forms and its contents no longer.
-use Rattle.std.proofs.Common.{◌≡◌, ◌⊎◌, inl, inr, ℕ, suc, ◌+◌, ◌<◌, ◌≤◌, List, [], ◌∷◌, ◌++◌, length, Option, Some, None, refl, sym, ap, ◌∙◌, subst, arith}
-use Rattle.bit_slice.specs.Bits.{AreBits}
+use Rattle.std.proofs.Common.{◌≡◌, inr, ℕ, suc, ◌+◌, ◌<◌, List, [], ◌∷◌, ◌++◌, length, refl, sym, ap, ◌∙◌, subst, arith}
 use Rattle.cell_nodes.specs.Good.{IsGood, AllGood}
 use Rattle.cell_nodes.specs.GoodParts.{all_good-head, all_good-tail}
-use Rattle.cell_nodes.specs.declared.tree.Hidden.{Hidden}
 use Rattle.cell_nodes.specs.declared.tree.Mode.TheVariants.{Whole, Lax}
 use Rattle.cell_nodes.specs.declared.tree.Tree.{Tree}
 use Rattle.hashmap_labels.specs.Labels.{IsLabel}
@@ -13,7 +11,7 @@ use Rattle.hashmap_tree.specs.Entries.{Slice, cell_of, Part, leaf, hidden, Entri
 use Rattle.hashmap_tree.specs.First.{LeafEdge, Fork, forked}
 use Rattle.hashmap_tree.specs.OnceLaws.{good-both}
 use Rattle.strict_laws.proofs.Less.{Less, AllLess, Fine, Shorter, less_cell, good_fine}
-use Rattle.strict_laws.proofs.Labels.{Relabelled, relabel, label_parts}
+use Rattle.strict_laws.proofs.Labels.{relabel, label_parts}
 use Rattle.strict_laws.proofs.Steps.{MovesAlike, Stretch, Tightened}
 
 -- ---- entries with the same keys whose contents are no longer
@@ -145,9 +143,11 @@ shorten_leaf : (n : ℕ) (us : Entries) (s c d : Slice) (k : List ℕ) → us �
 shorten_leaf n us s c d k same long label refs fine h =
     let r = relabel n k s.bits c.bits d.bits label fine.bits h.bits h.short in
     let t : Slice = record { bits = r.start; refs = d.refs } in
-    let R : List Tree → Type 0 = λ ts. AllLess d.refs ts in
-    (t, one Whole n us t k d same long r.label refl,
-      record { bits = r.bits; short = r.short; refs = subst R (sym refs) h.refs })
+    let R : List Tree → Type 0 = λ ts. AllLess d.refs ts in (
+      t,
+      one Whole n us t k d same long r.label refl,
+      record { bits = r.bits; short = r.short; refs = subst R (sym refs) h.refs },
+    )
 
 shorten_fork : (n : ℕ) (us : Entries) (s : Slice) (p : List ℕ) (m : ℕ) (vs ws : Entries) (z o : Tree)
     → us ≡ fork p vs ws → n ≡ length p + suc m → IsLabel Every n p s.bits [] → s.refs ≡ z ∷ (o ∷ []) → Fine s
@@ -156,9 +156,11 @@ shorten_fork n us s p m vs ws z o same long label refs fine a b =
     let r = relabel n p s.bits [] [] label fine.bits tt (omega arith) in
     let t : Slice = record { bits = r.start; refs = a.0 ∷ (b.0 ∷ []) } in
     let R : List Tree → Type 0 = λ ts. AllLess (a.0 ∷ (b.0 ∷ [])) ts in
-    let both : AllLess (a.0 ∷ (b.0 ∷ [])) (z ∷ (o ∷ [])) = (a.2, (b.2, tt)) in
-    (t, two Whole n us t p m vs ws a.0 b.0 same long r.label refl a.1 b.1,
-      record { bits = r.bits; short = r.short; refs = subst R (sym refs) both })
+    let both : AllLess (a.0 ∷ (b.0 ∷ [])) (z ∷ (o ∷ [])) = (a.2, (b.2, tt)) in (
+      t,
+      two Whole n us t p m vs ws a.0 b.0 same long r.label refl a.1 b.1,
+      record { bits = r.bits; short = r.short; refs = subst R (sym refs) both },
+    )
 
 mutual
   pub shorten : (n : ℕ) (es : Entries) (s : Slice) → DictTree Lax n es s → Fine s → (us : Entries)
@@ -188,16 +190,16 @@ pub leaf_tightened : (n : ℕ) (k : List ℕ) (before middle : Slice) → LeafEd
 leaf_tightened n k before middle e fine = record {
   fine = after_label n k before middle e.label e.refs fine;
   strict = λ end h.
-    let r = relabel n k before.bits middle.bits end.bits e.label fine.bits h.bits h.short in
-    let R : List Tree → Type 0 = λ ts. AllLess end.refs ts in
-    let refs = ap (length {A = Tree}) e.refs in
-    let a = r.takes in
-    let b = r.takes_now in record {
-      start = record { bits = r.start; refs = end.refs };
-      spelled = record { long = e.long; label = r.label; refs = refl };
-      shorter = record { bits = r.bits; short = r.short; refs = subst R (sym e.refs) h.refs };
-      alike = inr (omega (arith, a, refs), omega (arith, b));
-    };
+      let r = relabel n k before.bits middle.bits end.bits e.label fine.bits h.bits h.short in
+      let R : List Tree → Type 0 = λ ts. AllLess end.refs ts in
+      let refs = ap (length {A = Tree}) e.refs in
+      let a = r.takes in
+      let b = r.takes_now in record {
+        start = record { bits = r.start; refs = end.refs };
+        spelled = record { long = e.long; label = r.label; refs = refl };
+        shorter = record { bits = r.bits; short = r.short; refs = subst R (sym e.refs) h.refs };
+        alike = inr (omega (arith, a, refs), omega (arith, b));
+      };
 }
 
 -- what a fork leaves, and its contents
@@ -209,12 +211,13 @@ fork_fine n es before after (forked p m zs os z o same long label refs dz do_) f
     let g : AllGood (z ∷ (o ∷ after.refs)) = subst R refs fine.refs in
     let gz = all_good-head z (o ∷ after.refs) g in
     let t = all_good-tail z (o ∷ after.refs) g in
-    let go = all_good-head o after.refs t in
-    (subst P (sym same) (fine_fork p zs os (branch_fine m zs z dz gz) (branch_fine m os o do_ go)),
+    let go = all_good-head o after.refs t in (
+      subst P (sym same) (fine_fork p zs os (branch_fine m zs z dz gz) (branch_fine m os o do_ go)),
       record {
         bits = (label_parts n p before.bits after.bits label fine.bits).1;
         refs = all_good-tail o after.refs t;
-      })
+      },
+    )
 
 fork_moves : (before after start end : Slice) (z o x y : Tree) → before.refs ≡ z ∷ (o ∷ after.refs)
     → start.refs ≡ x ∷ (y ∷ end.refs) → length after.bits < length before.bits → length end.bits < length start.bits

@@ -1,5 +1,5 @@
 -- What each form of a value takes in mode Lax, and then in mode Whole of a slice that is no longer.
-use Rattle.std.proofs.Common.{◌≡◌, ◌⊎◌, inl, inr, ℕ, zero, suc, ◌+◌, ◌<◌, ◌≤◌, Bool, true, false, List, [], ◌∷◌, ◌++◌, length, Option, Some, None, Ok, refl, sym, ap, ◌∙◌, subst, arith}
+use Rattle.std.proofs.Common.{◌≡◌, inl, inr, ℕ, zero, suc, Bool, true, List, [], ◌∷◌, length, refl, sym, subst, arith}
 use Rattle.bit_slice.specs.Bits.{spelled, signed_spelled}
 use Rattle.cell_nodes.specs.Good.{IsGood, AllGood, none, more}
 use Rattle.cell_nodes.specs.declared.tree.Hidden.{Hidden}
@@ -9,16 +9,13 @@ use Rattle.core_form.specs.Core.{Word, Items, no_items, an_item, check, solve, f
 use Rattle.core_form.specs.Closed.{Closed}
 use Rattle.core_form.specs.Closed as closed
 use Rattle.core_form.specs.Scope.{Scope, with_number, bind}
-use Rattle.hashmap_tree.specs.Dict.{Branch}
-use Rattle.hashmap_tree.specs.Entries.{Slice, cell_of, Then, leaf, hidden, Entries, pairs_in, hidden_in}
-use Rattle.hashmap_tree.specs.First.{LeafEdge, Fork}
+use Rattle.hashmap_tree.specs.Entries.{Slice, cell_of, Then}
 use Rattle.spelling.specs.Goals.{Row, natural, integer, string, no_row, row, Goal, at_type, at_field, at_cell, Shape, typed, fields_here, fields_under, left_out, as_cell, at_fields, under_ref}
-use Rattle.spelling.specs.Slices.{nothing, only_bits, only_ref, took, kept}
-use Rattle.spelling.specs.Spells.{Meaning, Meanings, no_meanings, a_meaning, Keyed, no_keyed, a_keyed, SpellsNumber, SpellsString, AtRow, Fields, SpellsDeclared, SpellsInner, SpellsAbsent, Repeats, SpellsList, Holds, SpellsChild, SpellsRef, SpellsUnknown, SpellsRaw, SpellsRest, Contents, EntriesHold, InPlace, SpellsDict, IsEmpty, SpellsDictE, no_entries, some_entries, SpellsMap, ByShape}
+use Rattle.spelling.specs.Slices.{nothing, only_bits, only_ref, took}
+use Rattle.spelling.specs.Spells.{Meaning, Meanings, no_meanings, a_meaning, Keyed, no_keyed, a_keyed, SpellsNumber, SpellsString, AtRow, Fields, SpellsDeclared, SpellsInner, SpellsAbsent, Repeats, SpellsList, Holds, SpellsChild, SpellsRef, SpellsUnknown, SpellsRaw, SpellsRest, ByShape}
 use Rattle.typed_value.specs.Values as values
 use Rattle.strict_laws.proofs.Less.{Less, Fine, Shorter, less_self, less_cell, good_fine, shorter_self}
-use Rattle.strict_laws.proofs.Steps.{weight, MovesAlike, Stretch, Tightened, tightened_then, tightened_as, tightened_none, tightened_bits, bits_and_ref, RefWith, tightened_ref, ref_fine, only_nothing, shorter_nothing, only_one, takes_alike}
-use Rattle.strict_laws.proofs.Dicts.{EntriesLess, AllFine, leaf_tightened, fork_fine, fork_tightened, branch_fine, shorten_cell}
+use Rattle.strict_laws.proofs.Steps.{weight, MovesAlike, Tightened, tightened_then, tightened_as, tightened_none, tightened_bits, RefWith, tightened_ref, ref_fine, only_nothing, shorter_nothing, only_one, takes_alike}
 
 -- ---- meanings
 
@@ -140,12 +137,12 @@ takes_tightened : (V : Slice → Slice → Type 0) (before after : Slice) → to
 takes_tightened V before after t r = record {
   fine = r.fine;
   strict = λ end h.
-    let k = r.strict end h in record {
-      start = k.start;
-      spelled = (k.spelled, takes_alike before after k.start end k.alike t);
-      shorter = k.shorter;
-      alike = k.alike;
-    };
+      let k = r.strict end h in record {
+        start = k.start;
+        spelled = (k.spelled, takes_alike before after k.start end k.alike t);
+        shorter = k.shorter;
+        alike = k.alike;
+      };
 }
 
 repeats_tightened : (Ls Ws : Meanings) → TightensAll Ls Ws → (n : ℕ) (t : Closed) (before after : Slice)
@@ -263,14 +260,14 @@ rest_tightened s (typed closed.whole) before outs after e fine =
     let empty : Fine nothing = record { bits = tt; refs = none } in record {
       fine = subst F (sym e.2) empty;
       strict = λ end h.
-        let S : Slice → Type 0 = λ x. Shorter end x in
-        let last = only_nothing end (subst S e.2 h) in
-        let M : Slice → Type 0 = λ x. MovesAlike before x before nothing in
-        let N : Slice → Type 0 = λ x. MovesAlike before after before x in record {
-          start = before;
-          spelled = (e.0, e.1, last);
-          shorter = shorter_self before fine;
-          alike = subst N (sym last) (subst M (sym e.2) (rest_alike before));
-        };
+          let S : Slice → Type 0 = λ x. Shorter end x in
+          let last = only_nothing end (subst S e.2 h) in
+          let M : Slice → Type 0 = λ x. MovesAlike before x before nothing in
+          let N : Slice → Type 0 = λ x. MovesAlike before after before x in record {
+            start = before;
+            spelled = (e.0, e.1, last);
+            shorter = shorter_self before fine;
+            alike = subst N (sym last) (subst M (sym e.2) (rest_alike before));
+          };
     }
 rest_tightened s _ before outs after e fine = absurd e

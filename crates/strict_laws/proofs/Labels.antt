@@ -1,7 +1,7 @@
 -- A label in its required form is no longer than in any other.
-use Rattle.std.proofs.Common.{◌≡◌, ℕ, ◌+◌, ◌<◌, ◌≤◌, List, length, refl, arith}
+use Rattle.std.proofs.Common.{◌≡◌, ℕ, ◌<◌, ◌≤◌, List, length, arith}
 use Rattle.bit_slice.specs.Bits.{AreBits, bit_length}
-use Rattle.hashmap_labels.specs.Labels.{IsForm, IsLabel, required_form}
+use Rattle.hashmap_labels.specs.Labels.{IsLabel, required_form}
 use Rattle.hashmap_labels.specs.SpellingLaws.{has_spelling, has_size, is_best, label_bits, size}
 use Rattle.hashmap_labels.specs.declared.forms.LabelForm.{LabelForm}
 use Rattle.hashmap_labels.specs.declared.forms.LabelForm.TheVariants.{Short, Long, Same}

@@ -7,8 +7,7 @@ use Rattle.cell_nodes.specs.Equations.{mask-tree_of, depth-tree_of, unfolded-tre
 use Rattle.cell_nodes.specs.Good.{IsGood, good, AllGood, none, more}
 use Rattle.cell_nodes.specs.GoodParts.{good-sound, good-tree_of, all_good-head, all_good-tail}
 use Rattle.cell_nodes.specs.Levels.{levels}
-use Rattle.cell_nodes.specs.Tree.{Marks, marks, mask, depth, deepest, greatest, union, union_of, depth_over, computed_depth, level_below, IsShallow, unfolded, total}
-use Rattle.cell_nodes.specs.declared.tree.Kind.{Kind}
+use Rattle.cell_nodes.specs.Tree.{Marks, marks, mask, depth, deepest, greatest, union, union_of, depth_over, computed_depth, level_below, unfolded, total}
 use Rattle.cell_nodes.specs.declared.tree.Kind.TheVariants.{Ordinary}
 use Rattle.cell_nodes.specs.declared.tree.Tree.{Tree, out-Tree}
 use Rattle.hashmap_tree.specs.CellLaws.{content-cell_of}

@@ -14,7 +14,7 @@ use Rattle.hashmap_tree.specs.Entries.{Slice, Entries, pairs_in}
 use Rattle.hashmap_tree.specs.First.{LeafEdge, Fork, forked}
 use Rattle.spelling.specs.Goals.{Goal, at_type, at_field, at_cell, Shape, typed, fields_here, fields_under, at_fields, under_ref}
 use Rattle.spelling.specs.Slices.{nothing, only_ref}
-use Rattle.spelling.specs.Spells.{Meaning, Meanings, no_meanings, a_meaning, Keyed, no_keyed, a_keyed, Fields, SpellsDeclared, SpellsInner, Repeats, SpellsList, Holds, SpellsChild, SpellsRef, SpellsUnknown, Contents, EntriesHold, InPlace, SpellsDict, IsEmpty, SpellsDictE, no_entries, some_entries, SpellsMap, Spells, SpellsShape, Each, EachPair, IsRootOf, Reading}
+use Rattle.spelling.specs.Spells.{Meaning, Meanings, no_meanings, a_meaning, Keyed, no_keyed, a_keyed, Fields, SpellsDeclared, SpellsInner, Repeats, SpellsList, Holds, SpellsChild, SpellsRef, SpellsUnknown, Contents, InPlace, SpellsDict, IsEmpty, SpellsDictE, no_entries, some_entries, SpellsMap, Spells, SpellsShape, Each, EachPair, IsRootOf}
 use Rattle.typed_value.specs.Values.{Plain, Plains, PlainPairs, number, bit_string, record_of, absent, list_of, ref_to, unknown, map_of, raw, rest, no_vals, a_val, no_pairs, a_pair}
 use Rattle.strict_laws.specs.Laws.{WholeIsLax}
 use Rattle.strict_laws.proofs.Forms.{anywhere}
@@ -49,9 +49,12 @@ fields_loosened (an_item (solve v a b i) is) Ws Ls r scope s end after e =
     (e.0, e.1, fields_loosened is Ws Ls r (with_number v e.0 scope) s end after e.2)
 fields_loosened (an_item (field x slot c t) is) no_meanings Ls r scope s end after e = absurd e
 fields_loosened (an_item (field x slot c t) is) (a_meaning W Ws) no_meanings r scope s end after e = absurd r
-fields_loosened (an_item (field x slot c t) is) (a_meaning W Ws) (a_meaning L Ls) r scope s end after e =
-    (e.0, e.1, r.0 (at_field c t scope) s e.0 e.1 e.2,
-      fields_loosened is Ws Ls r.1 (bind (sets slot t) e.0 scope) e.1 end after e.3)
+fields_loosened (an_item (field x slot c t) is) (a_meaning W Ws) (a_meaning L Ls) r scope s end after e = (
+  e.0,
+  e.1,
+  r.0 (at_field c t scope) s e.0 e.1 e.2,
+  fields_loosened is Ws Ls r.1 (bind (sets slot t) e.0 scope) e.1 end after e.3,
+)
 
 declared_loosened : (schema : CoreSchema) (name : Word) (names : List Word) (Ws Ls : Meanings) → LoosensAll Ws Ls
     → (c : Shape) (s : Slice) (outs : List ℕ) (after : Slice) → SpellsDeclared schema name names Ws c s outs after

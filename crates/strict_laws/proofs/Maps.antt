@@ -1,19 +1,18 @@
 -- What a map takes in mode Lax, and then in mode Whole of a slice that is no longer.
-use Rattle.std.proofs.Common.{◌≡◌, ◌⊎◌, inl, inr, ℕ, List, [], ◌∷◌, refl, sym, ap, ◌∙◌, subst}
-use Rattle.cell_nodes.specs.Good.{IsGood}
+use Rattle.std.proofs.Common.{inl, inr, ℕ, List, [], ◌∷◌, refl, ◌∙◌, subst}
 use Rattle.cell_nodes.specs.declared.tree.Hidden.{Hidden}
 use Rattle.cell_nodes.specs.declared.tree.Mode.TheVariants.{Whole, Lax}
 use Rattle.cell_nodes.specs.declared.tree.Tree.{Tree}
 use Rattle.core_form.specs.Closed.{Closed}
 use Rattle.core_form.specs.Closed as closed
 use Rattle.hashmap_tree.specs.Dict.{Branch}
-use Rattle.hashmap_tree.specs.Entries.{Slice, Then, leaf, hidden, Entries, pairs_in, hidden_in}
+use Rattle.hashmap_tree.specs.Entries.{Slice, Then, leaf, hidden, Entries}
 use Rattle.hashmap_tree.specs.First.{LeafEdge, Fork}
 use Rattle.spelling.specs.Goals.{at_type, typed}
 use Rattle.spelling.specs.Slices.{nothing, only_bits}
-use Rattle.spelling.specs.Spells.{Keyed, no_keyed, a_keyed, Contents, EntriesHold, InPlace, SpellsDict, IsEmpty, SpellsDictE, no_entries, some_entries, SpellsMap}
+use Rattle.spelling.specs.Spells.{Keyed, no_keyed, a_keyed, EntriesHold, InPlace, SpellsDict, IsEmpty, SpellsDictE, no_entries, some_entries, SpellsMap}
 use Rattle.strict_laws.proofs.Less.{Fine}
-use Rattle.strict_laws.proofs.Steps.{Tightened, tightened_then, tightened_as, tightened_bits, bits_and_ref, RefWith, tightened_ref, ref_fine, shorter_nothing}
+use Rattle.strict_laws.proofs.Steps.{Tightened, tightened_then, tightened_as, tightened_bits, RefWith, tightened_ref, ref_fine, shorter_nothing}
 use Rattle.strict_laws.proofs.Dicts.{EntriesLess, AllFine, leaf_tightened, fork_fine, fork_tightened, branch_fine, shorten_cell}
 use Rattle.strict_laws.proofs.Forms.{TightensBy, TightensAt, anywhere}
 

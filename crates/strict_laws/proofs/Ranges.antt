@@ -1,5 +1,5 @@
 -- A value that is read of a good tree in mode Lax is in range.
-use Rattle.std.proofs.Common.{◌≡◌, ◌⊎◌, inl, inr, ℕ, Bool, List, [], ◌∷◌, Option, Some, None, refl, sym, ap, subst}
+use Rattle.std.proofs.Common.{inl, inr, ℕ, List, [], ◌∷◌, Some, None, sym, subst}
 use Rattle.bit_slice.specs.Bits.{AreBits}
 use Rattle.building.specs.Buildable.{InRange, AllInRange, PairsInRange, AreHashes}
 use Rattle.cell_nodes.specs.Good.{IsGood, AllGood, none, more}
@@ -10,18 +10,17 @@ use Rattle.core_form.specs.Core.{Word, Items, no_items, an_item, check, solve, f
 use Rattle.core_form.specs.Closed.{Closed}
 use Rattle.core_form.specs.Closed as closed
 use Rattle.core_form.specs.Scope.{Scope, with_number, bind}
-use Rattle.hashmap_tree.specs.Entries.{Slice, cell_of, leaf, hidden, Entries, pairs_in, hidden_in}
-use Rattle.hashmap_tree.specs.First.{LeafEdge}
-use Rattle.spelling.specs.Goals.{Row, natural, integer, string, no_row, row, Goal, at_type, at_field, at_cell, Shape, typed, fields_here, fields_under, left_out, as_cell, at_fields, under_ref}
+use Rattle.hashmap_tree.specs.Entries.{Slice, leaf, hidden, Entries}
+use Rattle.spelling.specs.Goals.{Row, natural, integer, string, no_row, row, Goal, at_type, at_field, at_cell, Shape, typed, fields_here, fields_under, as_cell, at_fields, under_ref}
 use Rattle.spelling.specs.Slices.{nothing, only_ref}
-use Rattle.spelling.specs.Spells.{Meaning, Meanings, no_meanings, a_meaning, Keyed, no_keyed, a_keyed, SpellsNumber, SpellsString, AtRow, Fields, SpellsDeclared, SpellsInner, Repeats, SpellsList, Holds, SpellsChild, SpellsRef, SpellsUnknown, SpellsRaw, SpellsRest, Contents, EntriesHold, InPlace, SpellsDict, IsEmpty, SpellsDictE, no_entries, some_entries, SpellsMap, ByShape, Spells, SpellsShape, Each, EachPair, IsRootOf}
+use Rattle.spelling.specs.Spells.{Meaning, Meanings, no_meanings, a_meaning, Keyed, no_keyed, a_keyed, SpellsString, AtRow, Fields, SpellsDeclared, SpellsInner, Repeats, SpellsList, Holds, SpellsRef, SpellsUnknown, SpellsRaw, SpellsRest, EntriesHold, InPlace, SpellsDict, IsEmpty, SpellsDictE, no_entries, some_entries, SpellsMap, Spells, SpellsShape, Each, EachPair, IsRootOf}
 use Rattle.typed_value.specs.Values as values
 use Rattle.typed_value.specs.Values.{Plain, Plains, PlainPairs, number, bit_string, record_of, absent, list_of, ref_to, unknown, map_of, raw, rest, no_vals, a_val, no_pairs, a_pair}
 use Rattle.strict_laws.proofs.Less.{Fine, good_fine}
 use Rattle.strict_laws.proofs.Steps.{bits_fine, ref_fine}
 use Rattle.strict_laws.proofs.Dicts.{AllFine, leaf_tightened, fork_fine, branch_fine}
-use Rattle.strict_laws.proofs.Forms.{TightensAll, TightensBy, anywhere}
-use Rattle.strict_laws.proofs.Values.{all_tightened, by_tightened}
+use Rattle.strict_laws.proofs.Forms.{TightensAll, anywhere}
+use Rattle.strict_laws.proofs.Values.{all_tightened}
 
 -- a value with this meaning is in range
 abbrev pub Ranges : Meaning → Plain → Type 0
@@ -67,9 +66,10 @@ fields_range (an_item (field x slot c t) is) no_meanings Ws r vs q scope before 
 fields_range (an_item (field x slot c t) is) (a_meaning L Ls) no_meanings r vs q scope before end after e fine = absurd r
 fields_range (an_item (field x slot c t) is) (a_meaning L Ls) (a_meaning W Ws) r no_vals q scope before end after e fine = absurd q
 fields_range (an_item (field x slot c t) is) (a_meaning L Ls) (a_meaning W Ws) r (a_val v vs) q scope before end after e fine =
-    let one = r.0 (at_field c t scope) before e.0 e.1 e.2 fine in
-    (q.0 (at_field c t scope) before e.0 e.1 e.2 fine,
-      fields_range is Ls Ws r.1 vs q.1 (bind (sets slot t) e.0 scope) e.1 end after e.3 one.fine)
+    let one = r.0 (at_field c t scope) before e.0 e.1 e.2 fine in (
+      q.0 (at_field c t scope) before e.0 e.1 e.2 fine,
+      fields_range is Ls Ws r.1 vs q.1 (bind (sets slot t) e.0 scope) e.1 end after e.3 one.fine,
+    )
 
 declared_range : (schema : CoreSchema) (name : Word) (names : List Word) (Ls Ws : Meanings) → TightensAll Ls Ws
     → (vs : Plains) → RangesAll Ls vs → (c : Shape) (before : Slice) (outs : List ℕ) (after : Slice)

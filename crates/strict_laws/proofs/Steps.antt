@@ -1,5 +1,5 @@
 -- What is taken of a slice, in mode Lax and then in mode Whole of a slice that is no longer.
-use Rattle.std.proofs.Common.{◌≡◌, ◌⊎◌, inl, inr, ℕ, zero, suc, ◌+◌, ◌<◌, ◌≤◌, Bool, true, false, ◌||◌, nat_lt, List, [], ◌∷◌, ◌++◌, length, refl, sym, ap, ◌∙◌, subst, arith, length-append}
+use Rattle.std.proofs.Common.{◌≡◌, ◌⊎◌, inl, inr, ℕ, ◌+◌, ◌<◌, ◌≤◌, Bool, true, false, ◌||◌, nat_lt, List, [], ◌∷◌, ◌++◌, length, refl, sym, ap, ◌∙◌, subst, arith, length-append}
 use Rattle.std.proofs.lemmas.Bool.{ltb-true, ltb-false}
 use Rattle.bit_slice.specs.Bits.{AreBits}
 use Rattle.bit_slice.specs.BitLists.{AreBits-append}
@@ -8,7 +8,7 @@ use Rattle.cell_nodes.specs.GoodParts.{all_good-head, all_good-tail}
 use Rattle.cell_nodes.specs.declared.tree.Tree.{Tree}
 use Rattle.hashmap_tree.specs.Entries.{Slice, Then}
 use Rattle.spelling.specs.Slices.{nothing, only_bits, only_ref, took}
-use Rattle.strict_laws.proofs.Less.{Less, AllLess, Fine, Shorter, less_count}
+use Rattle.strict_laws.proofs.Less.{Less, AllLess, Fine, Shorter}
 
 -- how many bits and references there are
 abbrev pub weight : Slice → ℕ
@@ -52,13 +52,13 @@ pub tightened_then : (V W : Slice → Slice → Type 0) (before middle after : S
 tightened_then V W before middle after first second = record {
   fine = second.fine;
   strict = λ end h.
-    let w = second.strict end h in
-    let v = first.strict w.start w.shorter in record {
-      start = v.start;
-      spelled = (w.start, v.spelled, w.spelled);
-      shorter = v.shorter;
-      alike = moves_then before middle after v.start w.start end v.alike w.alike;
-    };
+      let w = second.strict end h in
+      let v = first.strict w.start w.shorter in record {
+        start = v.start;
+        spelled = (w.start, v.spelled, w.spelled);
+        shorter = v.shorter;
+        alike = moves_then before middle after v.start w.start end v.alike w.alike;
+      };
 }
 
 pub tightened_as : (V W : Slice → Slice → Type 0) (before after : Slice) → ((b a : Slice) → V b a → W b a)
@@ -66,8 +66,8 @@ pub tightened_as : (V W : Slice → Slice → Type 0) (before after : Slice) →
 tightened_as V W before after f r = record {
   fine = r.fine;
   strict = λ end h.
-    let v = r.strict end h in
-    record { start = v.start; spelled = f v.start end v.spelled; shorter = v.shorter; alike = v.alike };
+      let v = r.strict end h in
+      record { start = v.start; spelled = f v.start end v.spelled; shorter = v.shorter; alike = v.alike };
 }
 
 -- ---- nothing is taken
@@ -77,8 +77,8 @@ tightened_none before after e fine =
     let P : Slice → Type 0 = λ s. Fine s in record {
       fine = subst P (sym e) fine;
       strict = λ end h.
-        let Q : Slice → Type 0 = λ s. Shorter end s in
-        record { start = end; spelled = refl; shorter = subst Q e h; alike = inl (sym e, refl) };
+          let Q : Slice → Type 0 = λ s. Shorter end s in
+          record { start = end; spelled = refl; shorter = subst Q e h; alike = inl (sym e, refl) };
     }
 
 -- ---- bits are taken
@@ -113,18 +113,18 @@ tightened_bits bits before after e fine =
     let k = length-append bits after.bits in record {
       fine = f.1;
       strict = λ end h.
-        let R : List Tree → Type 0 = λ ts. AllLess end.refs ts in
-        let j = length-append bits end.bits in
-        let less = h.short in record {
-          start = record { bits = bits ++ end.bits; refs = end.refs };
-          spelled = record { bits = refl; refs = refl };
-          shorter = record {
-            bits = AreBits-append bits end.bits f.0 h.bits;
-            short = omega (arith, l, k, j, less);
-            refs = subst R (sym e.refs) h.refs;
+          let R : List Tree → Type 0 = λ ts. AllLess end.refs ts in
+          let j = length-append bits end.bits in
+          let less = h.short in record {
+            start = record { bits = bits ++ end.bits; refs = end.refs };
+            spelled = record { bits = refl; refs = refl };
+            shorter = record {
+              bits = AreBits-append bits end.bits f.0 h.bits;
+              short = omega (arith, l, k, j, less);
+              refs = subst R (sym e.refs) h.refs;
+            };
+            alike = bits_alike bits before after end e;
           };
-          alike = bits_alike bits before after end e;
-        };
     }
 
 -- ---- bits and a reference are taken
@@ -155,19 +155,19 @@ tightened_ref P bits c d before after e fine p less =
     let k = length-append bits after.bits in record {
       fine = f.2;
       strict = λ end h.
-        let R : List Tree → Type 0 = λ ts. AllLess (d ∷ end.refs) ts in
-        let j = length-append bits end.bits in
-        let short = h.short in
-        let both : AllLess (d ∷ end.refs) (c ∷ after.refs) = (less, h.refs) in record {
-          start = record { bits = bits ++ end.bits; refs = d ∷ end.refs };
-          spelled = (d, record { bits = refl; refs = refl }, p);
-          shorter = record {
-            bits = AreBits-append bits end.bits f.0 h.bits;
-            short = omega (arith, l, k, j, short);
-            refs = subst R (sym e.refs) both;
+          let R : List Tree → Type 0 = λ ts. AllLess (d ∷ end.refs) ts in
+          let j = length-append bits end.bits in
+          let short = h.short in
+          let both : AllLess (d ∷ end.refs) (c ∷ after.refs) = (less, h.refs) in record {
+            start = record { bits = bits ++ end.bits; refs = d ∷ end.refs };
+            spelled = (d, record { bits = refl; refs = refl }, p);
+            shorter = record {
+              bits = AreBits-append bits end.bits f.0 h.bits;
+              short = omega (arith, l, k, j, short);
+              refs = subst R (sym e.refs) both;
+            };
+            alike = inr (omega (arith, l, r, k), omega (arith, j));
           };
-          alike = inr (omega (arith, l, r, k), omega (arith, j));
-        };
     }
 
 -- ---- what is as long as nothing, or as one reference

@@ -1,17 +1,15 @@
 -- What spells a value in mode Lax can be made to spell it in mode Whole, no longer.
-use Rattle.std.proofs.Common.{◌≡◌, ◌⊎◌, inl, inr, ℕ, ◌≤◌, List, Some, None, refl, sym, ap, subst}
+use Rattle.std.proofs.Common.{inl, inr, ℕ, ◌≤◌, Some, None, refl, sym, subst}
 use Rattle.cell_nodes.specs.Good.{IsGood}
 use Rattle.cell_nodes.specs.declared.tree.Mode.TheVariants.{Whole, Lax}
 use Rattle.cell_nodes.specs.declared.tree.Tree.{Tree}
 use Rattle.core_form.specs.Core.{CoreSchema}
 use Rattle.core_form.specs.Closed.{Closed}
-use Rattle.building_laws.specs.Laws.{IsTreeOf}
 use Rattle.building.specs.PlainBuilder.{most_cells}
 use Rattle.spelling.specs.Goals.{under_ref}
-use Rattle.spelling.specs.Spells.{Spells, SpellsShape, Each, EachPair, Holds, IsRootOf, Reading}
+use Rattle.spelling.specs.Spells.{Spells, SpellsShape, Each, EachPair, IsRootOf}
 use Rattle.typed_value.specs.Values.{Plain, Plains, PlainPairs, number, bit_string, record_of, absent, list_of, ref_to, unknown, map_of, raw, rest, no_vals, a_val, no_pairs, a_pair}
-use Rattle.strict_laws.specs.Laws.{IsStrictOf, LaxHasTree}
-use Rattle.strict_laws.proofs.Less.{Less}
+use Rattle.strict_laws.specs.Laws.{LaxHasTree}
 use Rattle.strict_laws.proofs.Forms.{Tightens, TightensAll, TightensBy, TightensAt, by_shape, number_tightened, string_tightened, declared_tightened, inner_tightened, absent_tightened, list_tightened, HeldLess, holds_tightened, ref_tightened, unknown_tightened, raw_tightened, rest_tightened}
 use Rattle.strict_laws.proofs.Maps.{map_tightened}
 
@@ -66,12 +64,14 @@ root_tightened schema t (rest r) c (inr e) g = absurd e
 pub lax_has_tree : LaxHasTree
 lax_has_tree schema t v c e =
     let k = root_tightened schema t v c e.reading.root e.good in
-    let S : ℕ → Type 0 = λ n. n ≤ most_cells in
-    (k.0, record {
-      tree = record {
-        good = k.2.fine;
-        reading = record { root = inl k.1; deep = e.reading.deep; large = e.reading.large };
-        small = subst S (sym k.2.same_cells) e.small;
-      };
-      shape = k.2.shape;
-    })
+    let S : ℕ → Type 0 = λ n. n ≤ most_cells in (
+      k.0,
+      record {
+        tree = record {
+          good = k.2.fine;
+          reading = record { root = inl k.1; deep = e.reading.deep; large = e.reading.large };
+          small = subst S (sym k.2.same_cells) e.small;
+        };
+        shape = k.2.shape;
+      },
+    )

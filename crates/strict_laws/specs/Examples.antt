@@ -1,6 +1,6 @@
 -- Worked cases: a map of the key 00 of two bits, whose label stands in the form of equal bits, which is required, or in
 -- the short form, which is a bit longer.
-use Rattle.std.specs.Prelude.{ℕ, ◌≤◌, List, [], ◌∷◌, length}
+use Rattle.std.specs.Prelude.{ℕ, ◌≤◌, List, [], ◌∷◌}
 use Rattle.std.proofs.Common.{arith}
 use Rattle.cell_nodes.specs.declared.tree.Tree.{Tree}
 use Rattle.hashmap_tree.specs.Entries.{cell_of}
