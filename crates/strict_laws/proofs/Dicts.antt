@@ -46,7 +46,10 @@ fine_append [] es h k = k
 fine_append (d ∷ ds) es h k = (h.0, fine_append ds es h.1 k)
 
 fine_fork : (p : List ℕ) (zs os : Entries) → AllFine zs → AllFine os → AllFine (fork p zs os)
-fine_fork p zs os h k = fine_append (under (p ++ 0 ∷ []) zs) (under (p ++ 1 ∷ []) os) (fine_under (p ++ 0 ∷ []) zs h) (fine_under (p ++ 1 ∷ []) os k)
+fine_fork p zs os h k =
+    let zeros = fine_under (p ++ 0 ∷ []) zs h in
+    let ones = fine_under (p ++ 1 ∷ []) os k in
+    fine_append (under (p ++ 0 ∷ []) zs) (under (p ++ 1 ∷ []) os) zeros ones
 
 -- ---- taken apart
 

@@ -10,12 +10,16 @@ use Rattle.core_form.specs.Closed.{Closed}
 use Rattle.core_form.specs.Closed as closed
 use Rattle.core_form.specs.Scope.{Scope, with_number, bind}
 use Rattle.hashmap_tree.specs.Entries.{Slice, cell_of, Then}
-use Rattle.spelling.specs.Goals.{Row, natural, integer, string, no_row, row, Goal, at_type, at_field, at_cell, Shape, typed, fields_here, fields_under, left_out, as_cell, at_fields, under_ref}
+use Rattle.spelling.specs.Goals.{Row, natural, integer, string, no_row, row, Goal, at_type, at_field, at_cell, Shape, typed}
+use Rattle.spelling.specs.Goals.{fields_here, fields_under, left_out, as_cell, at_fields, under_ref}
 use Rattle.spelling.specs.Slices.{nothing, only_bits, only_ref, took}
-use Rattle.spelling.specs.Spells.{Meaning, Meanings, no_meanings, a_meaning, Keyed, no_keyed, a_keyed, SpellsNumber, SpellsString, AtRow, Fields, SpellsDeclared, SpellsInner, SpellsAbsent, Repeats, SpellsList, Holds, SpellsChild, SpellsRef, SpellsUnknown, SpellsRaw, SpellsRest, ByShape}
+use Rattle.spelling.specs.Spells.{Meaning, Meanings, no_meanings, a_meaning, Keyed, no_keyed, a_keyed, SpellsNumber, SpellsString}
+use Rattle.spelling.specs.Spells.{AtRow, Fields, SpellsDeclared, SpellsInner, SpellsAbsent, Repeats, SpellsList, Holds}
+use Rattle.spelling.specs.Spells.{SpellsChild, SpellsRef, SpellsUnknown, SpellsRaw, SpellsRest, ByShape}
 use Rattle.typed_value.specs.Values as values
 use Rattle.strict_laws.proofs.Less.{Less, Fine, Shorter, less_self, less_cell, good_fine, shorter_self}
-use Rattle.strict_laws.proofs.Steps.{weight, MovesAlike, Tightened, tightened_then, tightened_as, tightened_none, tightened_bits, RefWith, tightened_ref, ref_fine, only_nothing, shorter_nothing, only_one, takes_alike}
+use Rattle.strict_laws.proofs.Steps.{weight, MovesAlike, Tightened, tightened_then, tightened_as, tightened_none, tightened_bits}
+use Rattle.strict_laws.proofs.Steps.{RefWith, tightened_ref, ref_fine, only_nothing, shorter_nothing, only_one, takes_alike}
 
 -- ---- meanings
 
@@ -45,7 +49,7 @@ TightensAt F G =
 
 pub by_shape : (F G : Shape → Slice → List ℕ → Slice → Type 0) → TightensAt F G → Tightens (ByShape F) (ByShape G)
 by_shape F G f g before outs after e fine =
-    tightened_as (λ b a. G e.0 b outs a) (λ b a. ByShape G g b outs a) before after (λ b a k. (e.0, e.1, k)) (f e.0 before outs after e.2 fine)
+    tightened_as (f e.0 before outs after e.2 fine) (λ b a k. (e.0, e.1, k))
 
 -- ---- numbers and bit strings
 
@@ -54,10 +58,10 @@ number_row : (negative : Bool) (size : ℕ) (r : Row) (before : Slice) (outs : L
     → Tightened (λ b a. SpellsNumber negative size r b outs a) before after
 number_row negative size (natural width bound named) before outs after e fine =
     let bits = spelled width size in
-    tightened_as (λ b a. Then b (only_bits bits) a) (λ b a. SpellsNumber negative size (natural width bound named) b outs a) before after (λ b a k. (e.0, e.1, e.2, k)) (tightened_bits bits before after e.3 fine)
+    tightened_as (tightened_bits bits before after e.3 fine) (λ b a k. (e.0, e.1, e.2, k))
 number_row negative size (integer width) before outs after e fine =
     let bits = signed_spelled width e.0 in
-    tightened_as (λ b a. Then b (only_bits bits) a) (λ b a. SpellsNumber negative size (integer width) b outs a) before after (λ b a k. (e.0, e.1, e.2, e.3, k)) (tightened_bits bits before after e.4 fine)
+    tightened_as (tightened_bits bits before after e.4 fine) (λ b a k. (e.0, e.1, e.2, e.3, k))
 number_row negative size (string width) before outs after e fine = absurd e
 number_row negative size no_row before outs after e fine = absurd e
 
@@ -70,7 +74,7 @@ string_row : (bits : List ℕ) (r : Row) (before : Slice) (outs : List ℕ) (aft
     → SpellsString bits r before outs after → Fine before
     → Tightened (λ b a. SpellsString bits r b outs a) before after
 string_row bits (string width) before outs after e fine =
-    tightened_as (λ b a. Then b (only_bits bits) a) (λ b a. SpellsString bits (string width) b outs a) before after (λ b a k. (e.0, e.1, k)) (tightened_bits bits before after e.2 fine)
+    tightened_as (tightened_bits bits before after e.2 fine) (λ b a k. (e.0, e.1, k))
 string_row bits (natural width bound named) before outs after e fine = absurd e
 string_row bits (integer width) before outs after e fine = absurd e
 string_row bits no_row before outs after e fine = absurd e
@@ -85,56 +89,47 @@ pub fields_tightened : (is : Items) (Ls Ws : Meanings) → TightensAll Ls Ws →
     (after : Slice) → Fields is Ls scope before end after → Fine before
     → Tightened (λ b a. Fields is Ws scope b end a) before after
 fields_tightened no_items no_meanings no_meanings r scope before end after e fine =
-    tightened_as (λ b a. a ≡ b) (λ b a. Fields no_items no_meanings scope b end a) before after (λ b a k. (e.0, k)) (tightened_none before after e.1 fine)
+    tightened_as (tightened_none before after e.1 fine) (λ b a k. (e.0, k))
 fields_tightened no_items no_meanings (a_meaning W Ws) r scope before end after e fine = absurd r
 fields_tightened no_items (a_meaning L Ls) Ws r scope before end after e fine = absurd e
 fields_tightened (an_item (check x op y i) is) Ls Ws r scope before end after e fine =
-    tightened_as (λ b a. Fields is Ws scope b end a) (λ b a. Fields (an_item (check x op y i) is) Ws scope b end a) before after (λ b a k. (e.0, e.1, e.2, e.3, e.4, k))
-    (fields_tightened is Ls Ws r scope before end after e.5 fine)
+    tightened_as (fields_tightened is Ls Ws r scope before end after e.5 fine) (λ b a k. (e.0, e.1, e.2, e.3, e.4, k))
 fields_tightened (an_item (solve v x y i) is) Ls Ws r scope before end after e fine =
     let inner = with_number v e.0 scope in
-    tightened_as (λ b a. Fields is Ws inner b end a) (λ b a. Fields (an_item (solve v x y i) is) Ws scope b end a) before after (λ b a k. (e.0, e.1, k))
-    (fields_tightened is Ls Ws r inner before end after e.2 fine)
+    tightened_as (fields_tightened is Ls Ws r inner before end after e.2 fine) (λ b a k. (e.0, e.1, k))
 fields_tightened (an_item (field x slot c t) is) no_meanings Ws r scope before end after e fine = absurd e
 fields_tightened (an_item (field x slot c t) is) (a_meaning L Ls) no_meanings r scope before end after e fine = absurd r
 fields_tightened (an_item (field x slot c t) is) (a_meaning L Ls) (a_meaning W Ws) r scope before end after e fine =
-    let V : Slice → Slice → Type 0 = λ b a. W (at_field c t scope) b e.0 a in
     let inner = bind (sets slot t) e.0 scope in
-    let R : Slice → Slice → Type 0 = λ b a. Fields is Ws inner b end a in
     let one = r.0 (at_field c t scope) before e.0 e.1 e.2 fine in
     let others = fields_tightened is Ls Ws r.1 inner e.1 end after e.3 one.fine in
-    tightened_as (λ b a. (m : Slice) × V b m × R m a) (λ b a. Fields (an_item (field x slot c t) is) (a_meaning W Ws) scope b end a) before after (λ b a k. (e.0, k.0, k.1, k.2))
-    (tightened_then V R before e.1 after one others)
+    tightened_as (tightened_then one others) (λ b a k. (e.0, k.0, k.1, k.2))
 
 pub declared_tightened : (schema : CoreSchema) (name : Word) (names : List Word) (Ls Ws : Meanings) → TightensAll Ls Ws
     → TightensAt (SpellsDeclared schema name names Ls) (SpellsDeclared schema name names Ws)
 declared_tightened schema name names Ls Ws r (typed (closed.named type args)) before outs after e fine =
-    let V : Slice → Slice → Type 0 = λ b a. Then b (only_bits e.1.core.tag) a in
-    let R : Slice → Slice → Type 0 = λ b a. Fields e.1.core.items Ws e.2 b e.4 a in
     let tag = tightened_bits e.1.core.tag before e.3 e.7 fine in
     let items = fields_tightened e.1.core.items Ls Ws r e.2 e.3 e.4 after e.8 tag.fine in
-    tightened_as (λ b a. (m : Slice) × V b m × R m a) (λ b a. SpellsDeclared schema name names Ws (typed (closed.named type args)) b outs a) before after (λ b a k. (e.0, e.1, e.2, k.0, e.4, e.5, e.6, k.1, k.2, e.9))
-    (tightened_then V R before e.3 after tag items)
+    tightened_as (tightened_then tag items) (λ b a k. (e.0, e.1, e.2, k.0, e.4, e.5, e.6, k.1, k.2, e.9))
 declared_tightened schema name names Ls Ws r _ before outs after e fine = absurd e
 
 pub inner_tightened : (names : List Word) (Ls Ws : Meanings) → TightensAll Ls Ws
     → TightensAt (SpellsInner names Ls) (SpellsInner names Ws)
 inner_tightened names Ls Ws r (fields_here is scope) before outs after e fine =
-    tightened_as (λ b a. Fields is Ws scope b e.2 a) (λ b a. SpellsInner names Ws (fields_here is scope) b outs a) before after (λ b a k. (e.0, e.1, e.2, k))
-    (fields_tightened is Ls Ws r scope before e.2 after e.3 fine)
+    tightened_as (fields_tightened is Ls Ws r scope before e.2 after e.3 fine) (λ b a k. (e.0, e.1, e.2, k))
 inner_tightened names Ls Ws r _ before outs after e fine = absurd e
 
 pub absent_tightened : TightensAt SpellsAbsent SpellsAbsent
 absent_tightened left_out before outs after e fine =
-    tightened_as (λ b a. a ≡ b) (λ b a. SpellsAbsent left_out b outs a) before after (λ b a k. (e.0, k)) (tightened_none before after e.1 fine)
+    tightened_as (tightened_none before after e.1 fine) (λ b a k. (e.0, k))
 absent_tightened _ before outs after e fine = absurd e
 
 -- ---- repetitions
 
 -- an item that takes something
-takes_tightened : (V : Slice → Slice → Type 0) (before after : Slice) → took before after ≡ true → Tightened V before after
-    → Tightened (λ b a. V b a × (took b a ≡ true)) before after
-takes_tightened V before after t r = record {
+takes_tightened : {V : Slice → Slice → Type 0} {before after : Slice} → took before after ≡ true
+    → Tightened V before after → Tightened (λ b a. V b a × (took b a ≡ true)) before after
+takes_tightened {before = before} {after = after} t r = record {
   fine = r.fine;
   strict = λ end h.
       let k = r.strict end h in record {
@@ -148,22 +143,17 @@ takes_tightened V before after t r = record {
 repeats_tightened : (Ls Ws : Meanings) → TightensAll Ls Ws → (n : ℕ) (t : Closed) (before after : Slice)
     → Repeats Ls n t before after → Fine before → Tightened (λ b a. Repeats Ws n t b a) before after
 repeats_tightened no_meanings no_meanings r n t before after e fine =
-    tightened_as (λ b a. a ≡ b) (λ b a. Repeats no_meanings n t b a) before after (λ b a k. (e.0, k)) (tightened_none before after e.1 fine)
+    tightened_as (tightened_none before after e.1 fine) (λ b a k. (e.0, k))
 repeats_tightened no_meanings (a_meaning W Ws) r n t before after e fine = absurd r
 repeats_tightened (a_meaning L Ls) no_meanings r n t before after e fine = absurd r
 repeats_tightened (a_meaning L Ls) (a_meaning W Ws) r n t before after e fine =
-    let U : Slice → Slice → Type 0 = λ b a. W (at_type t) b e.1 a in
-    let V : Slice → Slice → Type 0 = λ b a. U b a × (took b a ≡ true) in
-    let R : Slice → Slice → Type 0 = λ b a. Repeats Ws e.0 t b a in
     let one = r.0 (at_type t) before e.1 e.2 e.4 fine in
     let others = repeats_tightened Ls Ws r.1 e.0 t e.2 after e.6 one.fine in
-    tightened_as (λ b a. (m : Slice) × V b m × R m a) (λ b a. Repeats (a_meaning W Ws) n t b a) before after (λ b a k. (e.0, e.1, k.0, e.3, k.1.0, k.1.1, k.2))
-    (tightened_then V R before e.2 after (takes_tightened U before e.2 e.5 one) others)
+    tightened_as (tightened_then (takes_tightened e.5 one) others) (λ b a k. (e.0, e.1, k.0, e.3, k.1.0, k.1.1, k.2))
 
 pub list_tightened : (Ls Ws : Meanings) → TightensAll Ls Ws → TightensAt (SpellsList Ls) (SpellsList Ws)
 list_tightened Ls Ws r (typed (closed.repeat n t)) before outs after e fine =
-    tightened_as (λ b a. Repeats Ws n t b a) (λ b a. SpellsList Ws (typed (closed.repeat n t)) b outs a) before after (λ b a k. (e.0, k))
-    (repeats_tightened Ls Ws r n t before after e.1 fine)
+    tightened_as (repeats_tightened Ls Ws r n t before after e.1 fine) (λ b a k. (e.0, k))
 list_tightened Ls Ws r _ before outs after e fine = absurd e
 
 -- ---- references
@@ -210,8 +200,7 @@ child_tightened : (L W : Meaning) → Tightens L W → (g : Goal) (before : Slic
 child_tightened L W r g before outs after e fine =
     let P : Tree → Type 0 = λ d. Holds Whole W g d in
     let k = holds_tightened L W r g e.0 e.3 (ref_fine [] e.0 before after e.2 fine).1 in
-    tightened_as (RefWith P []) (λ b a. SpellsChild anywhere Whole W g b outs a) before after (λ b a x. (x.0, e.1, x.1, x.2, tt))
-    (tightened_ref P [] e.0 k.0 before after e.2 fine k.1 k.2)
+    tightened_as (tightened_ref P [] e.0 k.0 before after e.2 fine k.1 k.2) (λ b a x. (x.0, e.1, x.1, x.2, tt))
 
 pub ref_tightened : (L W : Meaning) → Tightens L W → TightensAt (SpellsRef anywhere Lax L) (SpellsRef anywhere Whole W)
 ref_tightened L W r (typed (closed.ref t)) before outs after e fine =
@@ -229,10 +218,9 @@ unknown_tightened h _ before outs after e fine = absurd e
 pub raw_tightened : (c : Tree) → TightensAt (SpellsRaw c) (SpellsRaw c)
 raw_tightened c as_cell before outs after e fine =
     let P : Tree → Type 0 = λ d. d ≡ c in
-    let R : Slice → Slice → Type 0 = λ b a. SpellsRaw c as_cell b outs a in
-    tightened_as (RefWith P []) R before after
+    let less = less_self c (ref_fine [] c before after e.1 fine).1 in
+    tightened_as (tightened_ref P [] c c before after e.1 fine refl less)
     (λ b a x. (e.0, subst (λ (d : Tree). Then b (only_ref d) a) x.2 x.1))
-    (tightened_ref P [] c c before after e.1 fine refl (less_self c (ref_fine [] c before after e.1 fine).1))
 raw_tightened c _ before outs after e fine = absurd e
 
 -- all that is left: the end is nothing too

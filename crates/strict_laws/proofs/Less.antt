@@ -7,7 +7,8 @@ use Rattle.cell_nodes.specs.Equations.{mask-tree_of, depth-tree_of, unfolded-tre
 use Rattle.cell_nodes.specs.Good.{IsGood, good, AllGood, none, more}
 use Rattle.cell_nodes.specs.GoodParts.{good-sound, good-tree_of, all_good-head, all_good-tail}
 use Rattle.cell_nodes.specs.Levels.{levels}
-use Rattle.cell_nodes.specs.Tree.{Marks, marks, mask, depth, deepest, greatest, union, union_of, depth_over, computed_depth, level_below, unfolded, total}
+use Rattle.cell_nodes.specs.Tree.{Marks, marks, mask, depth, deepest, greatest, union, union_of, depth_over, computed_depth}
+use Rattle.cell_nodes.specs.Tree.{level_below, unfolded, total}
 use Rattle.cell_nodes.specs.declared.tree.Kind.TheVariants.{Ordinary}
 use Rattle.cell_nodes.specs.declared.tree.Tree.{Tree, out-Tree}
 use Rattle.hashmap_tree.specs.CellLaws.{content-cell_of}
@@ -137,15 +138,29 @@ cell_good u s g h =
     let short = w.short in
     let few = w.few in
     let less = h.short in
-    good-tree_of Ordinary u.bits u.refs h.bits (omega (arith, short, less)) (omega (arith, few, n)) refl (subst D (sym same) deep) (less_good u.refs s.refs h.refs)
+    let low = subst D (sym same) deep in
+    let children = less_good u.refs s.refs h.refs in
+    good-tree_of Ordinary u.bits u.refs h.bits (omega (arith, short, less)) (omega (arith, few, n)) refl low children
+
+cell_mask : (u s : Slice) → AllLess u.refs s.refs → mask (cell_of u) ≡ mask (cell_of s)
+cell_mask u s h =
+    mask-tree_of Ordinary u.bits u.refs
+    ∙ less_union u.refs s.refs h
+    ∙ sym (mask-tree_of Ordinary s.bits s.refs)
+
+cell_cells : (u s : Slice) → AllLess u.refs s.refs → unfolded (cell_of u) ≡ unfolded (cell_of s)
+cell_cells u s h =
+    unfolded-tree_of Ordinary u.bits u.refs
+    ∙ ap (λ (x : ℕ). 1 + x) (less_cells u.refs s.refs h)
+    ∙ sym (unfolded-tree_of Ordinary s.bits s.refs)
 
 pub less_cell : (u s : Slice) → IsGood (cell_of s) → Shorter u s → Less (cell_of u) (cell_of s)
 less_cell u s g h = record {
   fine = cell_good u s g h;
   shape = no_longer_cell u s h.short (less_shape u.refs s.refs h.refs);
-  same_mask = mask-tree_of Ordinary u.bits u.refs ∙ less_union u.refs s.refs h.refs ∙ sym (mask-tree_of Ordinary s.bits s.refs);
+  same_mask = cell_mask u s h.refs;
   same_depth = cell_depth u s h.refs;
-  same_cells = unfolded-tree_of Ordinary u.bits u.refs ∙ ap (λ (x : ℕ). 1 + x) (less_cells u.refs s.refs h.refs) ∙ sym (unfolded-tree_of Ordinary s.bits s.refs);
+  same_cells = cell_cells u s h.refs;
 }
 
 -- the content of a good cell

@@ -14,8 +14,12 @@ use Rattle.hashmap_tree.specs.Entries.{Slice, Entries, pairs_in}
 use Rattle.hashmap_tree.specs.First.{LeafEdge, Fork, forked}
 use Rattle.spelling.specs.Goals.{Goal, at_type, at_field, at_cell, Shape, typed, fields_here, fields_under, at_fields, under_ref}
 use Rattle.spelling.specs.Slices.{nothing, only_ref}
-use Rattle.spelling.specs.Spells.{Meaning, Meanings, no_meanings, a_meaning, Keyed, no_keyed, a_keyed, Fields, SpellsDeclared, SpellsInner, Repeats, SpellsList, Holds, SpellsChild, SpellsRef, SpellsUnknown, Contents, InPlace, SpellsDict, IsEmpty, SpellsDictE, no_entries, some_entries, SpellsMap, Spells, SpellsShape, Each, EachPair, IsRootOf}
-use Rattle.typed_value.specs.Values.{Plain, Plains, PlainPairs, number, bit_string, record_of, absent, list_of, ref_to, unknown, map_of, raw, rest, no_vals, a_val, no_pairs, a_pair}
+use Rattle.spelling.specs.Spells.{Meaning, Meanings, no_meanings, a_meaning, Keyed, no_keyed, a_keyed, Fields, SpellsDeclared}
+use Rattle.spelling.specs.Spells.{SpellsInner, Repeats, SpellsList, Holds, SpellsChild, SpellsRef, SpellsUnknown, Contents}
+use Rattle.spelling.specs.Spells.{InPlace, SpellsDict, IsEmpty, SpellsDictE, no_entries, some_entries, SpellsMap, Spells}
+use Rattle.spelling.specs.Spells.{SpellsShape, Each, EachPair, IsRootOf}
+use Rattle.typed_value.specs.Values.{Plain, Plains, PlainPairs, number, bit_string, record_of, absent, list_of, ref_to, unknown}
+use Rattle.typed_value.specs.Values.{map_of, raw, rest, no_vals, a_val, no_pairs, a_pair}
 use Rattle.strict_laws.specs.Laws.{WholeIsLax}
 use Rattle.strict_laws.proofs.Forms.{anywhere}
 
@@ -113,7 +117,9 @@ mutual
   tree_loosened n es s (one _ _ _ _ k c same long label refs) =
       one Lax n es s k c same long (label_loosened n k s.bits c.bits label) refs
   tree_loosened n es s (two _ _ _ _ p m zs os z o same long label refs dz do_) =
-      two Lax n es s p m zs os z o same long (label_loosened n p s.bits [] label) refs (branch_loosened m zs z dz) (branch_loosened m os o do_)
+      let zeros = branch_loosened m zs z dz in
+      let ones = branch_loosened m os o do_ in
+      two Lax n es s p m zs os z o same long (label_loosened n p s.bits [] label) refs zeros ones
 
   branch_loosened : (n : ℕ) (es : Entries) (c : Tree) → Branch Whole n es c → Branch Lax n es c
   branch_loosened n es c (open_edge _ _ _ _ s same d) = open_edge Lax n es c s same (tree_loosened n es s d)
@@ -121,7 +127,9 @@ mutual
 
 fork_loosened : (n : ℕ) (es : Entries) (s after : Slice) → Fork Whole n es s after → Fork Lax n es s after
 fork_loosened n es s after (forked p m zs os z o same long label refs dz do_) =
-    forked p m zs os z o same long (label_loosened n p s.bits after.bits label) refs (branch_loosened m zs z dz) (branch_loosened m os o do_)
+    let zeros = branch_loosened m zs z dz in
+    let ones = branch_loosened m os o do_ in
+    forked p m zs os z o same long (label_loosened n p s.bits after.bits label) refs zeros ones
 
 contents_loosened : (Ws Ls : Keyed) → LoosensBy Ws Ls → (t : Closed) (ls : List (List ℕ × Slice)) → Contents Ws t ls
     → Contents Ls t ls
@@ -192,7 +200,8 @@ mutual
   shape_loosened schema (list_of vs) c s outs after e =
       list_loosened (Each Whole schema vs) (Each Lax schema vs) (all_loosened schema vs) c s outs after e
   shape_loosened schema (ref_to a v) c s outs after e =
-      ref_loosened (Spells Whole schema v) (Spells Lax schema v) (λ g b o x d. (d.0, d.1, shape_loosened schema v d.0 b o x d.2)) c s outs after e
+      ref_loosened (Spells Whole schema v) (Spells Lax schema v) (λ g b o x d. (d.0, d.1, shape_loosened schema v d.0 b o x d.2))
+      c s outs after e
   shape_loosened schema (unknown h) c s outs after e = unknown_loosened h c s outs after e
   shape_loosened schema (map_of a ps us) c s outs after e =
       map_loosened (EachPair Whole schema ps) (EachPair Lax schema ps) (by_loosened schema ps) us c s outs after e
@@ -212,7 +221,9 @@ mutual
 root_loosened : (schema : CoreSchema) (t : Closed) (v : Plain) (c : Tree) → IsRootOf Whole schema t c v
     → IsRootOf Lax schema t c v
 root_loosened schema t v c (inl h) =
-    inl (holds_loosened (Spells Whole schema v) (Spells Lax schema v) (λ g b o x d. (d.0, d.1, shape_loosened schema v d.0 b o x d.2)) (under_ref t) c h)
+    let one : Loosens (Spells Whole schema v) (Spells Lax schema v) =
+    λ g b o x d. (d.0, d.1, shape_loosened schema v d.0 b o x d.2) in
+    inl (holds_loosened (Spells Whole schema v) (Spells Lax schema v) one (under_ref t) c h)
 root_loosened schema t (unknown h) c (inr e) = inr e
 root_loosened schema t (number negative size) c (inr e) = absurd e
 root_loosened schema t (bit_string bits) c (inr e) = absurd e

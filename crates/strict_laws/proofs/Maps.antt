@@ -10,9 +10,11 @@ use Rattle.hashmap_tree.specs.Entries.{Slice, Then, leaf, hidden, Entries}
 use Rattle.hashmap_tree.specs.First.{LeafEdge, Fork}
 use Rattle.spelling.specs.Goals.{at_type, typed}
 use Rattle.spelling.specs.Slices.{nothing, only_bits}
-use Rattle.spelling.specs.Spells.{Keyed, no_keyed, a_keyed, EntriesHold, InPlace, SpellsDict, IsEmpty, SpellsDictE, no_entries, some_entries, SpellsMap}
+use Rattle.spelling.specs.Spells.{Keyed, no_keyed, a_keyed, EntriesHold, InPlace, SpellsDict, IsEmpty, SpellsDictE, no_entries}
+use Rattle.spelling.specs.Spells.{some_entries, SpellsMap}
 use Rattle.strict_laws.proofs.Less.{Fine}
-use Rattle.strict_laws.proofs.Steps.{Tightened, tightened_then, tightened_as, tightened_bits, RefWith, tightened_ref, ref_fine, shorter_nothing}
+use Rattle.strict_laws.proofs.Steps.{Tightened, tightened_then, tightened_as, tightened_bits, RefWith, tightened_ref, ref_fine}
+use Rattle.strict_laws.proofs.Steps.{shorter_nothing}
 use Rattle.strict_laws.proofs.Dicts.{EntriesLess, AllFine, leaf_tightened, fork_fine, fork_tightened, branch_fine, shorten_cell}
 use Rattle.strict_laws.proofs.Forms.{TightensBy, TightensAt, anywhere}
 
@@ -44,12 +46,9 @@ place_tightened : (Ls Ws : Keyed) → TightensBy Ls Ws → (us : List (List ℕ 
     (before after : Slice) → InPlace Lax Ls us n t before after → Fine before
     → Tightened (λ b a. InPlace Whole Ws us n t b a) before after
 place_tightened (a_keyed k L no_keyed) (a_keyed j W no_keyed) r [] n t before after e fine =
-    let V : Slice → Slice → Type 0 = λ b a. LeafEdge Whole n j b a in
     let K : List ℕ → Type 0 = λ x. LeafEdge Lax n x before e.0 in
-    let R : Slice → Slice → Type 0 = λ b a. W (at_type t) b e.1 a in
     let label = leaf_tightened n j before e.0 (subst K r.0 e.2) fine in
-    tightened_as (λ b a. (m : Slice) × V b m × R m a) (λ b a. InPlace Whole (a_keyed j W no_keyed) [] n t b a) before after (λ b a k. (k.0, e.1, k.1, k.2))
-    (tightened_then V R before e.0 after label (r.1 (at_type t) e.0 e.1 after e.3 label.fine))
+    tightened_as (tightened_then label (r.1 (at_type t) e.0 e.1 after e.3 label.fine)) (λ b a k. (k.0, e.1, k.1, k.2))
 place_tightened (a_keyed k L no_keyed) (a_keyed j W (a_keyed i X Xs)) r [] n t before after e fine = absurd r.2
 place_tightened (a_keyed k L no_keyed) no_keyed r [] n t before after e fine = absurd r
 place_tightened (a_keyed k L (a_keyed i X Xs)) Ws r [] n t before after e fine = absurd e
@@ -65,12 +64,10 @@ dict_tightened : (Ls Ws : Keyed) → TightensBy Ls Ws → (us : List (List ℕ �
     (before after : Slice) → SpellsDict Lax Ls us n t before after → Fine before
     → Tightened (λ b a. SpellsDict Whole Ws us n t b a) before after
 dict_tightened Ls Ws r us n t before after (inl e) fine =
-    tightened_as (λ b a. InPlace Whole Ws us n t b a) (λ b a. SpellsDict Whole Ws us n t b a) before after (λ b a k. inl k)
-    (place_tightened Ls Ws r us n t before after e fine)
+    tightened_as (place_tightened Ls Ws r us n t before after e fine) (λ b a k. inl k)
 dict_tightened Ls Ws r us n t before after (inr e) fine =
     let held = contents_tightened Ls Ws r us t e.0 (fork_fine n e.0 before after e.1 fine).0 e.2 in
-    tightened_as (λ b a. Fork Whole n held.entries b a) (λ b a. SpellsDict Whole Ws us n t b a) before after (λ b a k. inr (held.entries, k, held.hold))
-    (fork_tightened n e.0 held.entries before after e.1 fine held.less)
+    tightened_as (fork_tightened n e.0 held.entries before after e.1 fine held.less) (λ b a k. inr (held.entries, k, held.hold))
 
 -- ---- an edge in a cell of its own
 
@@ -83,22 +80,19 @@ dict_e_tightened : (Ls Ws : Keyed) → TightensBy Ls Ws → (us : List (List ℕ
     (before after : Slice) → SpellsDictE Lax Ls us n t before after → Fine before
     → Tightened (λ b a. SpellsDictE Whole Ws us n t b a) before after
 dict_e_tightened Ls Ws r us n t before after (no_entries empty none then) fine =
-    tightened_as (λ b a. Then b (only_bits (0 ∷ [])) a) (λ b a. SpellsDictE Whole Ws us n t b a) before after (λ b a k. no_entries (empty_tightened Ls Ws r empty) none k)
-    (tightened_bits (0 ∷ []) before after then fine)
+    tightened_as (tightened_bits (0 ∷ []) before after then fine) (λ b a k. no_entries (empty_tightened Ls Ws r empty) none k)
 dict_e_tightened Ls Ws r us n t before after (some_entries c es then branch hold) fine =
     let good = (ref_fine (1 ∷ []) c before after then fine).1 in
     let held = contents_tightened Ls Ws r us t es (branch_fine n es c branch good) hold in
     let cell = shorten_cell n es c branch good held.entries held.less in
     let P : Tree → Type 0 = λ d. Branch Whole n held.entries d in
-    tightened_as (RefWith P (1 ∷ [])) (λ b a. SpellsDictE Whole Ws us n t b a) before after (λ b a k. some_entries k.0 held.entries k.1 k.2 held.hold)
-    (tightened_ref P (1 ∷ []) c cell.0 before after then fine cell.1 cell.2)
+    tightened_as (tightened_ref P (1 ∷ []) c cell.0 before after then fine cell.1 cell.2)
+    (λ b a k. some_entries k.0 held.entries k.1 k.2 held.hold)
 
 pub map_tightened : (Ls Ws : Keyed) → TightensBy Ls Ws → (us : List (List ℕ × Hidden))
     → TightensAt (SpellsMap anywhere Lax Ls us) (SpellsMap anywhere Whole Ws us)
 map_tightened Ls Ws r us (typed (closed.dict n t)) before outs after e fine =
-    tightened_as (λ b a. SpellsDict Whole Ws us n t b a) (λ b a. SpellsMap anywhere Whole Ws us (typed (closed.dict n t)) b outs a) before after (λ b a k. (e.0, k, tt))
-    (dict_tightened Ls Ws r us n t before after e.1 fine)
+    tightened_as (dict_tightened Ls Ws r us n t before after e.1 fine) (λ b a k. (e.0, k, tt))
 map_tightened Ls Ws r us (typed (closed.dict_e n t)) before outs after e fine =
-    tightened_as (λ b a. SpellsDictE Whole Ws us n t b a) (λ b a. SpellsMap anywhere Whole Ws us (typed (closed.dict_e n t)) b outs a) before after (λ b a k. (e.0, k, tt))
-    (dict_e_tightened Ls Ws r us n t before after e.1 fine)
+    tightened_as (dict_e_tightened Ls Ws r us n t before after e.1 fine) (λ b a k. (e.0, k, tt))
 map_tightened Ls Ws r us _ before outs after e fine = absurd e

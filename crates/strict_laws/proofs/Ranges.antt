@@ -11,11 +11,16 @@ use Rattle.core_form.specs.Closed.{Closed}
 use Rattle.core_form.specs.Closed as closed
 use Rattle.core_form.specs.Scope.{Scope, with_number, bind}
 use Rattle.hashmap_tree.specs.Entries.{Slice, leaf, hidden, Entries}
-use Rattle.spelling.specs.Goals.{Row, natural, integer, string, no_row, row, Goal, at_type, at_field, at_cell, Shape, typed, fields_here, fields_under, as_cell, at_fields, under_ref}
+use Rattle.spelling.specs.Goals.{Row, natural, integer, string, no_row, row, Goal, at_type, at_field, at_cell, Shape, typed}
+use Rattle.spelling.specs.Goals.{fields_here, fields_under, as_cell, at_fields, under_ref}
 use Rattle.spelling.specs.Slices.{nothing, only_ref}
-use Rattle.spelling.specs.Spells.{Meaning, Meanings, no_meanings, a_meaning, Keyed, no_keyed, a_keyed, SpellsString, AtRow, Fields, SpellsDeclared, SpellsInner, Repeats, SpellsList, Holds, SpellsRef, SpellsUnknown, SpellsRaw, SpellsRest, EntriesHold, InPlace, SpellsDict, IsEmpty, SpellsDictE, no_entries, some_entries, SpellsMap, Spells, SpellsShape, Each, EachPair, IsRootOf}
+use Rattle.spelling.specs.Spells.{Meaning, Meanings, no_meanings, a_meaning, Keyed, no_keyed, a_keyed, SpellsString, AtRow}
+use Rattle.spelling.specs.Spells.{Fields, SpellsDeclared, SpellsInner, Repeats, SpellsList, Holds, SpellsRef, SpellsUnknown}
+use Rattle.spelling.specs.Spells.{SpellsRaw, SpellsRest, EntriesHold, InPlace, SpellsDict, IsEmpty, SpellsDictE, no_entries}
+use Rattle.spelling.specs.Spells.{some_entries, SpellsMap, Spells, SpellsShape, Each, EachPair, IsRootOf}
 use Rattle.typed_value.specs.Values as values
-use Rattle.typed_value.specs.Values.{Plain, Plains, PlainPairs, number, bit_string, record_of, absent, list_of, ref_to, unknown, map_of, raw, rest, no_vals, a_val, no_pairs, a_pair}
+use Rattle.typed_value.specs.Values.{Plain, Plains, PlainPairs, number, bit_string, record_of, absent, list_of, ref_to, unknown}
+use Rattle.typed_value.specs.Values.{map_of, raw, rest, no_vals, a_val, no_pairs, a_pair}
 use Rattle.strict_laws.proofs.Less.{Fine, good_fine}
 use Rattle.strict_laws.proofs.Steps.{bits_fine, ref_fine}
 use Rattle.strict_laws.proofs.Dicts.{AllFine, leaf_tightened, fork_fine, branch_fine}
@@ -64,7 +69,8 @@ fields_range (an_item (solve v x y i) is) Ls Ws r vs q scope before end after e 
     fields_range is Ls Ws r vs q (with_number v e.0 scope) before end after e.2 fine
 fields_range (an_item (field x slot c t) is) no_meanings Ws r vs q scope before end after e fine = absurd e
 fields_range (an_item (field x slot c t) is) (a_meaning L Ls) no_meanings r vs q scope before end after e fine = absurd r
-fields_range (an_item (field x slot c t) is) (a_meaning L Ls) (a_meaning W Ws) r no_vals q scope before end after e fine = absurd q
+fields_range (an_item (field x slot c t) is) (a_meaning L Ls) (a_meaning W Ws) r no_vals q scope before end after e fine =
+    absurd q
 fields_range (an_item (field x slot c t) is) (a_meaning L Ls) (a_meaning W Ws) r (a_val v vs) q scope before end after e fine =
     let one = r.0 (at_field c t scope) before e.0 e.1 e.2 fine in (
       q.0 (at_field c t scope) before e.0 e.1 e.2 fine,
@@ -140,7 +146,8 @@ rest_range s _ before outs after e fine = absurd e
 
 contents_range : (Ls : Keyed) (ps : PlainPairs) → RangesBy Ls ps → (us : List (List ℕ × Hidden)) (t : Closed)
     (es : Entries) → AllFine es → EntriesHold Ls us t es → PairsInRange ps × AreHashes us
-contents_range no_keyed no_pairs q us t [] fine e = let P : List (List ℕ × Hidden) → Type 0 = λ l. AreHashes l in (tt, subst P e.1 tt)
+contents_range no_keyed no_pairs q us t [] fine e =
+    let P : List (List ℕ × Hidden) → Type 0 = λ l. AreHashes l in (tt, subst P e.1 tt)
 contents_range no_keyed (a_pair k v ps) q us t [] fine e = absurd q
 contents_range (a_keyed k L Ls) ps q us t [] fine e = absurd e.0
 contents_range Ls ps q us t ((k, hidden h) ∷ es) fine e = absurd fine.0
@@ -200,12 +207,16 @@ mutual
   shape_range schema (number negative size) c before outs after e fine = tt
   shape_range schema (bit_string bits) c before outs after e fine = string_range bits c before outs after e fine
   shape_range schema (record_of (Some name) names vs) c before outs after e fine =
-      declared_range schema name names (Each Lax schema vs) (Each Whole schema vs) (all_tightened schema vs) vs (all_range schema vs) c before outs after e fine
+      let tight = all_tightened schema vs in
+      declared_range schema name names (Each Lax schema vs) (Each Whole schema vs) tight vs (all_range schema vs) c before
+      outs after e fine
   shape_range schema (record_of None names vs) c before outs after e fine =
-      inner_range names (Each Lax schema vs) (Each Whole schema vs) (all_tightened schema vs) vs (all_range schema vs) c before outs after e fine
+      let tight = all_tightened schema vs in
+      inner_range names (Each Lax schema vs) (Each Whole schema vs) tight vs (all_range schema vs) c before outs after e fine
   shape_range schema absent c before outs after e fine = tt
   shape_range schema (list_of vs) c before outs after e fine =
-      list_range (Each Lax schema vs) (Each Whole schema vs) (all_tightened schema vs) vs (all_range schema vs) c before outs after e fine
+      let tight = all_tightened schema vs in
+      list_range (Each Lax schema vs) (Each Whole schema vs) tight vs (all_range schema vs) c before outs after e fine
   shape_range schema (ref_to a v) c before outs after e fine =
       ref_range (Spells Lax schema v) v (λ g b o x d f. shape_range schema v d.0 b o x d.2 f) c before outs after e fine
   shape_range schema (unknown h) c before outs after e fine = unknown_range h c before outs after e

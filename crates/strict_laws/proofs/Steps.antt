@@ -1,5 +1,6 @@
 -- What is taken of a slice, in mode Lax and then in mode Whole of a slice that is no longer.
-use Rattle.std.proofs.Common.{◌≡◌, ◌⊎◌, inl, inr, ℕ, ◌+◌, ◌<◌, ◌≤◌, Bool, true, false, ◌||◌, nat_lt, List, [], ◌∷◌, ◌++◌, length, refl, sym, ap, ◌∙◌, subst, arith, length-append}
+use Rattle.std.proofs.Common.{◌≡◌, ◌⊎◌, inl, inr, ℕ, ◌+◌, ◌<◌, ◌≤◌, Bool, true, false, ◌||◌, nat_lt, List, [], ◌∷◌, ◌++◌, length}
+use Rattle.std.proofs.Common.{refl, sym, ap, ◌∙◌, subst, arith, length-append}
 use Rattle.std.proofs.lemmas.Bool.{ltb-true, ltb-false}
 use Rattle.bit_slice.specs.Bits.{AreBits}
 use Rattle.bit_slice.specs.BitLists.{AreBits-append}
@@ -47,9 +48,9 @@ moves_then a b c x y z (inr p) (inr q) =
     let p0 = p.0 in let p1 = p.1 in let q0 = q.0 in let q1 = q.1 in
     inr (omega (arith, p0, q0), omega (arith, p1, q1))
 
-pub tightened_then : (V W : Slice → Slice → Type 0) (before middle after : Slice) → Tightened V before middle
+pub tightened_then : {V W : Slice → Slice → Type 0} {before middle after : Slice} → Tightened V before middle
     → Tightened W middle after → Tightened (λ b a. (m : Slice) × V b m × W m a) before after
-tightened_then V W before middle after first second = record {
+tightened_then {before = before} {middle = middle} {after = after} first second = record {
   fine = second.fine;
   strict = λ end h.
       let w = second.strict end h in
@@ -61,9 +62,10 @@ tightened_then V W before middle after first second = record {
       };
 }
 
-pub tightened_as : (V W : Slice → Slice → Type 0) (before after : Slice) → ((b a : Slice) → V b a → W b a)
-    → Tightened V before after → Tightened W before after
-tightened_as V W before after f r = record {
+-- what follows from what is spelled
+pub tightened_as : {V W : Slice → Slice → Type 0} {before after : Slice} → Tightened V before after
+    → ((b a : Slice) → V b a → W b a) → Tightened W before after
+tightened_as r f = record {
   fine = r.fine;
   strict = λ end h.
       let v = r.strict end h in

@@ -8,9 +8,12 @@ use Rattle.core_form.specs.Closed.{Closed}
 use Rattle.building.specs.PlainBuilder.{most_cells}
 use Rattle.spelling.specs.Goals.{under_ref}
 use Rattle.spelling.specs.Spells.{Spells, SpellsShape, Each, EachPair, IsRootOf}
-use Rattle.typed_value.specs.Values.{Plain, Plains, PlainPairs, number, bit_string, record_of, absent, list_of, ref_to, unknown, map_of, raw, rest, no_vals, a_val, no_pairs, a_pair}
+use Rattle.typed_value.specs.Values.{Plain, Plains, PlainPairs, number, bit_string, record_of, absent, list_of, ref_to, unknown}
+use Rattle.typed_value.specs.Values.{map_of, raw, rest, no_vals, a_val, no_pairs, a_pair}
 use Rattle.strict_laws.specs.Laws.{LaxHasTree}
-use Rattle.strict_laws.proofs.Forms.{Tightens, TightensAll, TightensBy, TightensAt, by_shape, number_tightened, string_tightened, declared_tightened, inner_tightened, absent_tightened, list_tightened, HeldLess, holds_tightened, ref_tightened, unknown_tightened, raw_tightened, rest_tightened}
+use Rattle.strict_laws.proofs.Forms.{Tightens, TightensAll, TightensBy, TightensAt, by_shape, number_tightened, string_tightened}
+use Rattle.strict_laws.proofs.Forms.{declared_tightened, inner_tightened, absent_tightened, list_tightened, HeldLess}
+use Rattle.strict_laws.proofs.Forms.{holds_tightened, ref_tightened, unknown_tightened, raw_tightened, rest_tightened}
 use Rattle.strict_laws.proofs.Maps.{map_tightened}
 
 mutual
@@ -24,9 +27,11 @@ mutual
   shape_tightened schema absent = absent_tightened
   shape_tightened schema (list_of vs) = list_tightened (Each Lax schema vs) (Each Whole schema vs) (all_tightened schema vs)
   shape_tightened schema (ref_to a v) =
-      ref_tightened (Spells Lax schema v) (Spells Whole schema v) (by_shape (SpellsShape Lax schema v) (SpellsShape Whole schema v) (shape_tightened schema v))
+      let one = by_shape (SpellsShape Lax schema v) (SpellsShape Whole schema v) (shape_tightened schema v) in
+      ref_tightened (Spells Lax schema v) (Spells Whole schema v) one
   shape_tightened schema (unknown h) = unknown_tightened h
-  shape_tightened schema (map_of a ps us) = map_tightened (EachPair Lax schema ps) (EachPair Whole schema ps) (by_tightened schema ps) us
+  shape_tightened schema (map_of a ps us) =
+      map_tightened (EachPair Lax schema ps) (EachPair Whole schema ps) (by_tightened schema ps) us
   shape_tightened schema (raw c) = raw_tightened c
   shape_tightened schema (rest s) = rest_tightened s
 
