@@ -1,6 +1,6 @@
 -- The stage of a proof comes to exactly one answer.
-use Rattle.std.proofs.Common.{◌≡◌, ◌∙◌, sym, subst, refl, ℕ, Bool, true, false, List, [], ◌∷◌, Option, Result, Ok, Err, ⊤}
-use Rattle.std.specs.Prelude.{bytes_eq, not, ◌==◌, if◌then◌else◌}
+use Rattle.std.proofs.Common.{◌≡◌, ◌∙◌, sym, subst, refl, ℕ, Bool, true, false, List, [], ◌∷◌, Option, Result, Ok, Err}
+use Rattle.std.specs.Prelude.{bytes_eq, not, ◌==◌, if◌then◌else◌, ⊤}
 use Rattle.cell_nodes.specs.Tree.{mask, hash, depth}
 use Rattle.cell_nodes.specs.declared.tree.Kind.{Kind}
 use Rattle.cell_nodes.specs.declared.tree.Kind.TheVariants.{Ordinary, Pruned, Library, Proof as ProofKind, Update}

@@ -36,8 +36,8 @@ use Rattle.cli_stages.specs.declared.stop.Stop.TheVariants.{Refused, NoMemory}
 -- ---- tests
 
 false-if : (b : Bool) → (b ≡ true → ⊥) → b ≡ false
-false-if true no = absurd (no refl)
-false-if false no = refl
+false-if true never = absurd (never refl)
+false-if false never = refl
 
 same-bytes : (a b : List ℕ) → a ≡ b → bytes_eq a b ≡ true
 same-bytes a b e = (bytes_eq-Decides a b).1 e
@@ -157,9 +157,10 @@ pub shows : (root : Option (List ℕ)) (s : SchemaView) (type : ShownType) (c : 
 shows root s type c v kept is =
     let a = in-schema s type c root (viewed (shown_by v).value v.hash) kept is in
     let p = a.1 in
+    let b = a.3 in
     record {
-      answer = goes_on p (sealed-so root c p (over root c p a.0 a.2) a.3 a.4)
-          (goes_on (shown_by v).value a.5 (ap Ok (shows-of v p a.6)));
+      answer = goes_on p (sealed-so root c p (over root c p a.0 a.2) b.0 b.1)
+          (goes_on (shown_by v).value b.2 (ap Ok (shows-of v p b.3)));
     }
 
 pub stuck : (root : Option (List ℕ)) (s : SchemaView) (type : ShownType) (c : Tree) (place : Place) (stop : Stop)
@@ -169,9 +170,10 @@ pub stuck : (root : Option (List ℕ)) (s : SchemaView) (type : ShownType) (c : 
 stuck root s type c place (Refused r) kept is refused =
     let a = in-schema s type c root (stuck_at place) kept is in
     let p = a.1 in
+    let b = a.3 in
     record {
-      answer = goes_on p (sealed-so root c p (over root c p a.0 a.2) a.3 a.4)
-          (stops (refusal_by r) (record { place = place; stuck = a.5; is = refused }) refl);
+      answer = goes_on p (sealed-so root c p (over root c p a.0 a.2) b.0 b.1)
+          (stops (refusal_by r) (record { place = place; stuck = b.2; is = refused }) refl);
     }
 stuck root s type c place NoMemory kept is refused = record { answer = tt }
 
@@ -195,11 +197,11 @@ refuses : (root : Option (List ℕ)) (s : CoreSchema) (t : Closed) (c : Tree) (c
 refuses root s t c causes.NotProof a = no-proof root c a
 refuses root s t c causes.NotWhole a = not-whole root c a.1 (over root c a.1 a.0 a.2) a.3
 refuses root s t c (causes.HashDiffers kept found) a =
-    hash-differs root c a.1 (over root c a.1 a.0 a.2) a.3 kept found a.4 a.5 a.6
+    let b = a.3 in hash-differs root c a.1 (over root c a.1 a.0 a.2) b.0 kept found b.1 b.2 b.3
 refuses root s t c (causes.DepthDiffers kept found) a =
-    depth-differs root c a.1 (over root c a.1 a.0 a.2) a.3 a.4 kept found a.5 a.6 a.7
+    let b = a.3 in depth-differs root c a.1 (over root c a.1 a.0 a.2) b.0 b.1 kept found b.2 b.3 b.4
 refuses root s t c (causes.WrongRoot found) a =
-    wrong-root root c a.1 (over root c a.1 a.0 a.2) a.3 found a.4 a.5
+    let b = a.3 in wrong-root root c a.1 (over root c a.1 a.0 a.2) b.0 found b.1 b.2
 
 pub refused : (root : Option (List ℕ)) (s : SchemaView) (type : ShownType) (c : Tree) (cause : ProofCause) (stop : Stop)
     → Holds s type c root (answer_of cause) → IfRefused (λ r. r ≡ proof cause) stop

@@ -5,5 +5,5 @@ use Rattle.cli_commands.proofs.form.Form.files.Given as goal
 
 -- the files of the slots so far, and then those of the others
 abbrev pub invariant-slots : goal.invariant-slots
-invariant-slots l = files_by l.files.items ++ files_in (drop l.place l.slot-items) (drop l.place (map string_bytes l.self.words.now))
-    ≡ files_in l.slot-items (map string_bytes l.self.words.now)
+invariant-slots l = files_by l.files.items ++ files_in (drop l.place l.slots) (drop l.place (map string_bytes l.self.words.now))
+    ≡ files_in l.slots (map string_bytes l.self.words.now)
