@@ -125,8 +125,8 @@ fn view_in(alloc: Global, words: &[String], contents: &[Vec<u8>]) -> Result<Vec<
         (at (contents_of contents.now) 0) (at (contents_of contents.now) 1)) text_by result }
 {
     let schema = bytes_at(contents, 0);
-    let word = word_at(words, 1);
+    let name = word_at(words, 1);
     let bag = bytes_at(contents, 1);
     let root = root_hash(word_at(words, 3));
-    view(alloc, schema, word, bag, root)
+    view(alloc, schema, name, bag, root)
 }
