@@ -1,3 +1,5 @@
 mod Checked
+mod SameInputs
+mod SameViews
 mod Slots
 mod Words

@@ -1,5 +1,5 @@
 -- A word that a slot takes is short, and so is a schema.
-use Rattle.std.proofs.Common.{◌≡◌, ◌≤◌, refl, subst, zero, suc, arith, ℕ, Bool, true, false, List, [], ◌∷◌, length, ◌&&◌}
+use Rattle.std.proofs.Common.{◌≡◌, ◌≤◌, ◌<◌, refl, subst, zero, suc, arith, ℕ, Bool, true, false, List, [], ◌∷◌, length, ◌&&◌}
 use Rattle.std.specs.Prelude.{nat_lt, not, if◌then◌else◌}
 use Rattle.tlb_edge.specs.Files.{Name}
 use Rattle.tlb_files.specs.Contents.{AreShort}
@@ -59,3 +59,24 @@ view-first count = go (nat_lt 3 count)
         × ((if more then Schema ∷ TypeWord ∷ Bag ∷ RootHash ∷ [] else Schema ∷ TypeWord ∷ Bag ∷ []) ≡ Schema ∷ slots)
     go true = (TypeWord ∷ Bag ∷ RootHash ∷ [], refl)
     go false = (TypeWord ∷ Bag ∷ [], refl)
+
+-- the slots of `view` where there are more than three words, and where there are not
+abbrev with_root : List Slot
+with_root = Schema ∷ TypeWord ∷ Bag ∷ RootHash ∷ []
+
+abbrev without_root : List Slot
+without_root = Schema ∷ TypeWord ∷ Bag ∷ []
+
+pub view-long : (n m : ℕ) → m ≡ n → 3 < n → view_slots m ≡ with_root
+view-long n m same more = go (nat_lt 3 m) refl
+  where
+    go : (b : Bool) → nat_lt 3 m ≡ b → (if b then with_root else without_root) ≡ with_root
+    go true e = refl
+    go false e = absurd (grind (arith, e, same, more))
+
+pub view-short : (n m : ℕ) → m ≡ n → n ≤ 3 → view_slots m ≡ without_root
+view-short n m same few = go (nat_lt 3 m) refl
+  where
+    go : (b : Bool) → nat_lt 3 m ≡ b → (if b then with_root else without_root) ≡ without_root
+    go true e = absurd (grind (arith, e, same, few))
+    go false e = refl

@@ -4,12 +4,12 @@ ghost use Rattle.tlb_files.specs.Contents.{AreShort};
 ghost use Rattle.tlb_files.specs.View.{contents_of};
 ghost use Rattle.cli_stages.specs.Stage.{Answers};
 ghost use Rattle.cli_commands.specs.Command.{at};
-ghost use Rattle.cli_commands.specs.Commands.{CommandAnswers, command_of, slots_of, verb_of};
+ghost use Rattle.cli_commands.specs.Commands.{CommandAnswers, slots_of, verb_of};
 ghost use Rattle.cli_commands.specs.Forms.{are_taken, files_in};
 ghost use Rattle.cli_commands.specs.Read.{Reads};
 ghost use Rattle.cli_commands.specs.Slots.{root_hash as hash_of_word};
 ghost use Rattle.cli_commands.specs.View.{text_by};
-ghost use Rattle.cli_commands.specs.Views.{Views};
+ghost use Rattle.cli_commands.specs.Views.{Views, view_slots as slots_by_count};
 
 use crate::check::check;
 use crate::hash::hash;
@@ -45,14 +45,13 @@ impl Verb {
         }
     }
 
-    /// What the words after its own are, where there are that many.
-    pub fn slots(self, count: usize) -> &'static [Slot]
-        ensures { result.now ≡ (command_of self).slots count }
+    /// What the words after its own are.
+    pub fn slots(self, words: &[String]) -> &'static [Slot]
+        ensures { result.now ≡ slots_of self (map string_bytes words.now) }
     {
         match self {
             Verb::Read | Verb::Lax => &[Slot::Schema, Slot::TypeWord, Slot::Bag],
-            Verb::View if 3 < count => &[Slot::Schema, Slot::TypeWord, Slot::Bag, Slot::RootHash],
-            Verb::View => &[Slot::Schema, Slot::TypeWord, Slot::Bag],
+            Verb::View => view_slots(words),
             Verb::Hash => &[Slot::Bag],
             Verb::Check => &[Slot::Schema],
         }
@@ -78,6 +77,17 @@ impl Verb {
             Verb::Hash => hash(alloc, bytes_at(contents, 0)),
             Verb::Check => check(alloc, bytes_at(contents, 0)),
         }
+    }
+}
+
+// The slots of `view`, where the root hash may be left out.
+fn view_slots(words: &[String]) -> &'static [Slot]
+    ensures { result.now ≡ slots_by_count (length (map string_bytes words.now)) }
+{
+    if words.len() > 3 {
+        &[Slot::Schema, Slot::TypeWord, Slot::Bag, Slot::RootHash]
+    } else {
+        &[Slot::Schema, Slot::TypeWord, Slot::Bag]
     }
 }
 

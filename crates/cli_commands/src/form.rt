@@ -44,7 +44,7 @@ impl<'a> Form<'a> {
             return None;
         };
         let verb = Verb::of(first.as_str())?;
-        if are_taken(verb.slots(words.len()), words) {
+        if are_taken(verb.slots(words), words) {
             Some(Form { verb, words })
         } else {
             None
@@ -55,7 +55,7 @@ impl<'a> Form<'a> {
     pub fn files(&self, alloc: Global) -> Result<Vec<File<'a>>, NoMemory>
         ensures { IfOk result (λ files. files_by files.items ≡ files_of (Some (form_by self.now))) }
     {
-        let slots = self.verb.slots(self.words.len());
+        let slots = self.verb.slots(self.words);
         let mut files = Vec::new(alloc);
         'slots: for (place, slot) in slots.iter().enumerate() {
             if let (Some(limit), Some(word)) = (slot.limit(), self.words.get(place)) {
