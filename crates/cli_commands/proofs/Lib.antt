@@ -1,4 +1,5 @@
 mod Checked
 mod SameInputs
+mod SameViews
 mod Slots
 mod Words

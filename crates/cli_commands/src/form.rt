@@ -44,7 +44,7 @@ impl<'a> Form<'a> {
             return None;
         };
         let verb = Verb::of(first.as_str())?;
-        if are_taken(verb.slots(), words) {
+        if are_taken(verb.slots(words), words) {
             Some(Form { verb, words })
         } else {
             None
@@ -56,7 +56,7 @@ impl<'a> Form<'a> {
         ensures { IfOk result (λ files. files_by files.items ≡ files_of (Some (form_by self.now))) }
     {
         let mut files = Vec::new(alloc);
-        'slots: for (place, slot) in self.verb.slots().iter().enumerate() {
+        'slots: for (place, slot) in self.verb.slots(self.words).iter().enumerate() {
             if let (Some(limit), Some(word)) = (slot.limit(), self.words.get(place)) {
                 files
                     .push(File {
