@@ -1,0 +1,5 @@
+use Rattle.std.proofs.Common.{length}
+use Rattle.pruned_proof.proofs.cutting.Cutting.keep_all.Given as goal
+
+abbrev pub decreases-refs : goal.decreases-refs
+decreases-refs l = length l.self.left

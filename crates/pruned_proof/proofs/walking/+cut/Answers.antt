@@ -1,0 +1,295 @@
+use Rattle.std.proofs.Common.{arith, ◌≡◌, ◌+◌, ◌++◌, ◌∷◌, ◌∙◌, ◌<◌, ◌≤◌, map, sym, ap, refl, [], None, Some, Ok, Err, List, ℕ, length, subst, drop}
+use Rattle.std.proofs.Common.{option_map, slice_get, rules, true, false}
+use Rattle.std.specs.Borrow.{Bor}
+use Rattle.std.proofs.lemmas.Result.{err_from_is_err_and}
+use Rattle.cell_nodes.specs.Constructed.{stub}
+use Rattle.cell_nodes.specs.declared.tree.Tree.{Tree}
+use Rattle.closed_type.specs.View.{closed_type as type_view, closed_args}
+use Rattle.core_form.specs.Core.{Items}
+use Rattle.core_form.specs.Scope.{Scope}
+use Rattle.flat_form.specs.Sound.{IsRange, OpsAreSound}
+use Rattle.flat_form.specs.Stands.{items_in, name_at, record_at, slot_of, type_at, expr_at}
+use Rattle.flat_form.specs.declared.lists.Flat.{Flat}
+use Rattle.flat_form.specs.declared.lists.PlanOp.{PlanOp}
+use Rattle.flat_form.specs.declared.lists.PlanOp.TheVariants.{Field, Solve}
+use Rattle.hashmap_tree.specs.Entries.{Slice}
+use Rattle.plan_closing.specs.Counted.{scope_of}
+use Rattle.plan_reading.specs.Shaped.{GovernIsSound, IsRecord, governed}
+use Rattle.pruning.specs.Cut.{cell_with}
+use Rattle.schema_leads.specs.Tags.{cores}
+use Rattle.spelling.specs.Goals as goals
+use Rattle.tlb_syntax.specs.View.{schema as schema_view}
+use Rattle.typed_value.specs.View.{names_in, pair_of, pairs_of, vals_in, value as value_view}
+use Rattle.pruned_proof.specs.View.{rests_of}
+use Rattle.pruned_proof.specs.Walks.{Due, DueItems, Moves, held_in}
+use Rattle.pruned_proof.specs.Wanted.{cut_at, cut_edge_for, cut_for}
+use Rattle.pruned_proof.proofs.Filling.{type_fills, record_fills, filled_cell, edge_filled, edge_cell}
+use Rattle.pruned_proof.proofs.Led.{still, gives_as, one_put, none_left, led, led_at, led_fields, is_held, led_hidden, led_kept}
+use Rattle.pruned_proof.proofs.Led.{led_raw, led_opened}
+use Rattle.pruned_proof.proofs.Pruned.{finished}
+use Rattle.pruned_proof.proofs.Recorded.{no_record, record_due}
+use Rattle.pruned_proof.proofs.Fielded.{due_solved, solve_found, field_due, first_due, none_due, first_item, no_item}
+use Rattle.pruned_proof.proofs.Shaped.{shaped, at_shape, here_outs, under_outs, left_is, here_within, under_within, items_there}
+use Rattle.pruned_proof.proofs.Shaped.{op_next, ops_end}
+use Rattle.plan_reading.specs.declared.shapes.FlatShape.TheVariants.{Here, Under, LeftOut, Typed}
+use Rattle.pruned_proof.proofs.walking.+cut.Goals as goal
+
+pub cut_ref-returns-in_err-child : goal.cut_ref-returns-in_err-child
+cut_ref-returns-in_err-child t c = λ d outs after is l.
+    let p = err_from_is_err_and c.from_residual-in_err-child.result c.from_residual-in_err-child.ensures.1 in
+    let S = cores (schema_view c.args.plan.now.0) in
+    let g = goals.under_ref (type_view c.args.inner.now) in
+    let v = value_view c.args.held.now in
+    let n = c.args.levels in
+    let k = rests_of c.args.wanted.now in
+    let x = led S d (type_view c.args.inner.now) v n c.args.cell.now.left outs after is l in
+    none_left {B = Bor Tree} _ c.from_residual-in_err-child.result c.in_err-child.field-0.0 c.args.cell.now.left after.refs x.child
+    (p.1 ∙ ap Err p.2) c.in_err-child.ensures.none x.there
+
+pub cut_ref-returns-then-is_nothing : goal.cut_ref-returns-then-is_nothing
+cut_ref-returns-then-is_nothing t c = λ d outs after is l.
+    let S = cores (schema_view c.args.plan.now.0) in
+    let g = goals.under_ref (type_view c.args.inner.now) in
+    let v = value_view c.args.held.now in
+    let n = c.args.levels in
+    let k = rests_of c.args.wanted.now in
+    let x = led S d (type_view c.args.inner.now) v n c.args.cell.now.left outs after is l in
+    let child = c.in_ok-child.child.now in
+    let at = led_at S g v n d c.args.cell.now.left c.next.new.self.left after.refs child x c.in_ok-child.ensures.ok in
+    one_put c.args.cell.now c.next.new.self c.hide.new.self (stub child 0) c.hide.result after.refs (cut_for k d)
+    c.next.ensures.made c.hide.ensures.ok c.hide.ensures.left c.hide.ensures.err at.rest
+    (led_hidden S g v n d child k at.leads (sym c.if-is_nothing.ensures))
+
+pub cut_ref-returns-then-is_whole : goal.cut_ref-returns-then-is_whole
+cut_ref-returns-then-is_whole t c = λ d outs after is l.
+    let S = cores (schema_view c.args.plan.now.0) in
+    let g = goals.under_ref (type_view c.args.inner.now) in
+    let v = value_view c.args.held.now in
+    let n = c.args.levels in
+    let k = rests_of c.args.wanted.now in
+    let x = led S d (type_view c.args.inner.now) v n c.args.cell.now.left outs after is l in
+    let child = c.in_ok-child.child.now in
+    let at = led_at S g v n d c.args.cell.now.left c.next.new.self.left after.refs child x c.in_ok-child.ensures.ok in
+    one_put c.args.cell.now c.next.new.self c.keep.new.self child c.keep.result after.refs (cut_for k d)
+    c.next.ensures.made c.keep.ensures.ok c.keep.ensures.left c.keep.ensures.err at.rest
+    (led_kept S g v n d child k at.leads (sym c.if-is_whole.ensures))
+
+pub cut_ref-returns-then-is_raw : goal.cut_ref-returns-then-is_raw
+cut_ref-returns-then-is_raw t c = λ d outs after is l.
+    let S = cores (schema_view c.args.plan.now.0) in
+    let g = goals.under_ref (type_view c.args.inner.now) in
+    let v = value_view c.args.held.now in
+    let n = c.args.levels in
+    let k = rests_of c.args.wanted.now in
+    let x = led S d (type_view c.args.inner.now) v n c.args.cell.now.left outs after is l in
+    let child = c.in_ok-child.child.now in
+    let at = led_at S g v n d c.args.cell.now.left c.next.new.self.left after.refs child x c.in_ok-child.ensures.ok in
+    one_put c.args.cell.now c.next.new.self c.keep-then-is_raw.new.self child c.keep-then-is_raw.result after.refs (cut_for k d)
+    c.next.ensures.made c.keep-then-is_raw.ensures.ok c.keep-then-is_raw.ensures.left c.keep-then-is_raw.ensures.err at.rest
+    (led_raw S g v n d child k at.leads (sym c.if-is_raw.ensures) (sym c.if-is_nothing.ensures))
+
+pub cut_ref-returns-in_err-made : goal.cut_ref-returns-in_err-made
+cut_ref-returns-in_err-made t c = λ d outs after is l.
+    let p = err_from_is_err_and c.from_residual-in_err-made.result c.from_residual-in_err-made.ensures.1 in
+    let S = cores (schema_view c.args.plan.now.0) in
+    let g = goals.under_ref (type_view c.args.inner.now) in
+    let v = value_view c.args.held.now in
+    let n = c.args.levels in
+    let k = rests_of c.args.wanted.now in
+    let x = led S d (type_view c.args.inner.now) v n c.args.cell.now.left outs after is l in
+    let child = c.in_ok-child.child.now in
+    let at = led_at S g v n d c.args.cell.now.left c.next.new.self.left after.refs child x c.in_ok-child.ensures.ok in
+    let o = led_opened S g v n d child k at.leads (sym c.if-is_raw.ensures) (sym c.if-is_nothing.ensures) in
+    still _ c.from_residual-in_err-made.result c.in_err-made.field-0.0 (p.1 ∙ ap Err p.2)
+    (c.in_err-made.ensures o.inner o.is o.fills)
+
+pub cut_ref-returns : goal.cut_ref-returns
+cut_ref-returns t c = λ d outs after is l.
+    let S = cores (schema_view c.args.plan.now.0) in
+    let g = goals.under_ref (type_view c.args.inner.now) in
+    let v = value_view c.args.held.now in
+    let n = c.args.levels in
+    let k = rests_of c.args.wanted.now in
+    let x = led S d (type_view c.args.inner.now) v n c.args.cell.now.left outs after is l in
+    let child = c.in_ok-child.child.now in
+    let at = led_at S g v n d c.args.cell.now.left c.next.new.self.left after.refs child x c.in_ok-child.ensures.ok in
+    let o = led_opened S g v n d child k at.leads (sym c.if-is_raw.ensures) (sym c.if-is_nothing.ensures) in
+    one_put c.args.cell.now c.next.new.self c.put.new.self c.in_ok-made.made c.put.result after.refs (cut_for k d)
+    c.next.ensures.made c.put.ensures.ok c.put.ensures.left c.put.ensures.err at.rest
+    (o.made ∙ ap (λ (z : Tree). z ∷ []) (sym (c.in_ok-made.ensures o.inner o.is o.fills)))
+
+pub cut_cell-returns-in_err-cut_value : goal.cut_cell-returns-in_err-cut_value
+cut_cell-returns-in_err-cut_value t c = λ d is f.
+    let p = err_from_is_err_and c.from_residual.result c.from_residual.ensures.1 in
+    let S = cores (schema_view c.args.plan.now.0) in
+    let k = rests_of c.args.wanted.now in
+    let x = type_fills S d (type_view c.args.ty.now) c.args.from.now c.of-inner.result.left f c.of-inner.ensures.left in
+    still _ c.from_residual.result c.in_err-cut_value.field-0.0 (p.1 ∙ ap Err p.2)
+    (c.in_err-cut_value.ensures d x.outs _ is x.lies)
+
+pub cut_cell-returns : goal.cut_cell-returns
+cut_cell-returns t c = λ d is f.
+    let S = cores (schema_view c.args.plan.now.0) in
+    let k = rests_of c.args.wanted.now in
+    let x = type_fills S d (type_view c.args.ty.now) c.args.from.now c.of-inner.result.left f c.of-inner.ensures.left in
+    let m = c.in_ok-cut_value.ensures d x.outs _ is x.lies in
+    finished c.finish.result c.args.from.now c.cut_value.new.cell.left c.cut_value.new.cell.made.items (cut_for k d)
+    c.finish.ensures.ok c.finish.ensures.unread m.1.0
+    (m.1.1 ∙ ap (λ (z : List Tree). z ++ cut_for k d) c.of-inner.ensures.made)
+    (filled_cell S (goals.under_ref (type_view c.args.ty.now)) d c.args.from.now k f)
+
+pub cut_under-returns-in_err-child : goal.cut_under-returns-in_err-child
+cut_under-returns-in_err-child t c = λ d outs after is l.
+    let p = err_from_is_err_and c.from_residual-in_err-child.result c.from_residual-in_err-child.ensures.1 in
+    let S = cores (schema_view c.args.plan.now.0) in
+    let items = record_at c.args.plan.now.1 c.args.first c.args.count in
+    let scope = scope_of c.args.env.now c.args.types.now in
+    let g = goals.at_fields items scope in
+    let k = rests_of c.args.wanted.now in
+    let x = led_fields S d items scope (value_view c.args.value.now) c.args.levels c.args.cell.now.left outs after is l in
+    let v = x.inner in
+    let n = x.less in
+    none_left {B = Bor Tree} _ c.from_residual-in_err-child.result c.in_err-child.field-0.0 c.args.cell.now.left after.refs x.leads.child
+    (p.1 ∙ ap Err p.2) c.in_err-child.ensures.none x.leads.there
+
+pub cut_under-returns-then-is_nothing : goal.cut_under-returns-then-is_nothing
+cut_under-returns-then-is_nothing t c = λ d outs after is l.
+    let S = cores (schema_view c.args.plan.now.0) in
+    let items = record_at c.args.plan.now.1 c.args.first c.args.count in
+    let scope = scope_of c.args.env.now c.args.types.now in
+    let g = goals.at_fields items scope in
+    let k = rests_of c.args.wanted.now in
+    let x = led_fields S d items scope (value_view c.args.value.now) c.args.levels c.args.cell.now.left outs after is l in
+    let v = x.inner in
+    let n = x.less in
+    let child = c.in_ok-child.child.now in
+    let at = led_at S g v n d c.args.cell.now.left c.next.new.self.left after.refs child x.leads c.in_ok-child.ensures.ok in
+    one_put c.args.cell.now c.next.new.self c.hide.new.self (stub child 0) c.hide.result after.refs (cut_for k d)
+    c.next.ensures.made c.hide.ensures.ok c.hide.ensures.left c.hide.ensures.err at.rest
+    (led_hidden S g v n d child k at.leads (sym c.if-is_nothing.ensures))
+
+pub cut_under-returns-then-is_whole : goal.cut_under-returns-then-is_whole
+cut_under-returns-then-is_whole t c = λ d outs after is l.
+    let S = cores (schema_view c.args.plan.now.0) in
+    let items = record_at c.args.plan.now.1 c.args.first c.args.count in
+    let scope = scope_of c.args.env.now c.args.types.now in
+    let g = goals.at_fields items scope in
+    let k = rests_of c.args.wanted.now in
+    let x = led_fields S d items scope (value_view c.args.value.now) c.args.levels c.args.cell.now.left outs after is l in
+    let v = x.inner in
+    let n = x.less in
+    let child = c.in_ok-child.child.now in
+    let at = led_at S g v n d c.args.cell.now.left c.next.new.self.left after.refs child x.leads c.in_ok-child.ensures.ok in
+    one_put c.args.cell.now c.next.new.self c.keep.new.self child c.keep.result after.refs (cut_for k d)
+    c.next.ensures.made c.keep.ensures.ok c.keep.ensures.left c.keep.ensures.err at.rest
+    (led_kept S g v n d child k at.leads (sym c.if-is_whole.ensures))
+
+pub cut_under-returns-in_default : goal.cut_under-returns-in_default
+cut_under-returns-in_default t c = λ d outs after is l.
+    let S = cores (schema_view c.args.plan.now.0) in
+    let items = record_at c.args.plan.now.1 c.args.first c.args.count in
+    let scope = scope_of c.args.env.now c.args.types.now in
+    let g = goals.at_fields items scope in
+    let k = rests_of c.args.wanted.now in
+    let x = led_fields S d items scope (value_view c.args.value.now) c.args.levels c.args.cell.now.left outs after is l in
+    let v = x.inner in
+    let n = x.less in
+    let f : None ≡ Some x.inner = ap (option_map _) (sym c.in_default.is) ∙ c.held.ensures ∙ ap held_in x.is_ref in
+    absurd (cc)
+
+pub cut_under-returns-in_err-cut_inner : goal.cut_under-returns-in_err-cut_inner
+cut_under-returns-in_err-cut_inner t c = λ d outs after is l.
+    let p = err_from_is_err_and c.from_residual-in_err-cut_inner.result c.from_residual-in_err-cut_inner.ensures.1 in
+    let S = cores (schema_view c.args.plan.now.0) in
+    let items = record_at c.args.plan.now.1 c.args.first c.args.count in
+    let scope = scope_of c.args.env.now c.args.types.now in
+    let g = goals.at_fields items scope in
+    let k = rests_of c.args.wanted.now in
+    let x = led_fields S d items scope (value_view c.args.value.now) c.args.levels c.args.cell.now.left outs after is l in
+    let v = x.inner in
+    let n = x.less in
+    let child = c.in_ok-child.child.now in
+    let at = led_at S g v n d c.args.cell.now.left c.next.new.self.left after.refs child x.leads c.in_ok-child.ensures.ok in
+    let o = led_opened S g v n d child k at.leads x.value (sym c.if-is_nothing.ensures) in
+    let z = record_fills S o.inner items scope child c.of-content.result.left o.fills c.of-content.ensures.left in
+    let inside = is_held o.inner v (value_view c.in-Some.held.now) (value_view c.args.value.now) n c.args.levels o.is x.is_ref
+    (ap (option_map _) (sym c.in-Some.is) ∙ c.held.ensures) x.levels in
+    still _ c.from_residual-in_err-cut_inner.result c.in_err-cut_inner.field-0.0 (p.1 ∙ ap Err p.2)
+    (c.in_err-cut_inner.ensures o.inner z.outs _ inside z.lies)
+
+pub cut_under-returns-in_err-finish : goal.cut_under-returns-in_err-finish
+cut_under-returns-in_err-finish t c = λ d outs after is l.
+    let p = err_from_is_err_and c.from_residual-in_err-finish.result c.from_residual-in_err-finish.ensures.1 in
+    let S = cores (schema_view c.args.plan.now.0) in
+    let items = record_at c.args.plan.now.1 c.args.first c.args.count in
+    let scope = scope_of c.args.env.now c.args.types.now in
+    let g = goals.at_fields items scope in
+    let k = rests_of c.args.wanted.now in
+    let x = led_fields S d items scope (value_view c.args.value.now) c.args.levels c.args.cell.now.left outs after is l in
+    let v = x.inner in
+    let n = x.less in
+    let child = c.in_ok-child.child.now in
+    let at = led_at S g v n d c.args.cell.now.left c.next.new.self.left after.refs child x.leads c.in_ok-child.ensures.ok in
+    let o = led_opened S g v n d child k at.leads x.value (sym c.if-is_nothing.ensures) in
+    let z = record_fills S o.inner items scope child c.of-content.result.left o.fills c.of-content.ensures.left in
+    let inside = is_held o.inner v (value_view c.in-Some.held.now) (value_view c.args.value.now) n c.args.levels o.is x.is_ref
+    (ap (option_map _) (sym c.in-Some.is) ∙ c.held.ensures) x.levels in
+    let m = c.in_ok-cut_inner.ensures o.inner z.outs _ inside z.lies in
+    let cell = filled_cell S g o.inner child k o.fills in
+    let are = m.1 ∙ ap (λ (z : List Tree). z ++ cut_for k o.inner) c.of-content.ensures.made in
+    still _ c.from_residual-in_err-finish.result c.in_err-finish.field-0.0 (p.1 ∙ ap Err p.2)
+    (finished (Err c.in_err-finish.field-0.0) child c.cut_inner.new.cell.left c.cut_inner.new.cell.made.items (cut_for k o.inner)
+    c.in_err-finish.ensures.ok c.in_err-finish.ensures.unread m.0 are cell)
+
+pub cut_under-returns : goal.cut_under-returns
+cut_under-returns t c = λ d outs after is l.
+    let S = cores (schema_view c.args.plan.now.0) in
+    let items = record_at c.args.plan.now.1 c.args.first c.args.count in
+    let scope = scope_of c.args.env.now c.args.types.now in
+    let g = goals.at_fields items scope in
+    let k = rests_of c.args.wanted.now in
+    let x = led_fields S d items scope (value_view c.args.value.now) c.args.levels c.args.cell.now.left outs after is l in
+    let v = x.inner in
+    let n = x.less in
+    let child = c.in_ok-child.child.now in
+    let at = led_at S g v n d c.args.cell.now.left c.next.new.self.left after.refs child x.leads c.in_ok-child.ensures.ok in
+    let o = led_opened S g v n d child k at.leads x.value (sym c.if-is_nothing.ensures) in
+    let z = record_fills S o.inner items scope child c.of-content.result.left o.fills c.of-content.ensures.left in
+    let inside = is_held o.inner v (value_view c.in-Some.held.now) (value_view c.args.value.now) n c.args.levels o.is x.is_ref
+    (ap (option_map _) (sym c.in-Some.is) ∙ c.held.ensures) x.levels in
+    let m = c.in_ok-cut_inner.ensures o.inner z.outs _ inside z.lies in
+    let cell = filled_cell S g o.inner child k o.fills in
+    let are = m.1 ∙ ap (λ (z : List Tree). z ++ cut_for k o.inner) c.of-content.ensures.made in
+    let whole = finished (Ok c.in_ok-finish.field-0) child c.cut_inner.new.cell.left c.cut_inner.new.cell.made.items
+    (cut_for k o.inner) c.in_ok-finish.ensures.ok c.in_ok-finish.ensures.unread m.0 are cell in
+    one_put c.args.cell.now c.next.new.self c.put.new.self c.in_ok-finish.field-0 c.put.result after.refs (cut_for k d)
+    c.next.ensures.made c.put.ensures.ok c.put.ensures.left c.put.ensures.err at.rest
+    (o.made ∙ ap (λ (z : Tree). z ∷ []) (sym whole))
+
+pub cut_inner-returns-in_default : goal.cut_inner-returns-in_default
+cut_inner-returns-in_default t c = λ d outs after is l.
+    let S = cores (schema_view c.args.plan.now.0) in
+    let items = record_at c.args.plan.now.1 c.args.first c.args.count in
+    let scope = scope_of c.args.env.now c.args.types.now in
+    let k = rests_of c.args.wanted.now in
+    let v = value_view c.args.value.now in
+    absurd (no_record S k items scope v c.args.levels c.args.cell.now outs after d is l
+    (ap (option_map _) (sym c.in_default.is) ∙ c.fields_of.ensures))
+
+pub cut_inner-returns : goal.cut_inner-returns
+cut_inner-returns t c = λ d outs after is l.
+    let S = cores (schema_view c.args.plan.now.0) in
+    let items = record_at c.args.plan.now.1 c.args.first c.args.count in
+    let scope = scope_of c.args.env.now c.args.types.now in
+    let k = rests_of c.args.wanted.now in
+    let v = value_view c.args.value.now in
+    let due = record_due S k items scope v c.args.levels c.args.cell.now outs after d (map pair_of c.in-Some.fields.now) is l
+    (ap (option_map _) (sym c.in-Some.is) ∙ c.fields_of.ensures) in
+    let D : Items → Scope → Type 0 = λ z y. Due S k (c.args.levels - 1) due.end after (c.args.cell.now.made.items ++ cut_for k d) z y
+    (map pair_of c.in-Some.fields.now) c.args.cell.now in
+    let there = items_there c.flat.result.now c.args.plan.now.1 c.args.first c.args.count c.operations-ops.result.now
+    c.flat.ensures.lists c.operations-ops.ensures in
+    let at = subst (λ z. D z scope) (sym there) due.due in
+    let copied = ap (λ z. scope_of z c.args.types.now) (sym c.in_ok-inner.ensures) in
+    gives_as _ _ c.cut_fields.result (λ x m. (m.1, m.2))
+    (c.cut_fields.ensures due.end after (c.args.cell.now.made.items ++ cut_for k d) (subst (D _) copied at))

@@ -1,0 +1,11 @@
+//! Merkle proofs of chosen paths.
+#![tactic(auto)]
+
+mod cutting;
+mod error;
+mod proving;
+mod walking;
+mod wanted;
+
+pub use error::ProveError;
+pub use proving::{Proved, prove};
