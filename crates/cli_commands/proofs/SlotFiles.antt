@@ -37,8 +37,8 @@ puts files after slots words place s slot x word in_slots in_words at is same pu
     let inside : place < length (map string_bytes words) = omega (arith, in_words, length-map words string_bytes) in
     let here : get_or (map string_bytes words) place (string_bytes x) ≡ word = word-at words place x is ∙ sym same in
     let first : files_in (drop place slots) (drop place (map string_bytes words)) ≡ named (limit_of slot) word [] ++ rest =
-        files-at slots (map string_bytes words) place s (string_bytes x) in_slots inside
-        ∙ ap (λ z. named (limit_of z) (get_or (map string_bytes words) place (string_bytes x)) rest) (sym at)
-        ∙ ap (λ n. named (limit_of slot) n rest) here
-        ∙ sym (named-after (limit_of slot) word rest) in
+    files-at slots (map string_bytes words) place s (string_bytes x) in_slots inside
+    ∙ ap (λ z. named (limit_of z) (get_or (map string_bytes words) place (string_bytes x)) rest) (sym at)
+    ∙ ap (λ n. named (limit_of slot) n rest) here
+    ∙ sym (named-after (limit_of slot) word rest) in
     ap (λ xs. xs ++ rest) put ∙ append_assoc files (named (limit_of slot) word []) rest ∙ ap (λ xs. files ++ xs) (sym first) ∙ others
