@@ -25,9 +25,7 @@ seen_stuck mode schema R h q v c (Some x) is seen some =
     ∙ ap (λ o. make_cell h o c empty >>= (λ (y : Made). Ok (finished at_cell y.1.held))) (sym seen)
 
 -- a record at a closed type
-pub as_record : (mode : Mode) (schema : CoreSchema) (R : Maker) (h : Spot) (t u : Closed) (q : ℕ) (v : Plain) (b : Grown)
-    (name : Option Word) (names : List Word) (vs : Plains) → v ≡ record_of name names vs → t ≡ u
-    → make_shape mode schema R h (typed t) q v b ≡ record_at schema R h (typed u) q name names vs b
-as_record mode schema R h t u q v b name names vs is same =
-    ap (λ z. make_shape mode schema R h (typed t) q z b) is
-    ∙ ap (λ z. record_at schema R h (typed z) q name names vs b) same
+pub as_record : (mode : Mode) (schema : CoreSchema) (R : Maker) (h : Spot) (t : Closed) (q : ℕ) (v : Plain) (b : Grown)
+    (name : Option Word) (names : List Word) (vs : Plains) → v ≡ record_of name names vs
+    → make_shape mode schema R h (typed t) q v b ≡ record_at schema R h (typed t) q name names vs b
+as_record mode schema R h t q v b name names vs is = ap (λ z. make_shape mode schema R h (typed t) q z b) is

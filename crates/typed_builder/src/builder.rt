@@ -27,6 +27,7 @@ ghost use Rattle.typed_builder.specs.View.{built_cell, core_of, list_of, maker_o
 use crate::dicts::{add_below, add_here, add_leaf, fits_below, fits_here};
 use crate::forms::{has_count, inner_fields, is_whole, left_out, next_field, refuse, whole_cell};
 use crate::records::{fitted, has_all, inner_operations, operations, put_tag, results};
+use crate::types::{declared, put_left, put_unknown, referred, repeated};
 use bit_slice::{BitString, Name};
 use cell_nodes::{Cell, Mode};
 use closed_type::{ClosedArg, ClosedType};
@@ -35,7 +36,6 @@ use flat_form::PlanOp;
 use nat_solver::Env;
 use plan_building::{
     Growing, Outputs, begin, bind_outputs, grew, make_number, make_string, put_hidden, put_ref,
-    put_rest,
 };
 use plan_reading::{
     FlatShape, ShapeError, StopError, check, in_constructor, in_field, in_table, set, shape, sought,
@@ -293,65 +293,113 @@ fn build_type(
     match value {
         Value::Number(number) => make_number(alloc, ty, *number, b),
         Value::Bits(bits) => make_string(alloc, ty, bits.slice(), b),
-        Value::Record(record) => match ty {
-            ClosedType::Named(name, args) => build_declared(
-                alloc,
-                plan,
-                mode,
-                levels,
-                begun,
-                name,
-                args.as_slice(),
-                record,
-                b,
-            ),
-            _ => Err(refuse(alloc, Cause::Shape)),
-        },
-        Value::List(items) => match ty {
-            ClosedType::Repeat(count, inner) => build_list(
-                alloc,
-                plan,
-                mode,
-                levels,
-                begun,
-                *count,
-                inner.get(),
-                items.as_slice(),
-                b,
-            ),
-            _ => Err(refuse(alloc, Cause::Shape)),
-        },
-        Value::Ref(held) => match ty {
-            ClosedType::Ref(inner) => build_ref(
-                alloc,
-                plan,
-                mode,
-                levels,
-                begun,
-                inner.get(),
-                held.get(),
-                b,
-            ),
-            _ => Err(refuse(alloc, Cause::Shape)),
-        },
-        Value::Unknown(hidden) => match ty {
-            ClosedType::Ref(_) => put_hidden(alloc, mode, *hidden, b),
-            _ => Err(refuse(alloc, Cause::Shape)),
-        },
-        Value::Map(dict) => match ty {
-            ClosedType::Dict(n, inner) => {
-                build_dict(alloc, plan, mode, levels, begun, *n, inner.get(), dict, b)
-            }
-            ClosedType::DictE(n, inner) => {
-                build_dict_e(alloc, plan, mode, levels, begun, *n, inner.get(), dict, b)
-            }
-            _ => Err(refuse(alloc, Cause::Shape)),
-        },
-        Value::Rest(rest) => match ty {
-            ClosedType::Whole => put_rest(alloc, rest, b),
-            _ => Err(refuse(alloc, Cause::Shape)),
-        },
+        Value::Record(held) => build_record(alloc, plan, mode, levels, begun, ty, held, b),
+        Value::List(items) => {
+            build_series(alloc, plan, mode, levels, begun, ty, items.as_slice(), b)
+        }
+        Value::Ref(held) => build_held(alloc, plan, mode, levels, begun, ty, held.get(), b),
+        Value::Unknown(hidden) => put_unknown(alloc, mode, ty, *hidden, b),
+        Value::Map(dict) => build_map(alloc, plan, mode, levels, begun, ty, dict, b),
+        Value::Rest(rest) => put_left(alloc, ty, rest, b),
         Value::Absent | Value::Raw(_) => Err(refuse(alloc, Cause::Shape)),
+    }
+}
+
+/// A record at a closed type.
+#[cycle(build)]
+fn build_record(
+    alloc: Global,
+    plan: &Plan,
+    mode: Mode,
+    levels: u32,
+    begun: &mut u32,
+    ty: &ClosedType,
+    held: &Record,
+    b: &mut Growing,
+) -> Result<Outputs, StopError>
+    ensures gives { (h : Spot) → Gives h (made b.new) result
+        (plain.record_at (core_of plan.now.0) (maker_of levels mode plan.now.0) h (goals.typed (type_view ty.now))
+        begun.old held.now.name (names_in (map pair_of held.now.fields)) (values_of held.now.fields) (grown b.old)) }
+    ensures counts { OnOk result (begun.new ≡ begun.old + forms.parts_in (values_of held.now.fields)) }
+{
+    let Some((name, args)) = declared(ty) else {
+        return Err(stop_here(alloc, Cause::Shape));
+    };
+    build_declared(alloc, plan, mode, levels, begun, name, args, held, b)
+}
+
+/// Values one after the other at a closed type.
+#[cycle(build)]
+fn build_series(
+    alloc: Global,
+    plan: &Plan,
+    mode: Mode,
+    levels: u32,
+    begun: &mut u32,
+    ty: &ClosedType,
+    items: &[Value],
+    b: &mut Growing,
+) -> Result<Outputs, StopError>
+    ensures gives { (h : Spot) → Gives h (made b.new) result
+        (plain.list_at (maker_of levels mode plan.now.0) h (goals.typed (type_view ty.now)) begun.old
+        (list_of items.now) (grown b.old)) }
+    ensures counts { OnOk result (begun.new ≡ begun.old + forms.parts_in (list_of items.now)) }
+{
+    let Some((count, inner)) = repeated(ty) else {
+        return Err(stop_here(alloc, Cause::Shape));
+    };
+    build_list(alloc, plan, mode, levels, begun, count, inner, items, b)
+}
+
+/// A reference at a closed type.
+#[cycle(build)]
+fn build_held(
+    alloc: Global,
+    plan: &Plan,
+    mode: Mode,
+    levels: u32,
+    begun: &mut u32,
+    ty: &ClosedType,
+    value: &Value,
+    b: &mut Growing,
+) -> Result<Outputs, StopError>
+    ensures gives { (h : Spot) → Gives h (made b.new) result
+        (plain.ref_at (maker_of levels mode plan.now.0) h (goals.typed (type_view ty.now)) begun.old
+        (value_view value.now) (grown b.old)) }
+    ensures counts { OnOk result (begun.new ≡ begun.old + forms.parts (value_view value.now)) }
+{
+    let Some(inner) = referred(ty) else {
+        return Err(stop_here(alloc, Cause::Shape));
+    };
+    build_ref(alloc, plan, mode, levels, begun, inner, value, b)
+}
+
+/// A dictionary at a closed type whose width is in the table.
+#[cycle(build)]
+fn build_map(
+    alloc: Global,
+    plan: &Plan,
+    mode: Mode,
+    levels: u32,
+    begun: &mut u32,
+    ty: &ClosedType,
+    dict: &Dict,
+    b: &mut Growing,
+) -> Result<Outputs, StopError>
+    requires { goals.in_table (type_view ty.now) ≡ true }
+    ensures gives { (h : Spot) → Gives h (made b.new) result
+        (plain.map_at mode (maker_of levels mode plan.now.0) h (goals.typed (type_view ty.now)) begun.old
+        (pairs_of (map pair_of dict.now.pairs)) dict.now.unknown (grown b.old)) }
+    ensures counts { OnOk result (begun.new ≡ begun.old + forms.parts_by (pairs_of (map pair_of dict.now.pairs))) }
+{
+    match ty {
+        ClosedType::Dict(n, inner) => {
+            build_dict(alloc, plan, mode, levels, begun, *n, inner.get(), dict, b)
+        }
+        ClosedType::DictE(n, inner) => {
+            build_dict_e(alloc, plan, mode, levels, begun, *n, inner.get(), dict, b)
+        }
+        _ => Err(refuse(alloc, Cause::Shape)),
     }
 }
 

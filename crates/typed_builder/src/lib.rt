@@ -7,6 +7,7 @@ mod error;
 mod forms;
 mod records;
 mod root;
+mod types;
 
 pub use error::BuildError;
 pub use field_plan::{Holder, Place};

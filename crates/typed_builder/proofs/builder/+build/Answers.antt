@@ -1,5 +1,5 @@
 use Rattle.building.specs.Growing.{Grown}
-use Rattle.building.specs.PlainBuilder.{has_fields, make_fields, make_inside, make_leaves}
+use Rattle.building.specs.PlainBuilder.{has_fields, list_at, make_fields, make_inside, make_leaves, record_at, ref_at}
 use Rattle.cell_nodes.specs.declared.tree.Tree.{Tree}
 use Rattle.closed_type.specs.View.{closed_args, closed_type as type_view}
 use Rattle.core_form.specs.Core.{Declaration, Word, check, sets}
@@ -22,8 +22,7 @@ use Rattle.spelling.specs.PlainReader.{step}
 use Rattle.spelling.specs.Slices.{nothing}
 use Rattle.spelling.specs.declared.Cause.TheVariants.{Shape, Width}
 use Rattle.spelling.specs.declared.Cause.{Cause}
-use Rattle.closed_type.specs.declared.tree.ClosedArg.TheFolds.{the_lemmas as type_lemmas}
-use Rattle.core_form.specs.Closed.{named}
+use Rattle.core_form.specs.Closed.{Closed}
 use Rattle.tlb_syntax.specs.View.{schema as schema_view}
 use Rattle.typed_value.specs.Values.{record_of}
 use Rattle.std.proofs.Common.{Err, List, false, true, slice_get, None, Ok, Option, Some, [], ap, arith, drop, get_or, length, map, refl, rules, subst, sym, ℕ, ◌++◌, ◌+◌, ◌-◌, ◌∙◌, ◌∷◌, ◌≡◌}
@@ -729,20 +728,60 @@ build_declared-returns-in-Ok-clause-gives t c =
     (c.operations-ops.ensures.items d ch.there) (subst T fields (sym c.if-not-has_all.ensures))
     ∙ subst U fields (c.in-Ok.ensures.gives d ch.scope ch.there ch.fits)
 
-pub build_type-returns-in-Named-clause-gives : goal.build_type-returns-in-Named-clause-gives
-build_type-returns-in-Named-clause-gives t c =
-    let r = c.in-Record.record in
+pub build_type-returns-in-Record-clause-gives : goal.build_type-returns-in-Record-clause-gives
+build_type-returns-in-Record-clause-gives t c =
+    let r = c.in-Record.held in
     let S = core_of c.args.plan.now.0 in
     let R = maker_of c.args.levels c.args.mode c.args.plan.now.0 in
     let seen : value_view c.args.value.now ≡ record_of r.name (names_in (map pair_of r.fields)) (values_of r.fields) =
         rw c.in-Record.is (search (the_lemmas, rules)) in
-    let typed_so : type_view c.args.ty.now ≡ named c.in-Named.name (closed_args c.in-Named.args) =
-        rw c.in-Named.is (search (type_lemmas, rules)) in
-    let same : type_view c.args.ty.now ≡ named c.in-Named.name (closed_args c.as_slice.result.now) =
-        typed_so ∙ ap (λ z. named c.in-Named.name (closed_args z)) (sym c.as_slice.ensures) in
+    λ h. gives_same h (made c.build_record.new.b) c.build_record.result _ _
+    (as_record c.args.mode S R h (type_view c.args.ty.now) c.args.begun.now (value_view c.args.value.now) (grown c.args.b.now)
+    r.name (names_in (map pair_of r.fields)) (values_of r.fields) seen) (c.build_record.ensures.gives h)
+
+pub build_record-returns-in_default-clause-gives : goal.build_record-returns-in_default-clause-gives
+build_record-returns-in_default-clause-gives t c =
+    λ h. stops_at h c.stop_here.result (stuck h Shape) _ (c.stop_here.ensures h)
+    (c.in_default.ensures.none (core_of c.args.plan.now.0) (maker_of c.args.levels c.args.mode c.args.plan.now.0) h
+    c.args.begun.now c.args.held.now.name (names_in (map pair_of c.args.held.now.fields)) (values_of c.args.held.now.fields)
+    (grown c.args.b.now))
+
+pub build_record-returns-clause-gives : goal.build_record-returns-clause-gives
+build_record-returns-clause-gives t c =
+    let S = core_of c.args.plan.now.0 in
+    let R = maker_of c.args.levels c.args.mode c.args.plan.now.0 in
     λ h. gives_same h (made c.build_declared.new.b) c.build_declared.result _ _
-    (as_record c.args.mode S R h (type_view c.args.ty.now) _ c.args.begun.now (value_view c.args.value.now) (grown c.args.b.now)
-    r.name (names_in (map pair_of r.fields)) (values_of r.fields) seen same) (c.build_declared.ensures.gives h)
+    (ap (λ (z : Closed). record_at S R h (goals.typed z) c.args.begun.now c.args.held.now.name
+    (names_in (map pair_of c.args.held.now.fields)) (values_of c.args.held.now.fields) (grown c.args.b.now)) c.in-Some.ensures.is)
+    (c.build_declared.ensures.gives h)
+
+pub build_series-returns-in_default-clause-gives : goal.build_series-returns-in_default-clause-gives
+build_series-returns-in_default-clause-gives t c =
+    λ h. stops_at h c.stop_here.result (stuck h Shape) _ (c.stop_here.ensures h)
+    (c.in_default.ensures.none (maker_of c.args.levels c.args.mode c.args.plan.now.0) h c.args.begun.now
+    (list_of c.args.items.now) (grown c.args.b.now))
+
+pub build_series-returns-clause-gives : goal.build_series-returns-clause-gives
+build_series-returns-clause-gives t c =
+    let R = maker_of c.args.levels c.args.mode c.args.plan.now.0 in
+    λ h. gives_same h (made c.build_list.new.b) c.build_list.result _ _
+    (ap (λ (z : Closed). list_at R h (goals.typed z) c.args.begun.now (list_of c.args.items.now) (grown c.args.b.now))
+    c.in-Some.ensures.is)
+    (c.build_list.ensures.gives h)
+
+pub build_held-returns-in_default-clause-gives : goal.build_held-returns-in_default-clause-gives
+build_held-returns-in_default-clause-gives t c =
+    λ h. stops_at h c.stop_here.result (stuck h Shape) _ (c.stop_here.ensures h)
+    (c.in_default.ensures.none (maker_of c.args.levels c.args.mode c.args.plan.now.0) h c.args.begun.now
+    (value_view c.args.value.now) (grown c.args.b.now))
+
+pub build_held-returns-clause-gives : goal.build_held-returns-clause-gives
+build_held-returns-clause-gives t c =
+    let R = maker_of c.args.levels c.args.mode c.args.plan.now.0 in
+    λ h. gives_same h (made c.build_ref.new.b) c.build_ref.result _ _
+    (ap (λ (z : Closed). ref_at R h (goals.typed z) c.args.begun.now (value_view c.args.value.now) (grown c.args.b.now))
+    c.in-Some.ensures.is)
+    (c.build_ref.ensures.gives h)
 
 pub build_record_cell-returns-in_err-begin-clause-gives : goal.build_record_cell-returns-in_err-begin-clause-gives
 build_record_cell-returns-in_err-begin-clause-gives t c =

@@ -62,7 +62,19 @@ abbrev pub decreases-build_declared : goal.decreases-build_declared
 decreases-build_declared l = 8 * l.levels + 4
 
 abbrev pub decreases-build_type : goal.decreases-build_type
-decreases-build_type l = 8 * l.levels + 5
+decreases-build_type l = 8 * l.levels + 6
+
+abbrev pub decreases-build_record : goal.decreases-build_record
+decreases-build_record l = 8 * l.levels + 5
+
+abbrev pub decreases-build_series : goal.decreases-build_series
+decreases-build_series l = 8 * l.levels + 3
+
+abbrev pub decreases-build_held : goal.decreases-build_held
+decreases-build_held l = 8 * l.levels + 3
+
+abbrev pub decreases-build_map : goal.decreases-build_map
+decreases-build_map l = 8 * l.levels + 3
 
 abbrev pub invariant-build_items-loop-item : goal.invariant-build_items-loop-item
 invariant-build_items-loop-item l =
