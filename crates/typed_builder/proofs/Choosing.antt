@@ -1,5 +1,6 @@
 -- The constructor of a name, by what the plan says of it.
-use Rattle.std.proofs.Common.{◌≡◌, ℕ, zero, suc, ◌<◌, length, Bool, true, false, cond, ◌&&◌, List, [], ◌∷◌, Option, Some, None, IsSome, refl, sym, ap, ◌∙◌, slice_get, arith, is_some}
+use Rattle.std.proofs.Common.{◌≡◌, ℕ, zero, suc, ◌<◌, length, Bool, true, false, cond, ◌&&◌, List, [], ◌∷◌, Option}
+use Rattle.std.proofs.Common.{Some, None, IsSome, refl, sym, ap, ◌∙◌, slice_get, arith, is_some}
 use Rattle.std.specs.Prelude.{bytes_eq}
 use Rattle.std.proofs.lemmas.Slice.Eq.{bytes_eq-Decides}
 use Rattle.core_form.specs.Closed.{ClosedArgs}
@@ -79,8 +80,10 @@ pub record Chosen (s : CoreSchema) (x name : Word) (args : ClosedArgs) (c : ℕ)
   pub is : choose s x name args ≡ Some (declaration, scope)
 
 pub chosen_at : (s : CoreSchema) (x name : Word) (args : ClosedArgs) (c : ℕ) → c < length s
-    → ((e : ℕ) (d : Declaration) → slice_get s e ≡ Some d → (◌≡◌ {A = Option ℕ} (Some c) (Some e)) → IsNamed x args name d)
-    → ((e : ℕ) (d : Declaration) → slice_get s e ≡ Some d → IsNamed x args name d → (◌≡◌ {A = Option ℕ} (Some c) (Some e)))
+    → ((e : ℕ) (d : Declaration) → slice_get s e ≡ Some d → (◌≡◌ {A = Option ℕ} (Some c) (Some e)) → IsNamed x args name
+    d)
+    → ((e : ℕ) (d : Declaration) → slice_get s e ≡ Some d → IsNamed x args name d
+    → (◌≡◌ {A = Option ℕ} (Some c) (Some e)))
     → Chosen s x name args c
 chosen_at s x name args c below named only =
     let d = some_there s c below in

@@ -16,7 +16,8 @@ use Rattle.spelling.specs.declared.Cause.TheVariants.{NoConstructor, Overflow, S
 use Rattle.spelling_laws.specs.StepLaws.{when_true, when_false}
 use Rattle.typed_value.specs.Values.{Plain, Plains, record_of}
 use Rattle.building.specs.Growing.{Grown}
-use Rattle.building.specs.PlainBuilder.{Made, Maker, choose, has_fields, make_declared, make_fields, make_inner, make_inside, make_shape, put, record_at}
+use Rattle.building.specs.PlainBuilder.{Made, Maker, choose, has_fields, make_declared, make_fields, make_inner}
+use Rattle.building.specs.PlainBuilder.{make_inside, make_shape, put, record_at}
 use Rattle.typed_builder.proofs.Steps.{goes_on, stops_same}
 
 -- ---- a record in a record
@@ -68,7 +69,8 @@ pub tag_stops : (R : Maker) (d : Declaration) (scope : Scope) (q : ℕ) (vs : Pl
     → Stops (start d) e (put (tag_of (start d)) (only_bits d.core.tag) false false b)
     → Stops (start d) e (make_inside R d scope q vs b)
 tag_stops R d scope q vs b e stop =
-    stops_then (start d) e (put (tag_of (start d)) (only_bits d.core.tag) false false b) (fields_then R d scope q vs) stop
+    stops_then (start d) e (put (tag_of (start d)) (only_bits d.core.tag) false false b) (fields_then R d scope q vs)
+    stop
 
 inside_is : (R : Maker) (d : Declaration) (items : Items) (scope : Scope) (q : ℕ) (vs : Plains) (b g : Grown)
     → items ≡ d.core.items → put (tag_of (start d)) (only_bits d.core.tag) false false b ≡ Ok g
@@ -133,7 +135,8 @@ one_misnamed schema R h type args q shown name names vs b d scope items e is one
     stops_at h e (stuck h Shape) (record_at schema R h (typed (closed.named type args)) q shown names vs b) at
     (ap (λ z. record_at schema R h (typed (closed.named type args)) q z names vs b) is
     ∙ ap (λ o. make_declared R h o q names vs b) one
-    ∙ when_false {A = Result Made Place} (has_fields names vs d.core.items) _ _ (ap (has_fields names vs) (sym same) ∙ has))
+    ∙ when_false {A = Result Made Place} (has_fields names vs d.core.items) _ _
+    (ap (has_fields names vs) (sym same) ∙ has))
 
 pub one_enters : (schema : CoreSchema) (R : Maker) (h : Spot) (type : Word) (args : ClosedArgs) (q : ℕ)
     (shown : Option Word) (name : Word) (names : List Word) (vs : Plains) (b : Grown) (d : Declaration) (scope : Scope)
@@ -143,7 +146,8 @@ pub one_enters : (schema : CoreSchema) (R : Maker) (h : Spot) (type : Word) (arg
 one_enters schema R h type args q shown name names vs b d scope items is one same has =
     ap (λ z. record_at schema R h (typed (closed.named type args)) q z names vs b) is
     ∙ ap (λ o. make_declared R h o q names vs b) one
-    ∙ when_true {A = Result Made Place} (has_fields names vs d.core.items) _ _ (ap (has_fields names vs) (sym same) ∙ has)
+    ∙ when_true {A = Result Made Place} (has_fields names vs d.core.items) _ _
+    (ap (has_fields names vs) (sym same) ∙ has)
 
 pub no_name : (schema : CoreSchema) (R : Maker) (h : Spot) (type : Word) (args : ClosedArgs) (q : ℕ)
     (shown : Option Word) (names : List Word) (vs : Plains) (b : Grown) (e : StopError)

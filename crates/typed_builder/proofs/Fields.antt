@@ -1,5 +1,6 @@
 -- A record's operations one after the other, and its fields' values beside them.
-use Rattle.std.proofs.Common.{◌≡◌, ℕ, suc, ◌+◌, ◌<◌, ◌≤◌, List, [], ◌∷◌, Option, Some, None, Result, Ok, Err, drop, drop-cons, get_or, length, refl, ap, sym, ◌∙◌, subst, arith}
+use Rattle.std.proofs.Common.{◌≡◌, ℕ, suc, ◌+◌, ◌<◌, ◌≤◌, List, [], ◌∷◌, Option, Some, None, Result, Ok, Err, drop}
+use Rattle.std.proofs.Common.{drop-cons, get_or, length, refl, ap, sym, ◌∙◌, subst, arith}
 use Rattle.std.proofs.lemmas.List.{drop_all}
 use Rattle.core_form.specs.Core.{Items}
 use Rattle.core_form.specs.Scope.{Scope}
@@ -59,7 +60,8 @@ one_more R f ops start from fields first c d op rest scope next q k due left b g
     }
 
 pub one_stops : (R : Maker) (f : Flat) (ops : List PlanOp) (start : Scope) (from : ℕ) (fields : Plains) (first : Grown)
-    (c : Option (ℕ × ℕ)) (op : PlanOp) (rest : List PlanOp) (scope : Scope) (q : ℕ) (due : Plains) (b : Grown) (h : Spot)
+    (c : Option (ℕ × ℕ)) (op : PlanOp) (rest : List PlanOp) (scope : Scope) (q : ℕ) (due : Plains) (b : Grown)
+    (h : Spot)
     (e : StopError) → SoFar R f ops start from fields first c (op ∷ rest) scope q due b
     → Stops h e (turn R h f (governed f c) op scope q due b)
     → Stops h e (make_fields R h (items_in f (type_at f) None ops) start from fields first)
@@ -80,11 +82,14 @@ all_made R f ops start from fields first c scope q (x ∷ due) b h s none = absu
 pub some_due : (R : Maker) (f : Flat) (ops : List PlanOp) (start : Scope) (from : ℕ) (fields : Plains) (first : Grown)
     (c : Option (ℕ × ℕ)) (scope : Scope) (q : ℕ) (due : List (List ℕ × Value)) (b : Grown) (h : Spot) (e : StopError)
     → SoFar R f ops start from fields first c [] scope q (values_of due) b → (length due ≡ 0 → ⊥)
-    → StopsAt h e (stuck h Shape) → Stops h e (make_fields R h (items_in f (type_at f) None ops) start from fields first)
+    → StopsAt h e (stuck h Shape) → Stops h e (make_fields R h (items_in f (type_at f) None ops) start from fields
+    first)
 some_due R f ops start from fields first c scope q [] b h e s some at = absurd (some refl)
-some_due R f ops start from fields first c scope q (x ∷ due) b h e s some at = stops_at h e (stuck h Shape) _ at (s.so_far h)
+some_due R f ops start from fields first c scope q (x ∷ due) b h e s some at = stops_at h e (stuck h Shape) _ at
+    (s.so_far h)
 
-pub all_counted : (R : Maker) (f : Flat) (ops : List PlanOp) (start : Scope) (from : ℕ) (fields : Plains) (first : Grown)
+pub all_counted : (R : Maker) (f : Flat) (ops : List PlanOp) (start : Scope) (from : ℕ) (fields : Plains)
+    (first : Grown)
     (c : Option (ℕ × ℕ)) (scope : Scope) (q : ℕ) (due : List (List ℕ × Value)) (b : Grown)
     → SoFar R f ops start from fields first c [] scope q (values_of due) b → length due ≡ 0 → q ≡ from + parts_in fields
 all_counted R f ops start from fields first c scope q [] b s none = let k = s.counts in omega (arith, k)

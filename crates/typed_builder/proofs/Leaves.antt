@@ -1,5 +1,6 @@
 -- The contents of a dictionary's leaves, one after the other.
-use Rattle.std.proofs.Common.{◌≡◌, ℕ, suc, ◌+◌, ◌<◌, ◌≤◌, List, [], ◌∷◌, ◌++◌, Result, Ok, Err, drop, drop-cons, get_or, length, map, refl, ap, sym, ◌∙◌, subst, arith}
+use Rattle.std.proofs.Common.{◌≡◌, ℕ, suc, ◌+◌, ◌<◌, ◌≤◌, List, [], ◌∷◌, ◌++◌, Result, Ok, Err, drop, drop-cons, get_or}
+use Rattle.std.proofs.Common.{length, map, refl, ap, sym, ◌∙◌, subst, arith}
 use Rattle.std.proofs.lemmas.List.{drop_all}
 use Rattle.core_form.specs.Closed.{Closed}
 use Rattle.plan_reading.specs.StopLaws.{stops_then}
@@ -40,11 +41,16 @@ none_first (Err p) = refl
 -- what the leaves that are built and the pairs that are left make of the whole
 pub record Leaved (R : Maker) (t : Closed) (whole : List (List ℕ × Plain)) (from : ℕ) (xs : Leaves)
     (rest : List (List ℕ × Plain)) (q : ℕ) : Type 0 where
-  pub so_far : (h : Spot) → make_leaves R h t from (pairs_of whole) ≡ leaves_first xs (make_leaves R h t q (pairs_of rest))
+  pub so_far : (h : Spot) → make_leaves R h t from (pairs_of whole) ≡ leaves_first xs
+      (make_leaves R h t q (pairs_of rest))
   pub counts : q + parts_by (pairs_of rest) ≡ from + parts_by (pairs_of whole)
 
-pub none_leaved : (R : Maker) (t : Closed) (whole : List (List ℕ × Plain)) (from : ℕ) → Leaved R t whole from [] whole from
-none_leaved R t whole from = record { so_far = λ h. sym (none_first (make_leaves R h t from (pairs_of whole))); counts = refl }
+pub none_leaved : (R : Maker) (t : Closed) (whole : List (List ℕ × Plain)) (from : ℕ) → Leaved R t whole from [] whole
+    from
+none_leaved R t whole from = record {
+  so_far = λ h. sym (none_first (make_leaves R h t from (pairs_of whole)));
+  counts = refl;
+}
 
 pub one_leaved : (R : Maker) (t : Closed) (whole : List (List ℕ × Plain)) (from : ℕ) (xs ys : Leaves) (key : List ℕ)
     (v : Plain) (rest : List (List ℕ × Plain)) (q k : ℕ) (b : Grown) (x : Made)
@@ -54,7 +60,8 @@ one_leaved R t whole from xs ys key v rest q k b x l none made count_of more =
     let before = l.counts in
     record {
       so_far = λ h. l.so_far h ∙ ap (leaves_first xs)
-          (goes_on (R h (at_type t) q v empty) (λ (y : Made). with_leaf key y.1 (make_leaves R h t (q + parts v) (pairs_of rest))) x
+          (goes_on (R h (at_type t) q v empty) (λ (y : Made). with_leaf key y.1
+          (make_leaves R h t (q + parts v) (pairs_of rest))) x
           (ap (R h (at_type t) q v) (sym none) ∙ made h))
           ∙ leaf_later xs key x.1 (make_leaves R h t (q + parts v) (pairs_of rest))
           ∙ (λ i. leaves_first (sym more i) (make_leaves R h t (sym count_of i) (pairs_of rest)));
@@ -68,7 +75,8 @@ pub leaf_stops : (R : Maker) (t : Closed) (whole : List (List ℕ × Plain)) (fr
 leaf_stops R t whole from xs key v rest q b h e l none stop =
     stops_same h e _ _ (l.so_far h)
     (stops_then h e (make_leaves R h t q (pairs_of ((key, v) ∷ rest))) (λ (more : Leaves). Ok (xs ++ more))
-    (stops_then h e (R h (at_type t) q v empty) (λ (y : Made). with_leaf key y.1 (make_leaves R h t (q + parts v) (pairs_of rest)))
+    (stops_then h e (R h (at_type t) q v empty) (λ (y : Made). with_leaf key y.1
+    (make_leaves R h t (q + parts v) (pairs_of rest)))
     (stops_same h e _ _ (ap (R h (at_type t) q v) (sym none)) stop)))
 
 nothing_after : (xs : Leaves) → xs ++ [] ≡ xs

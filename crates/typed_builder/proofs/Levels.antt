@@ -1,5 +1,6 @@
 -- A value takes a level and a part before its goal is looked at.
-use Rattle.std.proofs.Common.{◌≡◌, ℕ, zero, suc, ◌+◌, ◌-◌, Bool, true, false, cond, nat_lt, Result, Ok, Err, refl, ap, ◌∙◌, arith}
+use Rattle.std.proofs.Common.{◌≡◌, ℕ, zero, suc, ◌+◌, ◌-◌, Bool, true, false, cond, nat_lt, Result, Ok, Err, refl, ap}
+use Rattle.std.proofs.Common.{◌∙◌, arith}
 use Rattle.cell_nodes.specs.declared.tree.Mode.{Mode}
 use Rattle.core_form.specs.Closed.{Closed}
 use Rattle.core_form.specs.Core.{CoreSchema}
@@ -22,7 +23,8 @@ use Rattle.typed_builder.proofs.Steps.{stops_same}
 abbrev pub within : ℕ → Mode → CoreSchema → Maker
 within n mode schema = making (n - 1) most_parts mode schema
 
-by_test : (b : Bool) (k : ℕ) (p : Place) (f : ℕ → Result Made Place) → cond b (f k) (Err p) ≡ (cond b (Ok k) (Err p) >>= f)
+by_test : (b : Bool) (k : ℕ) (p : Place) (f : ℕ → Result Made Place) → cond b (f k) (Err p)
+    ≡ (cond b (Ok k) (Err p) >>= f)
 by_test true k p f = refl
 by_test false k p f = refl
 
@@ -33,7 +35,8 @@ unfolding making
 making_begins zero mode schema h g q v b = refl
 making_begins (suc n) mode schema h g q v b =
     let below : suc n - 1 ≡ n = omega arith in
-    rw below (by_test (nat_lt q most_parts) (q + 1) (stuck h Bulk) (λ k. make_goal mode schema (making n most_parts mode schema) h g k v b))
+    rw below (by_test (nat_lt q most_parts) (q + 1) (stuck h Bulk)
+    (λ k. make_goal mode schema (making n most_parts mode schema) h g k v b))
 
 -- where it has not
 pub begin_stops : (n : ℕ) (mode : Mode) (schema : CoreSchema) (h : Spot) (g : Goal) (q : ℕ) (v : Plain) (b : Grown)
@@ -67,7 +70,8 @@ making_refused n mode schema h g q k v b why begun refused =
 -- at a closed type
 pub making_typed : (n : ℕ) (mode : Mode) (schema : CoreSchema) (h : Spot) (t : Closed) (q k : ℕ) (v : Plain) (b : Grown)
     → starting n q h ≡ Ok k → in_table t ≡ true
-    → making n most_parts mode schema h (at_type t) q v b ≡ make_shape mode schema (within n mode schema) h (typed t) k v b
+    → making n most_parts mode schema h (at_type t) q v b ≡ make_shape mode schema (within n mode schema) h (typed t) k
+    v b
 making_typed n mode schema h t q k v b begun within_table =
     making_shaped n mode schema h (at_type t) q k v b (typed t) begun
     (when_true {A = Result Shape Cause} (in_table t) (Ok (typed t)) (Err Width) within_table)

@@ -1,5 +1,6 @@
 -- Values one after the other.
-use Rattle.std.proofs.Common.{◌≡◌, ℕ, suc, ◌+◌, Bool, true, false, cond, nat_eq, ◌<◌, ◌≤◌, List, [], ◌∷◌, Result, Ok, Err, drop, drop-cons, get_or, length, refl, ap, sym, ◌∙◌, subst, arith}
+use Rattle.std.proofs.Common.{◌≡◌, ℕ, suc, ◌+◌, Bool, true, false, cond, nat_eq, ◌<◌, ◌≤◌, List, [], ◌∷◌, Result, Ok}
+use Rattle.std.proofs.Common.{Err, drop, drop-cons, get_or, length, refl, ap, sym, ◌∙◌, subst, arith}
 use Rattle.std.proofs.lemmas.List.{drop_all}
 use Rattle.core_form.specs.Closed.{Closed}
 use Rattle.core_form.specs.Closed as closed
@@ -45,7 +46,8 @@ list_stops R h n t q vs b e is stop =
     (stops_then h e (make_items R h t q (list_of vs) b) (λ (g : Grown). Ok ([], g)) stop)
 
 pub list_not : (R : Maker) (h : Spot) (n : ℕ) (t : Closed) (q : ℕ) (vs : List Value) (b : Grown)
-    → nat_eq (count (list_of vs)) n ≡ false → list_at R h (typed (closed.repeat n t)) q (list_of vs) b ≡ Err (stuck h Shape)
+    → nat_eq (count (list_of vs)) n ≡ false → list_at R h (typed (closed.repeat n t)) q (list_of vs) b ≡ Err
+    (stuck h Shape)
 list_not R h n t q vs b e = when_false {A = Result Made Place} (nat_eq (count (list_of vs)) n) _ _ e
 
 -- ---- one item more
@@ -60,7 +62,8 @@ pub none_itemed : (R : Maker) (t : Closed) (whole : List Value) (from : ℕ) (fi
     → Itemed R t whole from first whole from first
 none_itemed R t whole from first = record { so_far = λ h. refl; counts = refl }
 
-pub one_itemed : (R : Maker) (t : Closed) (whole : List Value) (from : ℕ) (first : Grown) (v : Value) (rest : List Value)
+pub one_itemed : (R : Maker) (t : Closed) (whole : List Value) (from : ℕ) (first : Grown) (v : Value)
+    (rest : List Value)
     (q k : ℕ) (b : Grown) (x : Made) → Itemed R t whole from first (v ∷ rest) q b
     → ((h : Spot) → R h (at_type t) q (value v) b ≡ Ok x) → grew b x.1 ≡ true → k ≡ q + parts (value v)
     → Itemed R t whole from first rest k x.1
@@ -69,7 +72,8 @@ one_itemed R t whole from first v rest q k b x i made taken count_of =
     record {
       so_far = λ h. i.so_far h
           ∙ goes_on (turn R h t q (value v) b) (λ y. make_items R h t (q + parts (value v)) (list_of rest) y.1) x
-          (goes_on (R h (at_type t) q (value v) b) (λ (y : Made). cond (grew b y.1) (Ok y) (Err (stuck h Idle))) x (made h)
+          (goes_on (R h (at_type t) q (value v) b) (λ (y : Made). cond (grew b y.1) (Ok y) (Err (stuck h Idle))) x
+          (made h)
           ∙ when_true {A = Result Made Place} (grew b x.1) (Ok x) (Err (stuck h Idle)) taken)
           ∙ ap (λ n. make_items R h t n (list_of rest) x.1) (sym count_of);
       counts = omega (arith, before, count_of);
@@ -82,14 +86,16 @@ turn_stops R t whole from first v rest q b h e i stop =
     stops_same h e _ _ (i.so_far h)
     (stops_then h e (turn R h t q (value v) b) (λ y. make_items R h t (q + parts (value v)) (list_of rest) y.1) stop)
 
-pub item_stops : (R : Maker) (t : Closed) (whole : List Value) (from : ℕ) (first : Grown) (v : Value) (rest : List Value)
+pub item_stops : (R : Maker) (t : Closed) (whole : List Value) (from : ℕ) (first : Grown) (v : Value)
+    (rest : List Value)
     (q : ℕ) (b : Grown) (h : Spot) (e : StopError) → Itemed R t whole from first (v ∷ rest) q b
     → Stops h e (R h (at_type t) q (value v) b) → Stops h e (make_items R h t from (list_of whole) first)
 item_stops R t whole from first v rest q b h e i stop =
     turn_stops R t whole from first v rest q b h e i
     (stops_then h e (R h (at_type t) q (value v) b) (λ (y : Made). cond (grew b y.1) (Ok y) (Err (stuck h Idle))) stop)
 
-pub idle_stops : (R : Maker) (t : Closed) (whole : List Value) (from : ℕ) (first : Grown) (v : Value) (rest : List Value)
+pub idle_stops : (R : Maker) (t : Closed) (whole : List Value) (from : ℕ) (first : Grown) (v : Value)
+    (rest : List Value)
     (q : ℕ) (b : Grown) (x : Made) (h : Spot) (e : StopError) → Itemed R t whole from first (v ∷ rest) q b
     → R h (at_type t) q (value v) b ≡ Ok x → grew b x.1 ≡ false → StopsAt h e (stuck h Idle)
     → Stops h e (make_items R h t from (list_of whole) first)

@@ -1,5 +1,6 @@
 -- A dictionary: which keys fit, the contents of its leaves, and its tree.
-use Rattle.std.proofs.Common.{◌≡◌, ℕ, ◌+◌, Bool, true, false, cond, List, [], ◌∷◌, Option, Some, None, Result, Ok, Err, refl, ap, sym, ◌∙◌, subst}
+use Rattle.std.proofs.Common.{◌≡◌, ℕ, ◌+◌, Bool, true, false, cond, List, [], ◌∷◌, Option, Some, None, Result, Ok, Err}
+use Rattle.std.proofs.Common.{refl, ap, sym, ◌∙◌, subst}
 use Rattle.cell_nodes.specs.declared.tree.Hidden.{Hidden}
 use Rattle.cell_nodes.specs.declared.tree.Mode.{Mode}
 use Rattle.core_form.specs.Closed.{Closed}
@@ -15,7 +16,8 @@ use Rattle.spelling_laws.specs.StepLaws.{bind_ok, ok_one, when_true, when_false}
 use Rattle.typed_value.specs.Values.{Plain, PlainPairs, a_pair, no_pairs, parts}
 use Rattle.building.specs.Growing.{Grown, empty}
 use Rattle.building.specs.MapTests.{FitEdge, FitRoot, fits_edge, fits_root, outline}
-use Rattle.building.specs.PlainBuilder.{Leaves, Made, Maker, entries_of, is_last, make_dict, make_dict_e, make_leaves, plant_here, plant_root}
+use Rattle.building.specs.PlainBuilder.{Leaves, Made, Maker, entries_of, is_last, make_dict, make_dict_e, make_leaves}
+use Rattle.building.specs.PlainBuilder.{plant_here, plant_root}
 use Rattle.building.specs.Unfit.{LaidLeaves, Lays}
 use Rattle.building_laws.specs.DictStandsLaws.{edge_is, laid_outline, root_is}
 use Rattle.typed_builder.proofs.Steps.{goes_on, stops_same}
@@ -28,7 +30,8 @@ Unknowns = List (List ℕ × Hidden)
 abbrev any : Lays
 any g q v b outs x = Unit {0}
 
-leaves_laid : (R : Maker) (h : Spot) (t : Closed) (q : ℕ) (ps : PlainPairs) (xs : Leaves) → make_leaves R h t q ps ≡ Ok xs
+leaves_laid : (R : Maker) (h : Spot) (t : Closed) (q : ℕ) (ps : PlainPairs) (xs : Leaves) → make_leaves R h t q ps ≡ Ok
+    xs
     → LaidLeaves any t q ps xs
 leaves_laid R h t q no_pairs xs e = sym (ok_one [] xs (Ok xs) e)
 leaves_laid R h t q (a_pair k v ps) xs e =

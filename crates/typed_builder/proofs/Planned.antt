@@ -1,5 +1,6 @@
 -- What a plan has of a constructor, beside its core form.
-use Rattle.std.proofs.Common.{◌≡◌, ℕ, zero, suc, ◌+◌, ◌<◌, List, [], ◌∷◌, ◌++◌, All, Option, Some, None, IsSome, length, map, refl, ap, sym, ◌∙◌, subst, arith, slice_get, option_map}
+use Rattle.std.proofs.Common.{◌≡◌, ℕ, zero, suc, ◌+◌, ◌<◌, List, [], ◌∷◌, ◌++◌, All, Option, Some, None, IsSome, length}
+use Rattle.std.proofs.Common.{map, refl, ap, sym, ◌∙◌, subst, arith, slice_get, option_map}
 use Rattle.std.proofs.lemmas.Bool.{false≢true}
 use Rattle.std.proofs.lemmas.Option.{none-some, same_Some}
 use Rattle.core_form.specs.Closed.{ClosedArgs}
@@ -100,7 +101,8 @@ module _ (s : SchemaView) (f : Flat) (plans : List ConstructorPlan) (c : ℕ) (p
         ∙ ap (λ z. meet_all d.core.inputs args (unset z)) st.slots
 
 -- where it fits, its inputs are met
-pub fits_some : (s : SchemaView) (f : Flat) (plans : List ConstructorPlan) (c : ℕ) → Planned s f plans → c < length plans
+pub fits_some : (s : SchemaView) (f : Flat) (plans : List ConstructorPlan) (c : ℕ) → Planned s f plans → c < length
+    plans
     → (e : Entry) → EntryIs plans c e → (inputs : List PlanInput) (args : ClosedArgs) → InputsAre plans c inputs
     → ((d : Declaration) → slice_get (cores s) c ≡ Some d → IsSome (fit d.core args))
     → None ≡ meet_all (map input_of inputs) args (unset e.slots) → ⊥
@@ -110,7 +112,8 @@ fits_some s f plans c planned below e entry inputs args are fits none =
     none-some o.0 (none ∙ entry_fit s f plans c planned below e entry b.declaration b.there inputs args are ∙ o.1)
 
 -- what the inputs bind
-pub fit_binds : (s : SchemaView) (f : Flat) (plans : List ConstructorPlan) (c : ℕ) → Planned s f plans → c < length plans
+pub fit_binds : (s : SchemaView) (f : Flat) (plans : List ConstructorPlan) (c : ℕ) → Planned s f plans → c < length
+    plans
     → (e : Entry) → EntryIs plans c e → (d : Declaration) → slice_get (cores s) c ≡ Some d
     → (inputs : List PlanInput) (args : ClosedArgs) → InputsAre plans c inputs → (bound scope : Scope)
     → Some bound ≡ meet_all (map input_of inputs) args (unset e.slots) → fit d.core args ≡ Some scope → bound ≡ scope
@@ -118,13 +121,15 @@ fit_binds s f plans c planned below e entry d there inputs args are bound scope 
     same_Some bound scope (met ∙ entry_fit s f plans c planned below e entry d there inputs args are ∙ fits)
 
 -- the operations of its record, as they were looked up
-pub entry_ops : (s : SchemaView) (f : Flat) (plans : List ConstructorPlan) (c : ℕ) → Planned s f plans → c < length plans
+pub entry_ops : (s : SchemaView) (f : Flat) (plans : List ConstructorPlan) (c : ℕ) → Planned s f plans → c < length
+    plans
     → (e : Entry) → EntryIs plans c e → (d : Declaration) → slice_get (cores s) c ≡ Some d
     → (ops : List PlanOp) → ops ≡ range f.ops e.first e.count → items_in f (type_at f) None ops ≡ d.core.items
 entry_ops s f plans c planned below e entry d there ops is =
     ap (items_in f (type_at f) None) is ∙ entry_items s f plans c planned below e entry d there
 
-pub outputs_are : (s : SchemaView) (f : Flat) (plans : List ConstructorPlan) (c : ℕ) → Planned s f plans → c < length plans
+pub outputs_are : (s : SchemaView) (f : Flat) (plans : List ConstructorPlan) (c : ℕ) → Planned s f plans → c < length
+    plans
     → (d : Declaration) → slice_get (cores s) c ≡ Some d → (outs : List ℕ) → OutputsAre plans c outs
     → map (expr_at f) outs ≡ d.core.outputs
 outputs_are s f plans c planned below d there outs are =
@@ -133,7 +138,8 @@ outputs_are s f plans c planned below d there outs are =
     let same = had (λ (p : ConstructorPlan). p.outputs) (slice_get plans c) q.0 outs q.1 are in
     ap (map (expr_at f)) (sym same) ∙ st.outputs
 
-pub outputs_plain : (s : SchemaView) (f : Flat) (plans : List ConstructorPlan) (c : ℕ) → Planned s f plans → c < length plans
+pub outputs_plain : (s : SchemaView) (f : Flat) (plans : List ConstructorPlan) (c : ℕ) → Planned s f plans → c < length
+    plans
     → (outs : List ℕ) → OutputsAre plans c outs → All (IsPlainNumber f) outs
 outputs_plain s f plans c planned below outs are =
     let b = built_at s f plans c planned below in

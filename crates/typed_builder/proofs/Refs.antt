@@ -64,7 +64,8 @@ whole_is n mode schema h t q v e =
     ∙ bind_twice (starting n q h) (λ k. make_shape mode schema (within n mode schema) h as_cell k v empty)
     (λ (x : Made). Ok (finished at_cell x.1.held))
 
-pub whole_stops : (n : ℕ) (mode : Mode) (schema : CoreSchema) (h : Spot) (t : Closed) (q : ℕ) (v : Plain) (e : StopError)
+pub whole_stops : (n : ℕ) (mode : Mode) (schema : CoreSchema) (h : Spot) (t : Closed) (q : ℕ) (v : Plain)
+    (e : StopError)
     → is_whole t ≡ true → Stops h e (starting n q h)
     → Stops h e (built_cell (making n most_parts mode schema) h (under_ref t) q v)
 whole_stops n mode schema h t q v e whole stop =
@@ -97,7 +98,8 @@ pub typed_on : (R : Maker) (h : Spot) (t : Closed) (q : ℕ) (v : Plain) (b : Gr
     → built_cell R h (under_ref t) q v ≡ Ok c
 typed_on R h t q v b x c typed none made is =
     typed_is R h t q v typed
-    ∙ goes_on (R h (at_type t) q v empty) (λ (x : Made). Ok (cell_of x.1.held)) x (ap (R h (at_type t) q v) (sym none) ∙ made)
+    ∙ goes_on (R h (at_type t) q v empty) (λ (x : Made). Ok (cell_of x.1.held)) x
+    (ap (R h (at_type t) q v) (sym none) ∙ made)
     ∙ ap (λ (z : Tree). Ok z) (sym is)
 
 -- ---- its reference
@@ -142,19 +144,23 @@ child_on R h g q v b c y built puts =
 inner_is : (n : ℕ) (mode : Mode) (schema : CoreSchema) (h : Spot) (is : Items) (scope : Scope) (q k : ℕ) (v : Plain)
     → starting n q h ≡ Ok k
     → built_cell (making n most_parts mode schema) h (at_fields is scope) q v
-    ≡ (make_shape mode schema (within n mode schema) h (fields_here is scope) k v empty >>= (λ (x : Made). Ok (cell_of x.1.held)))
+    ≡ (make_shape mode schema (within n mode schema) h (fields_here is scope) k v empty
+    >>= (λ (x : Made). Ok (cell_of x.1.held)))
 inner_is n mode schema h is scope q k v begun =
     ap (λ z. z >>= (λ (x : Made). Ok (cell_of x.1.held)))
     (making_shaped n mode schema h (at_fields is scope) q k v empty (fields_here is scope) begun refl)
 
-pub inner_begins : (n : ℕ) (mode : Mode) (schema : CoreSchema) (h : Spot) (is : Items) (scope : Scope) (q : ℕ) (v : Plain)
+pub inner_begins : (n : ℕ) (mode : Mode) (schema : CoreSchema) (h : Spot) (is : Items) (scope : Scope) (q : ℕ)
+    (v : Plain)
     (e : StopError) → Stops h e (starting n q h)
     → Stops h e (built_cell (making n most_parts mode schema) h (at_fields is scope) q v)
 inner_begins n mode schema h is scope q v e stop =
-    stops_then h e (making n most_parts mode schema h (at_fields is scope) q v empty) (λ (x : Made). Ok (cell_of x.1.held))
+    stops_then h e (making n most_parts mode schema h (at_fields is scope) q v empty)
+    (λ (x : Made). Ok (cell_of x.1.held))
     (begin_stops n mode schema h (at_fields is scope) q v empty e stop)
 
-pub inner_stops : (n : ℕ) (mode : Mode) (schema : CoreSchema) (h : Spot) (is : Items) (scope : Scope) (q k : ℕ) (v : Plain)
+pub inner_stops : (n : ℕ) (mode : Mode) (schema : CoreSchema) (h : Spot) (is : Items) (scope : Scope) (q k : ℕ)
+    (v : Plain)
     (b : Grown) (e : StopError) → starting n q h ≡ Ok k → b ≡ empty
     → Stops h e (make_shape mode schema (within n mode schema) h (fields_here is scope) k v b)
     → Stops h e (built_cell (making n most_parts mode schema) h (at_fields is scope) q v)

@@ -1,5 +1,6 @@
 -- What the plain builder gives of a root, in the words of the promise.
-use Rattle.std.proofs.Common.{◌≡◌, ◌≢◌, ℕ, ◌<◌, ◌≤◌, Bool, true, false, cond, nat_lt, min, Option, Some, None, Result, Ok, Err, refl, ap, sym, ◌∙◌, arith}
+use Rattle.std.proofs.Common.{◌≡◌, ◌≢◌, ℕ, ◌<◌, ◌≤◌, Bool, true, false, cond, nat_lt, min, Option, Some, None, Result}
+use Rattle.std.proofs.Common.{Ok, Err, refl, ap, sym, ◌∙◌, arith}
 use Rattle.std.proofs.lemmas.Bool.{le-ltb, lt-ltb}
 use Rattle.accepted_building.specs.Laws.{BuiltIsOne, IsOnePlaceOf, IsOneTreeOf, StopsAtOne}
 use Rattle.accepted_schema.specs.Accepted.{IsAccepted, kept_cores}
@@ -53,7 +54,8 @@ module _ (one : BuiltIsOne) (stops : StopsAtOne) (mode : Mode) (strict : mode �
   pub answers_placed : (stop : Stop) (e : BuildError) → Placed stop e
       → build mode (cores s) t v ≡ Err (place_from at_root stop) → Answers mode (kept_cores s) t v (Err e)
   answers_placed stop (errors.Unfit p) placed e =
-      stops mode (required mode strict) s accepted t v range (place_view p) (by_kept (Err (place_view p)) (e ∙ ap Err (sym placed)))
+      stops mode (required mode strict) s accepted t v range (place_view p)
+      (by_kept (Err (place_view p)) (e ∙ ap Err (sym placed)))
   answers_placed stop errors.NoMemory placed e = tt
 
 -- ---- the root cell
@@ -75,7 +77,8 @@ module _ (mode : Mode) (schema : CoreSchema) (t : Closed) (v : Plain) where
   root_stops e stop = stops_then at_root e (built_root most_levels most_parts mode schema t v) (sized most_cells) stop
 
   pub root_sprawls : (c : Tree) (e : StopError) → built_root most_levels most_parts mode schema t v ≡ Ok c
-      → 262144 < capped (unfolded c) → StopsAt at_root e (stuck at_root Sprawl) → Stops at_root e (build mode schema t v)
+      → 262144 < capped (unfolded c) → StopsAt at_root e (stuck at_root Sprawl) → Stops at_root e
+      (build mode schema t v)
   root_sprawls c e built many at =
       stops_at at_root e (stuck at_root Sprawl) (build mode schema t v) at
       (goes_on (built_root most_levels most_parts mode schema t v) (sized most_cells) c built
@@ -93,12 +96,14 @@ module _ (mode : Mode) (schema : CoreSchema) (t : Closed) (v : Plain) where
 
 pub too_deep : (x : Hidden) → 1024 < x.depth → hidden_root most_levels most_parts x ≡ Err (stuck at_root TooDeep)
 too_deep x deep =
-    when_true {A = Result Tree Place} (nat_lt 1024 x.depth) (Err (stuck at_root TooDeep)) (Ok (pruned_of x.hash x.depth))
+    when_true {A = Result Tree Place} (nat_lt 1024 x.depth) (Err (stuck at_root TooDeep))
+    (Ok (pruned_of x.hash x.depth))
     (lt-ltb 1024 x.depth deep)
 
 pub pruned_on : (x : Hidden) (c : Tree) → x.depth ≤ 1024 → c ≡ pruned_of x.hash x.depth
     → hidden_root most_levels most_parts x ≡ Ok c
 pruned_on x c low is =
-    when_false {A = Result Tree Place} (nat_lt 1024 x.depth) (Err (stuck at_root TooDeep)) (Ok (pruned_of x.hash x.depth))
+    when_false {A = Result Tree Place} (nat_lt 1024 x.depth) (Err (stuck at_root TooDeep))
+    (Ok (pruned_of x.hash x.depth))
     (le-ltb 1024 x.depth low)
     ∙ ap (λ (z : Tree). Ok z) (sym is)

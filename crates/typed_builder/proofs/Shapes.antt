@@ -1,5 +1,6 @@
 -- Shapes and records by the lists of a plan, as they were looked up.
-use Rattle.std.proofs.Common.{◌≡◌, ℕ, ◌<◌, ◌≤◌, List, [], ◌∷◌, Option, None, Result, Ok, Err, length, refl, ap, sym, ◌∙◌, subst, arith}
+use Rattle.std.proofs.Common.{◌≡◌, ℕ, ◌<◌, ◌≤◌, List, [], ◌∷◌, Option, None, Result, Ok, Err, length, refl, ap, sym}
+use Rattle.std.proofs.Common.{◌∙◌, subst, arith}
 use Rattle.core_form.specs.Scope.{Scope}
 use Rattle.flat_form.specs.Sound.{IsRange, OpIsSound, OpsAreSound}
 use Rattle.flat_form.specs.Stands.{items_in, range, record_at, type_at}
@@ -21,7 +22,8 @@ pub shape_on : (f g : Flat) (c : Option (ℕ × ℕ)) (t : ℕ) (scope : Scope) 
     → shape_of (at_field (governed g c) (type_at g t) scope) ≡ Ok (shape_view g scope y)
 shape_on f g c t scope x y e i s =
     let P : Flat → Type 0 = λ z. shape_of (at_field (governed z c) (type_at z t) scope) ≡ Ok (shape_view z scope y) in
-    let Q : FlatShape → Type 0 = λ z. shape_of (at_field (governed f c) (type_at f t) scope) ≡ Ok (shape_view f scope z) in
+    let Q : FlatShape → Type 0 = λ z. shape_of (at_field (governed f c) (type_at f t) scope) ≡ Ok
+    (shape_view f scope z) in
     subst P e (subst Q i s)
 
 pub shape_not : (f g : Flat) (c : Option (ℕ × ℕ)) (t : ℕ) (scope : Scope) (r : ShapeError) (why : Cause) → f ≡ g

@@ -20,7 +20,8 @@ pub goes_on : {A B : Type 0} (r : Result A Place) (f : A → Result B Place) (x 
 goes_on r f x e = ap (λ z. z >>= f) e
 
 -- the error of a part, at the exit of a `?`
-pub gives_err : {X Y : Type 0} (h : Spot) (view : X → Y) (result : Result X StopError) (e : StopError) (wanted : Result Y Place)
+pub gives_err : {X Y : Type 0} (h : Spot) (view : X → Y) (result : Result X StopError) (e : StopError)
+    (wanted : Result Y Place)
     → result ≡ Err e → Stops h e wanted → Gives h view result wanted
 gives_err h view result e wanted is stop = subst (λ r. Gives h view r wanted) (sym is) stop
 

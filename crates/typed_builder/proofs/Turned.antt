@@ -1,5 +1,6 @@
 -- What one operation of a record gives, by what was done for it.
-use Rattle.std.proofs.Common.{◌≡◌, ℕ, ◌+◌, Bool, true, false, cond, [], Option, Some, None, Result, Ok, Err, refl, ap, sym, ◌∙◌}
+use Rattle.std.proofs.Common.{◌≡◌, ℕ, ◌+◌, Bool, true, false, cond, [], Option, Some, None, Result, Ok, Err, refl, ap}
+use Rattle.std.proofs.Common.{sym, ◌∙◌}
 use Rattle.core_form.specs.Core.{Condition, check, field, sets, solve}
 use Rattle.core_form.specs.Scope.{Scope, bind, value_in, with_number}
 use Rattle.flat_form.specs.Stands.{expr_at, name_at, slot_of, type_at}
@@ -43,8 +44,10 @@ tested_like h i true x y e = refl
 tested_like h i false x y e = cc
 
 judged_on : (h : Spot) (i : ℕ) (op : Op) (m n : Option ℕ) (x : reader.Step) (y : Step)
-    → (known (item_of h i) m >>= λ a. known (item_of h i) n >>= λ b. cond (comparison op a b) (Ok x) (Err (stuck (item_of h i) Constraint))) ≡ Ok x
-    → (known (item_of h i) m >>= λ a. known (item_of h i) n >>= λ b. cond (comparison op a b) (Ok y) (Err (stuck (item_of h i) Constraint))) ≡ Ok y
+    → (known (item_of h i) m >>= λ a. known (item_of h i) n >>= λ b. cond (comparison op a b) (Ok x)
+    (Err (stuck (item_of h i) Constraint))) ≡ Ok x
+    → (known (item_of h i) m >>= λ a. known (item_of h i) n >>= λ b. cond (comparison op a b) (Ok y)
+    (Err (stuck (item_of h i) Constraint))) ≡ Ok y
 judged_on h i op None n x y e = cc
 judged_on h i op (Some a) None x y e = cc
 judged_on h i op (Some a) (Some b) x y e = tested_like h i (comparison op a b) x y e
@@ -58,15 +61,18 @@ tested_err h i false x y p e = ap (λ (z : Place). Err z) (one e)
     one : {a b : Place} → (◌≡◌ {A = Result reader.Step Place} (Err a) (Err b)) → a ≡ b
     one e = cc
 
-same_err : {a b : Place} → (◌≡◌ {A = Result reader.Step Place} (Err a) (Err b)) → (◌≡◌ {A = Result Step Place} (Err a) (Err b))
+same_err : {a b : Place} → (◌≡◌ {A = Result reader.Step Place} (Err a) (Err b))
+    → (◌≡◌ {A = Result Step Place} (Err a) (Err b))
 same_err {a} {b} e = ap (λ (z : Place). Err z) (one e)
   where
     one : {c d : Place} → (◌≡◌ {A = Result reader.Step Place} (Err c) (Err d)) → c ≡ d
     one e = cc
 
 judged_err : (h : Spot) (i : ℕ) (op : Op) (m n : Option ℕ) (x : reader.Step) (y : Step) (p : Place)
-    → (known (item_of h i) m >>= λ a. known (item_of h i) n >>= λ b. cond (comparison op a b) (Ok x) (Err (stuck (item_of h i) Constraint))) ≡ Err p
-    → (known (item_of h i) m >>= λ a. known (item_of h i) n >>= λ b. cond (comparison op a b) (Ok y) (Err (stuck (item_of h i) Constraint))) ≡ Err p
+    → (known (item_of h i) m >>= λ a. known (item_of h i) n >>= λ b. cond (comparison op a b) (Ok x)
+    (Err (stuck (item_of h i) Constraint))) ≡ Err p
+    → (known (item_of h i) m >>= λ a. known (item_of h i) n >>= λ b. cond (comparison op a b) (Ok y)
+    (Err (stuck (item_of h i) Constraint))) ≡ Err p
 judged_err h i op None n x y p e = same_err e
 judged_err h i op (Some a) None x y p e = same_err e
 judged_err h i op (Some a) (Some b) x y p e = tested_err h i (comparison op a b) x y p e
@@ -118,7 +124,8 @@ pub field_turned : (R : Maker) (h : Spot) (f : Flat) (c : Option Condition) (x t
     → turn R h f c (Field x t v) scope q us g ≡ Ok (stepped next k vs made.1, None)
 field_turned R h f c x t v scope next q k u us vs g made due e bound count_of =
     ap (λ z. turn R h f c (Field x t v) scope q z g) due
-    ∙ ap (λ z. alone (z >>= (λ (y : Made). Ok (stepped (bind (sets (slot_of v) (type_at f t)) y.0 scope) (q + parts u) vs y.1)))) e
+    ∙ ap (λ z. alone (z >>= (λ (y : Made). Ok (stepped (bind (sets (slot_of v) (type_at f t)) y.0 scope) (q + parts u)
+    vs y.1)))) e
     ∙ (λ i. Ok (stepped (bound i) (sym count_of i) vs made.1, None))
 
 pub field_stops : (R : Maker) (h : Spot) (f : Flat) (c : Option Condition) (x t v : ℕ) (scope : Scope) (q : ℕ)
@@ -152,4 +159,5 @@ pub stops_as : (R : Maker) (h : Spot) (f : Flat) (c : Option Condition) (o p : P
     (vs : Plains) (g : Grown) (e : StopError) → o ≡ p → Stops h e (turn R h f c p scope q vs g)
     → Stops h e (turn R h f c o scope q vs g)
 stops_as R h f c o p scope q vs g e is stop =
-    stops_same h e (turn R h f c o scope q vs g) (turn R h f c p scope q vs g) (ap (λ z. turn R h f c z scope q vs g) is) stop
+    stops_same h e (turn R h f c o scope q vs g) (turn R h f c p scope q vs g)
+    (ap (λ z. turn R h f c z scope q vs g) is) stop

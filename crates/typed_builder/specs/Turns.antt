@@ -27,4 +27,5 @@ turn R h f c (Check a op b i) scope q vs g = alone (step R h (check (expr_at f a
 turn R h f c (Solve v a b i) scope q vs g = alone (step R h (solve v (expr_at f a) (expr_at f b) i) scope q vs g)
 turn R h f c (When e k) scope q vs g =
     Ok (stepped scope q vs g, Some (record { number = expr_at f e; bit = bit_of k }))
-turn R h f c (Field x t v) scope q vs g = alone (step R h (field (name_at f x) (slot_of v) c (type_at f t)) scope q vs g)
+turn R h f c (Field x t v) scope q vs g = alone (step R h (field (name_at f x) (slot_of v) c (type_at f t)) scope q vs
+    g)

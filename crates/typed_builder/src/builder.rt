@@ -1,8 +1,8 @@
 //! The cycle: a goal, a type, a reference, a repetition, a dictionary, a record.
 //!
-//! `levels` is how many levels of values are left, `begun` how many parts have begun, and places are those seen from where
-//! a call began. A value takes a level and a part before its type is looked at. What is built is added to `b`; after an
-//! error that holds what was added before.
+//! `levels` is how many levels of values are left, `begun` how many parts have begun, and places are those seen from
+//! where a call began. A value takes a level and a part before its type is looked at. What is built is added to `b`;
+//! after an error that holds what was added before.
 ghost use Rattle.std.specs.Prelude.{◌≡◌, ◌+◌, ◌<◌, ◌≤◌, [], ℕ, length, map, slice_get, true};
 ghost use Rattle.std.specs.Prelude.{IfOk, OnOk, IsSome, None, Some};
 ghost use Rattle.closed_type.specs.View.{closed_args, closed_type as type_view};
@@ -38,8 +38,8 @@ use plan_building::{
     Growing, Outputs, begin, bind_outputs, grew, make_number, make_string, put_hidden, put_ref,
 };
 use plan_reading::{
-    FlatShape, ShapeError, StopError, check, in_constructor, in_field, in_table, set, shape, sought,
-    stop_at_item, stop_at_result, stop_here,
+    FlatShape, ShapeError, StopError, check, in_constructor, in_field, in_table, set, shape,
+    sought, stop_at_item, stop_at_result, stop_here,
 };
 use spelling::Cause;
 use std::alloc::Global;
@@ -149,16 +149,7 @@ fn build_inner(
     }
     let mut inner = env.copy(alloc)?;
     build_fields(
-        alloc,
-        plan,
-        mode,
-        levels,
-        begun,
-        ops,
-        &mut inner,
-        types,
-        fields,
-        b,
+        alloc, plan, mode, levels, begun, ops, &mut inner, types, fields, b,
     )?;
     Ok(Outputs::Empty)
 }

@@ -54,8 +54,8 @@ pub fn add_here(
     plant_here(alloc, n, leaves, dict.unknown.as_slice(), b)
 }
 
-/// Adds the bit and the reference of a dictionary that may be empty, with these contents by key, which fit with its hidden
-/// parts.
+/// Adds the bit and the reference of a dictionary that may be empty, with these contents by key, which fit with its
+/// hidden parts.
 pub fn add_below(
     alloc: Global,
     n: u32,

@@ -66,7 +66,8 @@ pub fn inner_fields(value: &Value) -> Option<&[(Name, Value)]>
         ≡ forms.record_of None (names_in (map pair_of fields.now)) (vals_in (map pair_of fields.now))) }
     ensures none { IfNone result ((mode : Reading) (schema : CoreSchema) (R : plain.Maker) (h : Spot) (is : Items)
         (scope : Scope) (q : ℕ) (b : Grown)
-        → plain.make_shape mode schema R h (goals.fields_here is scope) q (value_view value.now) b ≡ Err (stuck h Shape)) }
+        → plain.make_shape mode schema R h (goals.fields_here is scope) q (value_view value.now) b
+        ≡ Err (stuck h Shape)) }
 {
     match value {
         Value::Record(Record { name: None, fields }) => Some(fields.as_slice()),
@@ -98,7 +99,8 @@ pub fn has_count(items: &[Value], count: u32) -> bool
 
 /// The value of the first field, and the fields after it.
 pub fn next_field<'a>(fields: &'a [(Name, Value)]) -> Option<(&'a Value, &'a [(Name, Value)])>
-    ensures is { IfSome result (λ x. values_of fields.entry.now ≡ forms.a_val (value_view x.0.now) (values_of x.1.now)) }
+    ensures is { IfSome result (λ x. values_of fields.entry.now
+        ≡ forms.a_val (value_view x.0.now) (values_of x.1.now)) }
     ensures none { IfNone result (values_of fields.entry.now ≡ forms.no_vals) }
 {
     let ((_, value), due) = fields.split_first()?;

@@ -134,9 +134,9 @@ fn placed(alloc: Global, stop: Stop) -> BuildError
     })
 }
 
-/// Builds the one good tree of at most 262,144 cells that has the value as its reading at a closed type, or tells the one
-/// place where the value does not fit, and then there is no such tree. It is not for mode Lax, in which a value has many
-/// trees.
+/// Builds the one good tree of at most 262,144 cells that has the value as its reading at a closed type, or reports the
+/// one place where the value does not fit, and then there is no such tree. It is not for mode Lax, in which a value has
+/// many trees.
 ///
 /// Causes are judged in the order of building: a cell before its reference, the values of a dictionary before its tree.
 /// Each part of the value is looked at once, 2,304 levels at most by recursion.

@@ -7,7 +7,8 @@ use Rattle.typed_builder.proofs.records.fitted.Goals as goal
 
 pub unreachable-requires : goal.unreachable-requires
 unreachable-requires c =
-    fits_some (schema_view c.args.plan.now.0) c.flat-flat.result.now c.args.plan.now.2 c.args.c c.flat-flat.ensures.planned
+    fits_some (schema_view c.args.plan.now.0) c.flat-flat.result.now c.args.plan.now.2 c.args.c
+    c.flat-flat.ensures.planned
     c.requires.there c.entry-entry.result c.entry-entry.ensures c.inputs.result.now (closed_args c.args.args.now)
     c.inputs.ensures c.requires.fits (sym (ap (option_map slots_view) c.in-None.is) ∙ c.in_ok-slots.ensures)
 

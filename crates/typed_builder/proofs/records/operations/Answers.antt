@@ -8,13 +8,15 @@ use Rattle.typed_builder.proofs.records.operations.Goals as goal
 
 pub operations-requires : goal.operations-requires
 operations-requires c =
-    entry_range (schema_view c.args.plan.now.0) c.flat-flat.result.now c.args.plan.now.2 c.args.c c.flat-flat.ensures.planned
+    entry_range (schema_view c.args.plan.now.0) c.flat-flat.result.now c.args.plan.now.2 c.args.c
+    c.flat-flat.ensures.planned
     c.requires c.entry-entry.result c.entry-entry.ensures
 
 pub returns-clause-sound : goal.returns-clause-sound
 returns-clause-sound c =
     let f = c.flat-flat.result.now in
-    let sound = entry_sound (schema_view c.args.plan.now.0) f c.args.plan.now.2 c.args.c c.flat-flat.ensures.planned c.requires
+    let sound = entry_sound (schema_view c.args.plan.now.0) f c.args.plan.now.2 c.args.c c.flat-flat.ensures.planned
+    c.requires
     c.entry-entry.result c.entry-entry.ensures in
     let T : List PlanOp → Type 0 = λ z. OpsAreSound f (length f.types) z in
     let P : Flat → Type 0 = λ z. OpsAreSound z (length z.types) c.operations.result.now in

@@ -13,9 +13,12 @@ use Rattle.typed_builder.proofs.records.put_tag.Goals as goal
 
 pub returns-in-Err : goal.returns-in-Err
 returns-in-Err c = λ h d there.
-    let same = had (λ (z : Declaration). z.core.tag) (slice_get (core_of c.args.plan.now.0) c.args.c) d c.tag-tag.result there
+    let same = had (λ (z : Declaration). z.core.tag) (slice_get (core_of c.args.plan.now.0) c.args.c) d c.tag-tag.result
+    there
     c.tag-tag.ensures in
-    let T : List ℕ → Type 0 = λ z. Stops h c.in_tag.result (put (tag_of h) (only_bits z) false false (grown c.args.b.now)) in
+    let T : List ℕ → Type 0 = λ z. Stops h c.in_tag.result (put (tag_of h) (only_bits z) false false
+    (grown c.args.b.now)) in
     subst T (sym same)
-    (stops_moved (tag_of h) h c.in-Err.error c.in_tag.result (put (tag_of h) (only_bits c.tag-tag.result) false false (grown c.args.b.now))
+    (stops_moved (tag_of h) h c.in-Err.error c.in_tag.result (put (tag_of h) (only_bits c.tag-tag.result) false false
+    (grown c.args.b.now))
     (c.in_tag.ensures h) (c.in-Err.ensures (tag_of h)))

@@ -11,7 +11,8 @@ use Rattle.typed_builder.proofs.records.results.Goals as goal
 
 pub values-requires : goal.values-requires
 values-requires c =
-    outputs_plain (schema_view c.args.plan.now.0) c.flat-flat.result.now c.args.plan.now.2 c.args.c c.flat-flat.ensures.planned
+    outputs_plain (schema_view c.args.plan.now.0) c.flat-flat.result.now c.args.plan.now.2 c.args.c
+    c.flat-flat.ensures.planned
     c.requires c.outputs.result.now c.outputs.ensures
 
 pub returns : goal.returns

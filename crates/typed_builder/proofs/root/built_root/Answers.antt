@@ -1,4 +1,5 @@
-use Rattle.std.proofs.Common.{◌≡◌, ℕ, ◌+◌, ◌-◌, ◌∙◌, List, [], ◌∷◌, ◌++◌, Option, None, Some, Ok, Err, drop, length, map, sym, ap, subst, refl, rules, arith}
+use Rattle.std.proofs.Common.{◌≡◌, ℕ, ◌+◌, ◌-◌, ◌∙◌, List, [], ◌∷◌, ◌++◌, Option, None, Some, Ok, Err, drop, length}
+use Rattle.std.proofs.Common.{map, sym, ap, subst, refl, rules, arith}
 use Rattle.std.proofs.lemmas.Result.{err_from_is_err_and}
 use Rattle.cell_nodes.specs.declared.tree.Tree.{Tree}
 use Rattle.closed_type.specs.View.{closed_args, closed_type as type_view}
@@ -18,7 +19,8 @@ use Rattle.typed_builder.proofs.root.built_root.Goals as goal
 pub returns-in-Some : goal.returns-in-Some
 returns-in-Some c =
     gives_same at_root (λ (z : Tree). z) c.hidden_root.result _ _
-    (hidden_is c.args.mode (core_of c.args.plan.now.0) (type_view c.args.ty.now) (value_view c.args.value.now) c.in-Some.hidden
+    (hidden_is c.args.mode (core_of c.args.plan.now.0) (type_view c.args.ty.now) (value_view c.args.value.now)
+    c.in-Some.hidden
     (sym c.in-Some.ensures)) c.hidden_root.ensures
 
 pub returns : goal.returns
