@@ -12,14 +12,14 @@ use Rattle.core_form.specs.Scope.{Scope, with_number, bind}
 use Rattle.hashmap_tree.specs.Entries.{Slice, cell_of, Then}
 use Rattle.spelling.specs.Goals.{Row, natural, integer, string, no_row, row, Goal, at_type, at_field, at_cell, Shape, typed}
 use Rattle.spelling.specs.Goals.{fields_here, fields_under, left_out, as_cell, at_fields, under_ref}
-use Rattle.spelling.specs.Slices.{nothing, only_bits, only_ref, took}
+use Rattle.spelling.specs.Slices.{nothing, only_ref, took}
 use Rattle.spelling.specs.Spells.{Meaning, Meanings, no_meanings, a_meaning, Keyed, no_keyed, a_keyed, SpellsNumber, SpellsString}
 use Rattle.spelling.specs.Spells.{AtRow, Fields, SpellsDeclared, SpellsInner, SpellsAbsent, Repeats, SpellsList, Holds}
 use Rattle.spelling.specs.Spells.{SpellsChild, SpellsRef, SpellsUnknown, SpellsRaw, SpellsRest, ByShape}
 use Rattle.typed_value.specs.Values as values
 use Rattle.strict_laws.proofs.Less.{Less, Fine, Shorter, less_self, less_cell, good_fine, shorter_self}
 use Rattle.strict_laws.proofs.Steps.{weight, MovesAlike, Tightened, tightened_then, tightened_as, tightened_none, tightened_bits}
-use Rattle.strict_laws.proofs.Steps.{RefWith, tightened_ref, ref_fine, only_nothing, shorter_nothing, only_one, takes_alike}
+use Rattle.strict_laws.proofs.Steps.{tightened_ref, ref_fine, only_nothing, shorter_nothing, only_one, takes_alike}
 
 -- ---- meanings
 

@@ -6,14 +6,14 @@ use Rattle.cell_nodes.specs.declared.tree.Tree.{Tree}
 use Rattle.core_form.specs.Closed.{Closed}
 use Rattle.core_form.specs.Closed as closed
 use Rattle.hashmap_tree.specs.Dict.{Branch}
-use Rattle.hashmap_tree.specs.Entries.{Slice, Then, leaf, hidden, Entries}
-use Rattle.hashmap_tree.specs.First.{LeafEdge, Fork}
+use Rattle.hashmap_tree.specs.Entries.{Slice, leaf, hidden, Entries}
+use Rattle.hashmap_tree.specs.First.{LeafEdge}
 use Rattle.spelling.specs.Goals.{at_type, typed}
-use Rattle.spelling.specs.Slices.{nothing, only_bits}
+use Rattle.spelling.specs.Slices.{nothing}
 use Rattle.spelling.specs.Spells.{Keyed, no_keyed, a_keyed, EntriesHold, InPlace, SpellsDict, IsEmpty, SpellsDictE, no_entries}
 use Rattle.spelling.specs.Spells.{some_entries, SpellsMap}
 use Rattle.strict_laws.proofs.Less.{Fine}
-use Rattle.strict_laws.proofs.Steps.{Tightened, tightened_then, tightened_as, tightened_bits, RefWith, tightened_ref, ref_fine}
+use Rattle.strict_laws.proofs.Steps.{Tightened, tightened_then, tightened_as, tightened_bits, tightened_ref, ref_fine}
 use Rattle.strict_laws.proofs.Steps.{shorter_nothing}
 use Rattle.strict_laws.proofs.Dicts.{EntriesLess, AllFine, leaf_tightened, fork_fine, fork_tightened, branch_fine, shorten_cell}
 use Rattle.strict_laws.proofs.Forms.{TightensBy, TightensAt, anywhere}
