@@ -11,12 +11,12 @@ read_in-requires-clause-schema c =
 pub read_in-requires-clause-word : goal.read_in-requires-clause-word
 read_in-requires-clause-word c = short-at (slots_of c.args.self (map string_bytes c.args.words.now)) (map string_bytes c.args.words.now) 1 c.requires.words
 
-pub read_in-in-Lax-requires-clause-schema : goal.read_in-in-Lax-requires-clause-schema
-read_in-in-Lax-requires-clause-schema c =
+pub read_in-requires-in-Lax-clause-schema : goal.read_in-requires-in-Lax-clause-schema
+read_in-requires-in-Lax-clause-schema c =
     schema-of c.args.self _ _ (map string_bytes c.args.words.now) (contents_of c.args.contents.now) c.in-Lax.is refl c.requires.files
 
-pub read_in-in-Lax-requires-clause-word : goal.read_in-in-Lax-requires-clause-word
-read_in-in-Lax-requires-clause-word c = short-at (slots_of c.args.self (map string_bytes c.args.words.now)) (map string_bytes c.args.words.now) 1 c.requires.words
+pub read_in-requires-in-Lax-clause-word : goal.read_in-requires-in-Lax-clause-word
+read_in-requires-in-Lax-clause-word c = short-at (slots_of c.args.self (map string_bytes c.args.words.now)) (map string_bytes c.args.words.now) 1 c.requires.words
 
 pub returns-in-Read : goal.returns-in-Read
 returns-in-Read c = rw (c.in-Read.is) c.read_in.ensures

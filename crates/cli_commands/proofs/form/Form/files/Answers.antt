@@ -1,4 +1,4 @@
-use Rattle.std.proofs.Common.{rules, ◌≡◌, ◌++◌, ◌∙◌, ap, sym, refl, arith, map, string_bytes, length}
+use Rattle.std.proofs.Common.{rules, ◌++◌, ◌∙◌, ap, sym, refl, arith, map, string_bytes}
 use Rattle.std.proofs.lemmas.List.{length-map}
 use Rattle.tlb_files.specs.View.{files_by}
 use Rattle.cli_commands.specs.declared.slot.Slot.TheVariants.{Schema}
