@@ -37,8 +37,12 @@ pub fn shown(
         Ok(viewed) => Ok(viewed),
         Err(ViewError::NotProof) => Err(refused_by(ProofCause::NotProof)),
         Err(ViewError::NotWhole) => Err(refused_by(ProofCause::NotWhole)),
-        Err(ViewError::HashDiffers(kept, found)) => Err(refused_by(ProofCause::HashDiffers(kept, found))),
-        Err(ViewError::DepthDiffers(kept, found)) => Err(refused_by(ProofCause::DepthDiffers(kept, found))),
+        Err(ViewError::HashDiffers(kept, found)) => Err(refused_by(ProofCause::HashDiffers(
+            kept, found,
+        ))),
+        Err(ViewError::DepthDiffers(kept, found)) => Err(refused_by(ProofCause::DepthDiffers(
+            kept, found,
+        ))),
         Err(ViewError::WrongRoot(found)) => Err(refused_by(ProofCause::WrongRoot(found))),
         Err(ViewError::Stuck(place)) => Err(refused(alloc, plan, ty, &place)),
         Err(ViewError::NoMemory) => Err(Stop::NoMemory),
