@@ -914,7 +914,7 @@ build_record-returns-clause-gives t c =
     let S = core_of c.args.plan.now.0 in
     let R = maker_of c.args.levels c.args.mode c.args.plan.now.0 in
     λ h. gives_same h (made c.build_declared.new.b) c.build_declared.result _ _
-    (ap (λ (z : Closed). record_at S R h (goals.typed z) c.args.begun.now c.args.held.now.name
+    (ap (λ (z : Closed). named_at S R h (goals.typed z) c.args.begun.now c.args.held.now.name
     (names_in (map pair_of c.args.held.now.fields)) (values_of c.args.held.now.fields) (grown c.args.b.now))
     c.in-Some.ensures.is)
     (c.build_declared.ensures.gives h)
