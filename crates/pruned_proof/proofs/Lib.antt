@@ -7,3 +7,4 @@ mod Pruned
 mod Recorded
 mod Rooted
 mod Shaped
+mod Turned

@@ -347,7 +347,8 @@ fn cut_edge(
 
 // How many of the first bits of both are the same.
 fn common(a: &BitString, b: &BitString) -> u32
-    ensures { (p x y : List ℕ) → a.now ≡ p ++ 0 ∷ x → b.now ≡ p ++ 1 ∷ y → result ≡ length p }
+    ensures is { (p x y : List ℕ) → a.now ≡ p ++ 0 ∷ x → b.now ≡ p ++ 1 ∷ y → result ≡ length p }
+    ensures bound { result ≤ 1023 }
 {
     let (a, b) = (a.slice(), b.slice());
     let most = a.len().min(b.len());
@@ -361,9 +362,10 @@ fn common(a: &BitString, b: &BitString) -> u32
 
 // How many keys have no 1 at that place: those before the first that has.
 fn turn(pairs: &[(BitString, Value)], place: u32) -> usize
-    ensures { (k : ℕ) → k ≤ length pairs.now
+    ensures turns { (k : ℕ) → k ≤ length pairs.now
         → ((i : ℕ) → i < k → HasBit place 0 i (map (λ p. p.0) pairs.now))
         → ((i : ℕ) → k ≤ i → i < length pairs.now → HasBit place 1 i (map (λ p. p.0) pairs.now)) → result ≡ k }
+    ensures within { result ≤ length pairs.now }
 {
     let mut low = 0usize;
     let mut high = pairs.len();
