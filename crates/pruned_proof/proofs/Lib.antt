@@ -1,5 +1,6 @@
 mod Answered
 mod CutLaws
+mod Edges
 mod Fielded
 mod Filling
 mod Led
