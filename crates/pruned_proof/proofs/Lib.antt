@@ -4,8 +4,10 @@ mod Edges
 mod Fielded
 mod Filling
 mod Led
+mod Numbers
 mod Pruned
 mod Recorded
 mod Rooted
 mod Shaped
 mod Turned
+mod Turning

@@ -3,6 +3,7 @@ use Rattle.std.specs.Prelude.{Bool, true, false, ◌≡◌, ℕ, ◌+◌, ◌≤
 use Rattle.cell_nodes.specs.declared.tree.Mode.TheVariants.{Whole}
 use Rattle.cell_nodes.specs.declared.tree.Tree.{Tree}
 use Rattle.core_form.specs.Closed.{Closed}
+use Rattle.core_form.specs.Closed as closed
 use Rattle.core_form.specs.Core.{CoreSchema, Items}
 use Rattle.core_form.specs.Scope.{Scope}
 use Rattle.hashmap_tree.specs.Entries.{Slice}
@@ -25,6 +26,14 @@ abbrev pub outputs_of : Outputs → List ℕ
 outputs_of Empty = []
 outputs_of (One n) = n ∷ []
 outputs_of (Several ns) = ns
+
+-- the most that a number of the type is, where it is its own output
+abbrev pub most_own : Closed → Option ℕ
+most_own closed.nat32 = Some 4294967295
+most_own (closed.bits n) = Some 4294967295
+most_own (closed.below n) = Some n
+most_own (closed.up_to n) = Some n
+most_own _ = None
 
 -- the cell of a reference, as it is
 abbrev pub is_raw : Plain → Bool

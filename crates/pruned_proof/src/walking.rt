@@ -24,7 +24,7 @@ ghost use Rattle.tlb_syntax.specs.View.{schema as schema_view};
 ghost use Rattle.typed_value.specs.Values as forms;
 ghost use Rattle.typed_value.specs.View.{pair_of, pairs_of, value as value_view, record_parts, names_in, vals_in};
 ghost use Rattle.pruned_proof.specs.View.{rests_of};
-ghost use Rattle.pruned_proof.specs.Walks.{Due, DueItems, Fills, Gives, HasBit, Is, IsBranch, IsEdge, Lies, Moves, fields_of, held_in, is_raw, outputs_of};
+ghost use Rattle.pruned_proof.specs.Walks.{Due, DueItems, Fills, Gives, HasBit, Is, IsBranch, IsEdge, Lies, Moves, fields_of, held_in, is_raw, most_own, outputs_of};
 ghost use Rattle.pruned_proof.specs.Wanted.{below, cut_at, cut_edge_for, cut_for};
 
 use crate::cutting::{CutError, Cutting, Outputs};
@@ -105,20 +105,32 @@ fn cut_value(
     }
 }
 
+// The most that a number of the type is, where it is its own output.
+fn most_own(ty: &ClosedType) -> Option<u32>
+    ensures { result ≡ most_own (type_view ty.now) }
+{
+    match ty {
+        ClosedType::Nat32 | ClosedType::Bits(_) => Some(4_294_967_295),
+        ClosedType::Below(n) | ClosedType::UpTo(n) => Some(*n),
+        _ => None,
+    }
+}
+
 // The output of a number, which is the number itself at the types of naturals.
+#[tactic(auto, using(crate::proofs::Numbers::own_small, crate::proofs::Numbers::own_is, crate::proofs::Numbers::own_none))]
 fn own_output(ty: &ClosedType, size: u128) -> Result<Outputs, CutError>
     ensures { (negative : Bool) (outs : List ℕ) (before after : Slice) → goals.in_table (type_view ty.now) ≡ true
         → SpellsNumber negative size (goals.row (type_view ty.now)) before outs after
         → Gives (λ x. outputs_of x ≡ outs) result }
 {
-    match ty {
-        ClosedType::Nat32 | ClosedType::Bits(_) | ClosedType::Below(_) | ClosedType::UpTo(_) => {
-            if size > 4_294_967_295 {
+    match most_own(ty) {
+        None => Ok(Outputs::Empty),
+        Some(most) => {
+            if size > u128::from(most) {
                 return Err(CutError::Unread);
             }
             Ok(Outputs::One(size as u32))
         }
-        _ => Ok(Outputs::Empty),
     }
 }
 
