@@ -1,4 +1,5 @@
 mod Answered
+mod Branched
 mod CutLaws
 mod Edges
 mod Fielded

@@ -1,5 +1,6 @@
 -- The output of a number.
 use Rattle.std.proofs.Common.{◌≡◌, ℕ, ◌<◌, ◌≤◌, ◌^◌, Bool, true, false, cond, List, [], ◌∷◌, Option, Some, None, refl, sym, ap, ◌∙◌, arith, nat_le}
+use Rattle.std.proofs.Math.Pow.{pow_mono}
 use Rattle.std.proofs.lemmas.Bool.{leb-true}
 use Rattle.std.proofs.lemmas.Option.{same_Some}
 use Rattle.core_form.specs.Closed.{Closed}
@@ -10,7 +11,7 @@ use Rattle.spelling.specs.Spells.{SpellsNumber}
 use Rattle.pruned_proof.specs.Walks.{most_own}
 
 small-power : (n : ℕ) → n ≤ 32 → 2 ^ n ≤ 2 ^ 32
-small-power n le = ?
+small-power n le = pow_mono {i = n} {j = 32} (omega (arith, le))
 
 pub record Own (t : Closed) (m size : ℕ) (outs : List ℕ) : Type 0 where
   pub small : size ≤ m

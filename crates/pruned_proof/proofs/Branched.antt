@@ -1,0 +1,196 @@
+-- An edge, by what it is: its value, or the two cells that it leads to.
+use Rattle.std.proofs.Common.{◌≡◌, ℕ, zero, suc, ◌+◌, ◌<◌, ◌≤◌, ◌-◌, Bool, true, List, [], ◌∷◌, ◌++◌, Option, Some, None, Result, Ok, Err}
+use Rattle.std.proofs.Common.{refl, sym, ap, ◌∙◌, subst, arith, append_assoc, length, length-append, map, take, drop, nat_le, slice_get, cond}
+use Rattle.std.proofs.lemmas.Bool.{le-leb}
+use Rattle.std.proofs.lemmas.Option.{same_Some}
+use Rattle.bit_slice.specs.Bits.{taken}
+use Rattle.cell_nodes.specs.declared.tree.Tree.{Tree, out-Tree}
+use Rattle.core_form.specs.Closed.{Closed}
+use Rattle.core_form.specs.Core.{CoreSchema}
+use Rattle.hashmap_tree.specs.Entries.{Slice}
+use Rattle.spelling.specs.Goals.{at_type}
+use Rattle.spelling.specs.Slices.{nothing}
+use Rattle.pruning.specs.Laid.{Laid, LaidEdge, a_fork, a_leaf}
+use Rattle.pruning.specs.SpellsLaid.{EdgeCell, SpellsEdge, SpellsLaid}
+use Rattle.pruning_laws.specs.CleanLaws.{AllClean, IsClean}
+use Rattle.typed_value.specs.Paths.{keyed}
+use Rattle.typed_value.specs.declared.value.Value.{Value}
+use Rattle.pruned_proof.specs.Walks.{IsBranch, Lies, Moves}
+use Rattle.pruned_proof.specs.Wanted.{Rests, below, cut_at, cut_edge_for, cut_for, onward}
+use Rattle.pruned_proof.specs.declared.cutting.Cutting.{Cutting}
+use Rattle.pruned_proof.proofs.Edges.{Begins, Forked, keys_in, seam}
+use Rattle.pruned_proof.proofs.Filling.{in_cell}
+
+-- ---- what moves on
+
+pub moves_as : (a b after : List Tree) (old new : Cutting) → a ≡ b → Moves a after old new → Moves b after old new
+moves_as a b after old new same m = (m.0, m.1 ∙ ap (λ (z : List Tree). old.made.items ++ z) same)
+
+pub moves_on : (a b mid after : List Tree) (old between new : Cutting) → Moves a mid old between → Moves b after between new
+    → Moves (a ++ b) after old new
+moves_on a b mid after old between new first second =
+    (second.0, second.1 ∙ ap (λ (z : List Tree). z ++ b) first.1 ∙ append_assoc old.made.items a b)
+
+-- ---- a leaf
+
+pub record LeafLies (schema : CoreSchema) (d : Laid) (t : Closed) (left : List Tree) (after : Slice) : Type 0 where
+  pub outs : List ℕ
+  pub lies : Lies (SpellsLaid schema d (at_type t)) left outs after
+
+pub leaf_lies : (schema : CoreSchema) (e : LaidEdge) (l : List ℕ) (d : Laid) (n : ℕ) (t : Closed) (left : List Tree)
+    (outs : List ℕ) (after : Slice) → e ≡ a_leaf l d → Lies (λ b o a. SpellsEdge schema e n t b a) left outs after
+    → LeafLies schema d t left after
+leaf_lies schema e l d n t left outs after is x =
+    let P : LaidEdge → Type 0 = λ z. SpellsEdge schema z n t x.before after in
+    let k = subst P is x.spelled in
+    record { outs = k.1; lies = record { before = k.0; refs = sym k.2.refs ∙ x.refs; clean = x.clean; spelled = k.3 } }
+
+pub leaf_made : (k here : Rests) (q l key : List ℕ) (e : LaidEdge) (d : Laid) → e ≡ a_leaf l d → key ≡ q ++ l
+    → here ≡ onward (keyed key) k → cut_for here d ≡ cut_edge_for k q e
+leaf_made k here q l key e d is same are =
+    ap (λ (z : Rests). cut_for z d) (are ∙ ap (λ (z : List ℕ). onward (keyed z) k) same) ∙ sym (ap (cut_edge_for k q) is)
+
+-- ---- a fork
+
+pub record ForkLies (schema : CoreSchema) (l : List ℕ) (z : Tree) (a : LaidEdge) (o : Tree) (b : LaidEdge) (n : ℕ) (t : Closed)
+    (left after : List Tree) : Type 0 where
+  pub less : ℕ
+  pub long : n ≡ length l + suc less
+  pub there : left ≡ z ∷ (o ∷ after)
+  pub clean_zero : IsClean z
+  pub clean_one : IsClean o
+  pub cell_zero : EdgeCell (SpellsEdge schema a) less t z
+  pub cell_one : EdgeCell (SpellsEdge schema b) less t o
+
+pub fork_lies : (schema : CoreSchema) (e : LaidEdge) (l : List ℕ) (z : Tree) (a : LaidEdge) (o : Tree) (b : LaidEdge) (n : ℕ)
+    (t : Closed) (left : List Tree) (outs : List ℕ) (after : Slice) → e ≡ a_fork l z a o b
+    → Lies (λ b o a. SpellsEdge schema e n t b a) left outs after → ForkLies schema l z a o b n t left after.refs
+fork_lies schema e l z a o b n t left outs after is x =
+    let P : LaidEdge → Type 0 = λ y. SpellsEdge schema y n t x.before after in
+    let k = subst P is x.spelled in
+    let there : left ≡ z ∷ (o ∷ after.refs) = sym x.refs ∙ k.3 in
+    let Q : List Tree → Type 0 = AllClean in
+    let clean = subst Q there x.clean in
+    record {
+      less = k.0;
+      long = k.1;
+      there = there;
+      clean_zero = clean.0;
+      clean_one = clean.1.0;
+      cell_zero = k.4;
+      cell_one = k.5;
+    }
+
+-- the two cells
+pub zero_branch : (schema : CoreSchema) (q l : List ℕ) (z : Tree) (a : LaidEdge) (o : Tree) (b : LaidEdge) (n : ℕ) (t : Closed)
+    (key : List ℕ) (left after : List Tree) (x : ForkLies schema l z a o b n t left after)
+    → Begins (q ++ (l ++ 0 ∷ [])) key → IsBranch schema x.less t (q ++ (l ++ 0 ∷ [])) a key z left (o ∷ after)
+zero_branch schema q l z a o b n t key left after x begins = record {
+  there = x.there;
+  clean = x.clean_zero;
+  cell = x.cell_zero;
+  rest = begins.rest;
+  begins = begins.is;
+}
+
+pub one_branch : (schema : CoreSchema) (q l : List ℕ) (z : Tree) (a : LaidEdge) (o : Tree) (b : LaidEdge) (n : ℕ) (t : Closed)
+    (key : List ℕ) (left mid after : List Tree) (x : ForkLies schema l z a o b n t left after) → mid ≡ o ∷ after
+    → Begins (q ++ (l ++ 1 ∷ [])) key → IsBranch schema x.less t (q ++ (l ++ 1 ∷ [])) b key o mid after
+one_branch schema q l z a o b n t key left mid after x there begins = record {
+  there = there;
+  clean = x.clean_one;
+  cell = x.cell_one;
+  rest = begins.rest;
+  begins = begins.is;
+}
+
+-- what the two are left with
+pub fork_moves : (k : Rests) (q l : List ℕ) (e : LaidEdge) (z : Tree) (a : LaidEdge) (o : Tree) (b : LaidEdge)
+    (mid after : List Tree) (old between new : Cutting) → e ≡ a_fork l z a o b
+    → Moves (cut_at (below (q ++ (l ++ 0 ∷ [])) k) z
+    (cut_edge_for (below (q ++ (l ++ 0 ∷ [])) k) (q ++ (l ++ 0 ∷ [])) a) ∷ []) mid old between
+    → Moves (cut_at (below (q ++ (l ++ 1 ∷ [])) k) o
+    (cut_edge_for (below (q ++ (l ++ 1 ∷ [])) k) (q ++ (l ++ 1 ∷ [])) b) ∷ []) after between new
+    → Moves (cut_edge_for k q e) after old new
+fork_moves k q l e z a o b mid after old between new is first second =
+    let x = q ++ (l ++ 0 ∷ []) in
+    let y = q ++ (l ++ 1 ∷ []) in
+    let left = cut_at (below x k) z (cut_edge_for (below x k) x a) in
+    let right = cut_at (below y k) o (cut_edge_for (below y k) y b) in
+    moves_as (left ∷ (right ∷ [])) (cut_edge_for k q e) after old new (sym (ap (cut_edge_for k q) is))
+    (moves_on (left ∷ []) (right ∷ []) mid after old between new first second)
+
+-- ---- the keys at its sides
+
+slice-first : (x : List ℕ × Value) (xs ys : List (List ℕ × Value)) → xs ≡ x ∷ ys → slice_get (keys_in xs) 0 ≡ Some x.0
+slice-first x xs ys is = ap (λ (z : List (List ℕ × Value)). slice_get (keys_in z) 0) is
+
+pub first_begins : (q l : List ℕ) (a b : LaidEdge) (xs ys : List (List ℕ × Value)) (most : ℕ) (x : List ℕ × Value)
+    → Forked q l a b xs most → xs ≡ x ∷ ys → Begins (q ++ (l ++ 0 ∷ [])) x.0
+first_begins q l a b xs ys most x f is = f.begin_zero 0 x.0 f.some_zero (slice-first x xs ys is)
+
+get-key : (xs : List (List ℕ × Value)) (i : ℕ) (x : List ℕ × Value) → slice_get xs i ≡ Some x → slice_get (keys_in xs) i ≡ Some x.0
+get-key [] i x at = absurd (cc)
+get-key (y ∷ xs) zero x at = ap (λ (z : List ℕ × Value). Some z.0) (same_Some y x at)
+get-key (y ∷ xs) (suc i) x at = get-key xs i x at
+
+pub last_begins : (q l : List ℕ) (a b : LaidEdge) (xs ys : List (List ℕ × Value)) (most : ℕ) (x y : List ℕ × Value)
+    → Forked q l a b xs most → xs ≡ x ∷ ys → slice_get ys (length ys - 1) ≡ Some y → Begins (q ++ (l ++ 1 ∷ [])) y.0
+last_begins q l a b xs [] most x y f is at = absurd (cc)
+last_begins q l a b xs (w ∷ ys) most x y f is at =
+    let some = f.some_one in
+    let long = ap length is in
+    let there : slice_get (keys_in xs) (suc (length ys)) ≡ Some y.0 =
+    ap (λ (z : List (List ℕ × Value)). slice_get (keys_in z) (suc (length ys))) is ∙ get-key (w ∷ ys) (length ys) y at in
+    f.begin_one (suc (length ys)) y.0 (omega (arith, some, long)) there
+
+-- where they part
+pub parts_at : (q l : List ℕ) (a b : List ℕ) (n : ℕ) → Begins (q ++ (l ++ 0 ∷ [])) a → Begins (q ++ (l ++ 1 ∷ [])) b
+    → ((p x y : List ℕ) → a ≡ p ++ 0 ∷ x → b ≡ p ++ 1 ∷ y → n ≡ length p) → n ≡ length (q ++ l)
+parts_at q l a b n x y common =
+    common (q ++ l) x.rest y.rest (x.is ∙ seam q l x.rest 0) (y.is ∙ seam q l y.rest 1)
+
+pub one_more : (q l : List ℕ) (b n : ℕ) → n ≡ length (q ++ l) → n + 1 ≡ length (q ++ (l ++ b ∷ []))
+one_more q l b n is =
+    let whole = length-append (q ++ l) (b ∷ []) in
+    let same = ap length (append_assoc q l (b ∷ [])) in
+    omega (arith, whole, same, is)
+
+-- ---- the bits of a key that an edge's keys begin with
+
+take-own : (q rest : List ℕ) → take (length q) (q ++ rest) ≡ q
+take-own [] rest = refl
+take-own (b ∷ q) rest = ap (λ (z : List ℕ). b ∷ z) (take-own q rest)
+
+pub record Taken (q key : List ℕ) (n : ℕ) : Type 0 where
+  pub rest : List ℕ
+  pub is : taken n key ≡ Some (q, rest)
+
+pub key_taken : (q key rest : List ℕ) (n : ℕ) → key ≡ q ++ rest → n ≡ length q → Taken q key n
+key_taken q key rest n is long =
+    let all = ap length is in
+    let both = length-append q rest in
+    let within : nat_le n (length key) ≡ true = le-leb n (length key) (omega (arith, all, both, long)) in
+    let first : take n key ≡ q = ap (λ (z : ℕ). take z key) long ∙ ap (take (length q)) is ∙ take-own q rest in
+    record {
+      rest = drop n key;
+      is = ap (λ (b : Bool). cond b (Some (take n key, drop n key)) None) within
+          ∙ ap (λ (z : List ℕ). Some (z, drop n key)) first;
+    }
+
+pub prefix_is : (q key rest prefix more : List ℕ) (n : ℕ) → key ≡ q ++ rest → n ≡ length q
+    → Some (prefix, more) ≡ taken n key → prefix ≡ q
+prefix_is q key rest prefix more n is long at =
+    let t = key_taken q key rest n is long in
+    ap (λ (z : List ℕ × List ℕ). z.0) (same_Some (prefix, more) (q, t.rest) (at ∙ t.is))
+
+pub prefix_there : (q key rest : List ℕ) (n : ℕ) → key ≡ q ++ rest → n ≡ length q → None ≡ taken n key → ⊥
+prefix_there q key rest n is long none =
+    let t = key_taken q key rest n is long in let f = none ∙ t.is in absurd (cc)
+
+-- an edge fills its cell
+pub edge_fills : (schema : CoreSchema) (e : LaidEdge) (n : ℕ) (t : Closed) (c : Tree) (left : List Tree) → IsClean c
+    → EdgeCell (SpellsEdge schema e) n t c → left ≡ (out-Tree c).children
+    → Lies (λ b o a. SpellsEdge schema e n t b a) left [] nothing
+edge_fills schema e n t c left clean cell are =
+    in_cell (λ b o a. SpellsEdge schema e n t b a) c cell.0 [] left clean cell.1 cell.2 are
