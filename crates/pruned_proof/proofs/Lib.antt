@@ -1,5 +1,6 @@
 mod Answered
 mod Branched
+mod Chosen
 mod CutLaws
 mod Edges
 mod Fielded

@@ -2,6 +2,8 @@
 use Rattle.std.proofs.Common.{◌≡◌, ℕ, zero, suc, ◌+◌, ◌<◌, ◌≤◌, ◌⊎◌, inl, inr, Bool, true, false, List, [], ◌∷◌, Option, Some, None}
 use Rattle.std.proofs.Common.{refl, sym, ap, ◌∙◌, subst, arith, length, map, slice_get, get_or, nat_le, nat_eq, cond}
 use Rattle.std.specs.Prelude.{slice_index}
+use Rattle.std.proofs.lemmas.Bool.{lt-leb}
+use Rattle.std.proofs.lemmas.Option.{same_Some, slice_get_within}
 use Rattle.bit_slice.specs.Bits.{bit_value}
 use Rattle.typed_value.specs.declared.value.Value.{Value}
 use Rattle.pruned_proof.specs.Walks.{HasBit}
@@ -12,14 +14,16 @@ pub record Aims (low high k : ℕ) : Type 0 where
   pub to : k ≤ high
 
 -- the bit at a place
+index-there : (key : List ℕ) (place bit : ℕ) → slice_get key place ≡ Some bit → slice_index key place ≡ bit
+index-there [] place bit at = absurd (cc)
+index-there (b ∷ key) zero bit at = same_Some b bit at
+index-there (b ∷ key) (suc place) bit at = index-there key place bit at
+
 value-there : (key : List ℕ) (place bit : ℕ) → slice_get key place ≡ Some bit → bit_value place key ≡ Some (nat_eq bit 1)
-value-there [] place bit at = absurd (cc)
-value-there (b ∷ key) zero bit at = ap (λ (o : Option ℕ). o_bit o) at
-  where
-    o_bit : Option ℕ → Option Bool
-    o_bit None = None
-    o_bit (Some b) = Some (nat_eq b 1)
-value-there (b ∷ key) (suc place) bit at = value-there key place bit at
+value-there key place bit at =
+    let long : nat_le (length key) place ≡ false = lt-leb (length key) place (slice_get_within key place bit at) in
+    ap (λ (b : Bool). cond b None (Some (nat_eq (slice_index key place) 1))) long
+    ∙ ap (λ (n : ℕ). Some (nat_eq n 1)) (index-there key place bit at)
 
 key-there : (pairs : List (List ℕ × Value)) (d : List ℕ × Value) (i : ℕ) → i < length pairs
     → slice_get (map (λ p. p.0) pairs) i ≡ Some (get_or pairs i d).0
@@ -58,3 +62,24 @@ module _ (pairs : List (List ℕ × Value)) (place k i : ℕ) (d : List ℕ × V
       go (inr le) =
           let key = (get_or pairs i d).0 in
           absurd (is (value-there key place 1 (ones i le within key (key-there pairs d i within))))
+
+-- the halves
+pub halved_before : (pairs : List (List ℕ × Value)) (place k low middle high : ℕ) (x : List ℕ × Value) (key : List ℕ)
+    → x ≡ get_or pairs middle x → key ≡ x.0 → bit_value place key ≡ Some true → middle < length pairs
+    → ((j : ℕ) → j < k → HasBit place 0 j (map (λ p. p.0) pairs))
+    → ((j : ℕ) → k ≤ j → j < length pairs → HasBit place 1 j (map (λ p. p.0) pairs))
+    → Aims low high k → Aims low middle k
+halved_before pairs place k low middle high x key is same one within zeros ones a =
+    let at = ap (bit_value place) (sym (same ∙ ap (λ (z : List ℕ × Value). z.0) is)) ∙ one in
+    record { from = a.from; to = turned_one pairs place k middle x within zeros ones at }
+
+pub halved_after : (pairs : List (List ℕ × Value)) (place k low middle high : ℕ) (x : List ℕ × Value) (key : List ℕ)
+    → x ≡ get_or pairs middle x → key ≡ x.0 → (bit_value place key ≡ Some true → ⊥) → middle < length pairs
+    → ((j : ℕ) → j < k → HasBit place 0 j (map (λ p. p.0) pairs))
+    → ((j : ℕ) → k ≤ j → j < length pairs → HasBit place 1 j (map (λ p. p.0) pairs))
+    → Aims low high k → Aims (middle + 1) high k
+halved_after pairs place k low middle high x key is same other within zeros ones a =
+    let not_one : bit_value place (get_or pairs middle x).0 ≡ Some true → ⊥ =
+    λ at. other (ap (bit_value place) (same ∙ ap (λ (z : List ℕ × Value). z.0) is) ∙ at) in
+    let less = turned_zero pairs place k middle x within zeros ones not_one in
+    record { from = omega (arith, less); to = a.to }
