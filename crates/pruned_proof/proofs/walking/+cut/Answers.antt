@@ -1,4 +1,4 @@
-use Rattle.std.proofs.Common.{arith, ◌≡◌, ◌+◌, ◌++◌, ◌∷◌, ◌∙◌, ◌<◌, ◌≤◌, map, sym, ap, refl, [], None, Some, Ok, Err, List, ℕ, length, subst, drop}
+use Rattle.std.proofs.Common.{arith, ◌≡◌, ◌+◌, ◌-◌, get_or, ◌++◌, ◌∷◌, ◌∙◌, ◌<◌, ◌≤◌, map, sym, ap, refl, [], None, Some, Ok, Err, List, ℕ, length, subst, drop}
 use Rattle.std.proofs.Common.{option_map, slice_get, rules, true, false}
 use Rattle.std.specs.Borrow.{Bor}
 use Rattle.std.proofs.lemmas.Result.{err_from_is_err_and}
@@ -36,14 +36,14 @@ use Rattle.pruned_proof.proofs.walking.+cut.Goals as goal
 
 pub cut_ref-returns-in_err-child : goal.cut_ref-returns-in_err-child
 cut_ref-returns-in_err-child t c = λ d outs after is l.
-    let p = err_from_is_err_and c.from_residual-in_err-child.result c.from_residual-in_err-child.ensures.1 in
+    let p = err_from_is_err_and c.from_residual.result c.from_residual.ensures.1 in
     let S = cores (schema_view c.args.plan.now.0) in
     let g = goals.under_ref (type_view c.args.inner.now) in
     let v = value_view c.args.held.now in
     let n = c.args.levels in
     let k = rests_of c.args.wanted.now in
     let x = led S d (type_view c.args.inner.now) v n c.args.cell.now.left outs after is l in
-    none_left {B = Bor Tree} _ c.from_residual-in_err-child.result c.in_err-child.field-0.0 c.args.cell.now.left after.refs x.child
+    none_left {B = Bor Tree} _ c.from_residual.result c.in_err-child.field-0.0 c.args.cell.now.left after.refs x.child
     (p.1 ∙ ap Err p.2) c.in_err-child.ensures.none x.there
 
 pub cut_ref-returns-then-is_nothing : goal.cut_ref-returns-then-is_nothing
@@ -140,7 +140,7 @@ cut_cell-returns t c = λ d is f.
 
 pub cut_under-returns-in_err-child : goal.cut_under-returns-in_err-child
 cut_under-returns-in_err-child t c = λ d outs after is l.
-    let p = err_from_is_err_and c.from_residual-in_err-child.result c.from_residual-in_err-child.ensures.1 in
+    let p = err_from_is_err_and c.from_residual.result c.from_residual.ensures.1 in
     let S = cores (schema_view c.args.plan.now.0) in
     let items = record_at c.args.plan.now.1 c.args.first c.args.count in
     let scope = scope_of c.args.env.now c.args.types.now in
@@ -149,7 +149,7 @@ cut_under-returns-in_err-child t c = λ d outs after is l.
     let x = led_fields S d items scope (value_view c.args.value.now) c.args.levels c.args.cell.now.left outs after is l in
     let v = x.inner in
     let n = x.less in
-    none_left {B = Bor Tree} _ c.from_residual-in_err-child.result c.in_err-child.field-0.0 c.args.cell.now.left after.refs x.leads.child
+    none_left {B = Bor Tree} _ c.from_residual.result c.in_err-child.field-0.0 c.args.cell.now.left after.refs x.leads.child
     (p.1 ∙ ap Err p.2) c.in_err-child.ensures.none x.leads.there
 
 pub cut_under-returns-then-is_nothing : goal.cut_under-returns-then-is_nothing

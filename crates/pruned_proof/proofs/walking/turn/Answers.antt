@@ -11,7 +11,7 @@ halves-preserved-then-eq c =
     let order = c.halves.invariant.order in
     let within = c.halves.invariant.within in
     let x = c.index-pairs-middle.result in
-    let one = sym c.bit.ensures ∙ c.eq.ensures in
+    let one = eq_some c.bit.result (sym c.eq.ensures ∙ c.if-eq.true) c.bit.ensures in
     record {
       order = omega (arith, less);
       within = omega (arith, less, within);
