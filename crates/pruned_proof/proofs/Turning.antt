@@ -1,6 +1,8 @@
 -- Where pairs turn, by halves.
 use Rattle.std.proofs.Common.{◌≡◌, ℕ, zero, suc, ◌+◌, ◌<◌, ◌≤◌, ◌⊎◌, inl, inr, Bool, true, false, List, [], ◌∷◌, Option, Some, None}
 use Rattle.std.proofs.Common.{refl, sym, ap, ◌∙◌, subst, arith, length, map, slice_get, get_or, nat_le, nat_eq, cond}
+use mathlib.Core.Bool.{beq}
+use Rattle.std.specs.Option.{option_eq}
 use Rattle.std.specs.Prelude.{slice_index}
 use Rattle.std.proofs.lemmas.Bool.{lt-leb}
 use Rattle.std.proofs.lemmas.Option.{same_Some, slice_get_within}
@@ -65,21 +67,31 @@ module _ (pairs : List (List ℕ × Value)) (place k i : ℕ) (d : List ℕ × V
 
 -- the halves
 pub halved_before : (pairs : List (List ℕ × Value)) (place k low middle high : ℕ) (x : List ℕ × Value) (key : List ℕ)
-    → x ≡ get_or pairs middle x → key ≡ x.0 → bit_value place key ≡ Some true → middle < length pairs
+    → key ≡ (get_or pairs middle x).0 → bit_value place key ≡ Some true → middle < length pairs
     → ((j : ℕ) → j < k → HasBit place 0 j (map (λ p. p.0) pairs))
     → ((j : ℕ) → k ≤ j → j < length pairs → HasBit place 1 j (map (λ p. p.0) pairs))
     → Aims low high k → Aims low middle k
-halved_before pairs place k low middle high x key is same one within zeros ones a =
-    let at = ap (bit_value place) (sym (same ∙ ap (λ (z : List ℕ × Value). z.0) is)) ∙ one in
+halved_before pairs place k low middle high x key same one within zeros ones a =
+    let at = ap (bit_value place) (sym same) ∙ one in
     record { from = a.from; to = turned_one pairs place k middle x within zeros ones at }
 
 pub halved_after : (pairs : List (List ℕ × Value)) (place k low middle high : ℕ) (x : List ℕ × Value) (key : List ℕ)
-    → x ≡ get_or pairs middle x → key ≡ x.0 → (bit_value place key ≡ Some true → ⊥) → middle < length pairs
+    → key ≡ (get_or pairs middle x).0 → (bit_value place key ≡ Some true → ⊥) → middle < length pairs
     → ((j : ℕ) → j < k → HasBit place 0 j (map (λ p. p.0) pairs))
     → ((j : ℕ) → k ≤ j → j < length pairs → HasBit place 1 j (map (λ p. p.0) pairs))
     → Aims low high k → Aims (middle + 1) high k
-halved_after pairs place k low middle high x key is same other within zeros ones a =
+halved_after pairs place k low middle high x key same other within zeros ones a =
     let not_one : bit_value place (get_or pairs middle x).0 ≡ Some true → ⊥ =
-    λ at. other (ap (bit_value place) (same ∙ ap (λ (z : List ℕ × Value). z.0) is) ∙ at) in
+    λ at. other (ap (bit_value place) same ∙ at) in
     let less = turned_zero pairs place k middle x within zeros ones not_one in
     record { from = omega (arith, less); to = a.to }
+
+-- the test of a bit
+pub one_there : (o : Option Bool) (r : Bool) → r ≡ option_eq beq o (Some true) → r ≡ true → o ≡ Some true
+one_there None r is yes = let f : false ≡ true = sym is ∙ yes in absurd (cc)
+one_there (Some true) r is yes = refl
+one_there (Some false) r is yes = let f : false ≡ true = sym is ∙ yes in absurd (cc)
+
+pub none_there : (o : Option Bool) (r : Bool) → r ≡ option_eq beq o (Some true) → r ≡ false → o ≡ Some true → ⊥
+none_there o r is no there =
+    let f : false ≡ true = sym no ∙ is ∙ ap (λ (z : Option Bool). option_eq beq z (Some true)) there in absurd (cc)
