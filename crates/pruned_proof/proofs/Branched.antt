@@ -1,5 +1,5 @@
 -- An edge, by what it is: its value, or the two cells that it leads to.
-use Rattle.std.proofs.Common.{◌≡◌, ℕ, zero, suc, ◌+◌, ◌<◌, ◌≤◌, ◌-◌, Bool, true, List, [], ◌∷◌, ◌++◌, Option, Some, None, Result, Ok, Err}
+use Rattle.std.proofs.Common.{◌≡◌, ℕ, zero, suc, ◌+◌, ◌<◌, ◌≤◌, ◌-◌, Bool, true, false, List, [], ◌∷◌, ◌++◌, Option, Some, None, Result, Ok, Err}
 use Rattle.std.proofs.Common.{refl, sym, ap, ◌∙◌, subst, arith, append_assoc, length, length-append, map, take, drop, nat_le, slice_get, cond}
 use Rattle.std.proofs.lemmas.Bool.{le-leb}
 use Rattle.std.proofs.lemmas.Option.{same_Some}
@@ -10,16 +10,19 @@ use Rattle.core_form.specs.Core.{CoreSchema}
 use Rattle.hashmap_tree.specs.Entries.{Slice}
 use Rattle.spelling.specs.Goals.{at_type}
 use Rattle.spelling.specs.Slices.{nothing}
-use Rattle.pruning.specs.Laid.{Laid, LaidEdge, a_fork, a_leaf}
+use Rattle.pruning.specs.Cut.{cell_with}
+use Rattle.pruning.specs.Laid.{Laid, LaidEdge, a_fork, a_leaf, edge_trees}
 use Rattle.pruning.specs.SpellsLaid.{EdgeCell, SpellsEdge, SpellsLaid}
 use Rattle.pruning_laws.specs.CleanLaws.{AllClean, IsClean}
 use Rattle.typed_value.specs.Paths.{keyed}
 use Rattle.typed_value.specs.declared.value.Value.{Value}
 use Rattle.pruned_proof.specs.Walks.{IsBranch, Lies, Moves}
-use Rattle.pruned_proof.specs.Wanted.{Rests, below, cut_at, cut_edge_for, cut_for, onward}
+use Rattle.pruned_proof.specs.Wanted.{Rests, below, cut_at, cut_edge_for, cut_for, is_nothing, is_whole, onward}
 use Rattle.pruned_proof.specs.declared.cutting.Cutting.{Cutting}
 use Rattle.pruned_proof.proofs.Edges.{Begins, Forked, keys_in, seam}
-use Rattle.pruned_proof.proofs.Filling.{in_cell}
+use Rattle.pruned_proof.proofs.Filling.{edge_filled, in_cell}
+use Rattle.pruned_proof.proofs.Led.{first_same, rest_same}
+use Rattle.pruned_proof.proofs.Pruned.{edge_whole, kept_at, opened_at}
 
 -- ---- what moves on
 
@@ -194,3 +197,54 @@ pub edge_fills : (schema : CoreSchema) (e : LaidEdge) (n : ℕ) (t : Closed) (c 
     → Lies (λ b o a. SpellsEdge schema e n t b a) left [] nothing
 edge_fills schema e n t c left clean cell are =
     in_cell (λ b o a. SpellsEdge schema e n t b a) c cell.0 [] left clean cell.1 cell.2 are
+
+-- ---- the cell of a reference that leads to an edge
+
+pub record BranchAt (schema : CoreSchema) (n : ℕ) (t : Closed) (e : LaidEdge) (c child : Tree) (mid after : List Tree)
+    : Type 0 where
+  pub same : c ≡ child
+  pub rest : mid ≡ after
+  pub clean : IsClean child
+  pub cell : EdgeCell (SpellsEdge schema e) n t child
+
+pub branch_at : (schema : CoreSchema) (n : ℕ) (t : Closed) (q : List ℕ) (e : LaidEdge) (key : List ℕ) (c child : Tree)
+    (left mid after : List Tree) → IsBranch schema n t q e key c left after → left ≡ child ∷ mid
+    → BranchAt schema n t e c child mid after
+branch_at schema n t q e key c child left mid after b taken =
+    let both = sym taken ∙ b.there in
+    let same : child ≡ c = first_same child c mid after both in
+    let P : Tree → Type 0 = IsClean in
+    let Q : Tree → Type 0 = λ z. EdgeCell (SpellsEdge schema e) n t z in
+    record {
+      same = sym same;
+      rest = rest_same child c mid after both;
+      clean = subst P (sym same) b.clean;
+      cell = subst Q (sym same) b.cell;
+    }
+
+-- what is left of the paths at the edge
+pub branch_wanted : (q key seen rest prefix more : List ℕ) (n : ℕ) (k here : Rests) (r : Option (List ℕ × List ℕ))
+    → key ≡ q ++ rest → n ≡ length q → r ≡ Some (prefix, more) → r ≡ taken n seen → seen ≡ key → here ≡ below prefix k
+    → here ≡ below q k
+branch_wanted q key seen rest prefix more n k here r is long some took same are =
+    are ∙ ap (λ (z : List ℕ). below z k)
+    (prefix_is q key rest prefix more n is long (sym some ∙ took ∙ ap (taken n) same))
+
+pub branch_kept : (schema : CoreSchema) (n : ℕ) (t : Closed) (q : List ℕ) (e : LaidEdge) (c child : Tree) (mid after : List Tree)
+    (k here : Rests) → BranchAt schema n t e c child mid after → here ≡ k → is_whole here ≡ true
+    → cut_at k c (cut_edge_for k q e) ∷ [] ≡ child ∷ []
+branch_kept schema n t q e c child mid after k here b same whole =
+    let f = edge_filled schema n t e child b.cell in
+    let kept : cut_at here child (cut_edge_for here q e) ≡ child =
+    kept_at here child (edge_trees e) (cut_edge_for here q e) whole f.full (edge_whole here whole q e f.filled) in
+    ap (λ (z : Rests). cut_at z c (cut_edge_for z q e) ∷ []) (sym same)
+    ∙ ap (λ (z : Tree). cut_at here z (cut_edge_for here q e) ∷ []) b.same
+    ∙ ap (λ (z : Tree). z ∷ []) kept
+
+pub branch_opened : (schema : CoreSchema) (n : ℕ) (t : Closed) (q : List ℕ) (e : LaidEdge) (c child : Tree)
+    (mid after : List Tree) (k here : Rests) → BranchAt schema n t e c child mid after → here ≡ k → is_nothing here ≡ false
+    → cut_at k c (cut_edge_for k q e) ∷ [] ≡ cell_with child (cut_edge_for here q e) ∷ []
+branch_opened schema n t q e c child mid after k here b same some =
+    ap (λ (z : Rests). cut_at z c (cut_edge_for z q e) ∷ []) (sym same)
+    ∙ ap (λ (z : Tree). cut_at here z (cut_edge_for here q e) ∷ []) b.same
+    ∙ ap (λ (z : Tree). z ∷ []) (opened_at here child (cut_edge_for here q e) some)

@@ -21,6 +21,7 @@ use Rattle.flat_form.specs.declared.lists.Flat.{Flat}
 use Rattle.flat_form.specs.declared.lists.PlanInput.{PlanInput}
 use Rattle.flat_form.specs.declared.lists.PlanOp.{PlanOp}
 use Rattle.hashmap_tree.specs.Entries.{Slice}
+use Rattle.nat_solver.specs.Number.{Expr}
 use Rattle.schema_core.specs.Cores.{cores_after}
 use Rattle.schema_leads.specs.Tags.{cores, tag_of}
 use Rattle.spelling.specs.Goals.{typed}
@@ -240,3 +241,15 @@ module _ (schema : CoreSchema) (k : Rests) (most : ℕ) (type : Word) (args : Cl
   found_named d x word is =
       let same : x.shown ≡ word = same_Some x.shown word (sym x.called ∙ is) in
       record { of_type = x.of_type; shown = x.is_shown ∙ same; fits = ap is_some x.fits }
+
+pub planned_there : (s : SchemaView) (f : Flat) (plans : List ConstructorPlan) (c : ℕ) → Planned s f plans
+    → c < length (cores s) → c < length plans
+planned_there s f plans c p below =
+    let count = core_count s [] s in
+    let all = p.count in
+    omega (arith, below, count, all)
+
+pub outputs_are : (exprs core : List Expr) (scope end : Scope) (found : Option (List ℕ)) (outs : List ℕ) → exprs ≡ core
+    → found ≡ values_in exprs scope → scope ≡ end → values_in core end ≡ Some outs → found ≡ Some outs
+outputs_are exprs core scope end found outs same is at all =
+    is ∙ ap (λ (z : List Expr). values_in z scope) same ∙ ap (λ (z : Scope). values_in core z) at ∙ all

@@ -42,7 +42,7 @@ tail_of : List Tree → List Tree
 tail_of [] = []
 tail_of (t ∷ ts) = ts
 
-rest_same : (a b : Tree) (xs ys : List Tree) → a ∷ xs ≡ b ∷ ys → xs ≡ ys
+pub rest_same : (a b : Tree) (xs ys : List Tree) → a ∷ xs ≡ b ∷ ys → xs ≡ ys
 unfolding tail_of
 rest_same a b xs ys e = ap tail_of e
 

@@ -88,10 +88,10 @@ halved_after pairs place k low middle high x key same other within zeros ones a 
 
 -- the test of a bit
 pub one_there : (o : Option Bool) (r : Bool) → r ≡ option_eq beq o (Some true) → r ≡ true → o ≡ Some true
-one_there None r is yes = let f : false ≡ true = sym is ∙ yes in absurd (cc)
-one_there (Some true) r is yes = refl
-one_there (Some false) r is yes = let f : false ≡ true = sym is ∙ yes in absurd (cc)
+one_there None r is e = let f : false ≡ true = sym is ∙ e in absurd (cc)
+one_there (Some true) r is e = refl
+one_there (Some false) r is e = let f : false ≡ true = sym is ∙ e in absurd (cc)
 
 pub none_there : (o : Option Bool) (r : Bool) → r ≡ option_eq beq o (Some true) → r ≡ false → o ≡ Some true → ⊥
-none_there o r is no there =
-    let f : false ≡ true = sym no ∙ is ∙ ap (λ (z : Option Bool). option_eq beq z (Some true)) there in absurd (cc)
+none_there o r is e there =
+    let f : false ≡ true = sym e ∙ is ∙ ap (λ (z : Option Bool). option_eq beq z (Some true)) there in absurd (cc)

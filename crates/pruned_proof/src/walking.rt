@@ -416,11 +416,11 @@ fn cut_declared(
     let Some(c) = plan.named(name, args, shown) else {
         return Err(CutError::Unread);
     };
+    let flat = plan.flat();
     let entry = plan.entry(c);
     let Some(mut slots) = fit(alloc, plan.inputs(c), args, entry.slots)? else {
         return Err(CutError::Unread);
     };
-    let flat = plan.flat();
     let ops = flat.operations(entry.first, entry.count);
     let types = slots.types.as_slice();
     let fields = record.fields.as_slice();
