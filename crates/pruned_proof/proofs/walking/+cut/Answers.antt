@@ -11,7 +11,7 @@ use Rattle.flat_form.specs.Sound.{IsRange, OpsAreSound}
 use Rattle.flat_form.specs.Stands.{items_in, name_at, record_at, slot_of, type_at, expr_at}
 use Rattle.flat_form.specs.declared.lists.Flat.{Flat}
 use Rattle.flat_form.specs.declared.lists.PlanOp.{PlanOp}
-use Rattle.flat_form.specs.declared.lists.PlanOp.TheVariants.{Field, Solve}
+use Rattle.flat_form.specs.declared.lists.PlanOp.TheVariants.{Check, Field, Solve}
 use Rattle.hashmap_tree.specs.Entries.{Slice}
 use Rattle.plan_closing.specs.Counted.{scope_of}
 use Rattle.plan_reading.specs.Shaped.{GovernIsSound, IsRecord, governed}
@@ -22,7 +22,12 @@ use Rattle.tlb_syntax.specs.View.{schema as schema_view}
 use Rattle.typed_value.specs.View.{names_in, pair_of, pairs_of, vals_in, value as value_view}
 use Rattle.pruned_proof.specs.View.{rests_of}
 use Rattle.pruned_proof.specs.Walks.{Due, DueItems, Moves, held_in}
-use Rattle.pruned_proof.specs.Wanted.{cut_at, cut_edge_for, cut_for}
+use Rattle.pruned_proof.specs.Wanted.{Rests, below, cut_at, cut_edge_for, cut_for}
+use Rattle.spelling.specs.Slices.{nothing}
+use Rattle.nat_solver.specs.declared.compare.Op.TheVariants.{Eq}
+use Rattle.std.proofs.lemmas.List.{nil_from_length}
+use Rattle.pruned_proof.proofs.Branched.{branch_at, branch_kept, branch_opened, branch_wanted, edge_fills, moves_as, moves_on}
+use Rattle.pruned_proof.proofs.Turned.{bound_as, op_checked, op_condition, op_field, op_no_field, op_solved, op_unsolved}
 use Rattle.pruned_proof.proofs.Filling.{type_fills, record_fills, filled_cell, edge_filled, edge_cell}
 use Rattle.pruned_proof.proofs.Led.{still, gives_as, one_put, none_left, led, led_at, led_fields, is_held, led_hidden, led_kept}
 use Rattle.pruned_proof.proofs.Led.{led_raw, led_opened}
@@ -293,3 +298,265 @@ cut_inner-returns t c = λ d outs after is l.
     let copied = ap (λ z. scope_of z c.args.types.now) (sym c.in_ok-inner.ensures) in
     gives_as _ _ c.cut_fields.result (λ x m. (m.1, m.2))
     (c.cut_fields.ensures due.end after (c.args.cell.now.made.items ++ cut_for k d) (subst (D _) copied at))
+
+-- ---- dictionaries
+
+pub cut_branch-returns-then-is_whole : goal.cut_branch-returns-then-is_whole
+cut_branch-returns-then-is_whole t c = λ q e n x after less long is at.
+    let S = cores (schema_view c.args.plan.now.0) in
+    let ty = type_view c.args.inner.now in
+    let k = below q (rests_of c.args.wanted.now) in
+    let here = rests_of c.in_ok-wanted.wanted in
+    let child = c.in_ok-child.child.now in
+    let b = branch_at S n ty q e c.args.key.now x child c.args.cell.now.left c.next.new.self.left after at
+    c.in_ok-child.ensures.ok in
+    let same = branch_wanted q c.args.key.now c.slice.result at.rest c.in-Some.prefix c.in-Some.field-0-1 c.args.end
+    (rests_of c.args.wanted.now) here c.take.result at.begins long c.in-Some.is c.take.ensures c.slice.ensures
+    c.in_ok-wanted.ensures in
+    one_put c.args.cell.now c.next.new.self c.keep.new.self child c.keep.result after
+    (cut_at k x (cut_edge_for k q e) ∷ []) c.next.ensures.made c.keep.ensures.ok c.keep.ensures.left c.keep.ensures.err b.rest
+    (branch_kept S n ty q e x child c.next.new.self.left after k here b same (sym c.if-is_whole.ensures))
+
+pub cut_branch-returns-in_err-cut_edge : goal.cut_branch-returns-in_err-cut_edge
+cut_branch-returns-in_err-cut_edge t c = λ q e n x after less long is at.
+    let p = err_from_is_err_and c.from_residual-in_err-cut_edge.result c.from_residual-in_err-cut_edge.ensures.1 in
+    let S = cores (schema_view c.args.plan.now.0) in
+    let ty = type_view c.args.inner.now in
+    let k = below q (rests_of c.args.wanted.now) in
+    let here = rests_of c.in_ok-wanted.wanted in
+    let child = c.in_ok-child.child.now in
+    let b = branch_at S n ty q e c.args.key.now x child c.args.cell.now.left c.next.new.self.left after at
+    c.in_ok-child.ensures.ok in
+    let same = branch_wanted q c.args.key.now c.slice.result at.rest c.in-Some.prefix c.in-Some.field-0-1 c.args.end
+    (rests_of c.args.wanted.now) here c.take.result at.begins long c.in-Some.is c.take.ensures c.slice.ensures
+    c.in_ok-wanted.ensures in
+    let lies = edge_fills S e n ty child c.of-edge.result.left b.clean b.cell c.of-edge.ensures.left in
+    still _ c.from_residual-in_err-cut_edge.result c.in_err-cut_edge.field-0.0 (p.1 ∙ ap Err p.2)
+    (c.in_err-cut_edge.ensures q e n [] nothing less is lies)
+
+pub cut_branch-returns-in_err-finish : goal.cut_branch-returns-in_err-finish
+cut_branch-returns-in_err-finish t c = λ q e n x after less long is at.
+    let p = err_from_is_err_and c.from_residual-in_err-finish.result c.from_residual-in_err-finish.ensures.1 in
+    let S = cores (schema_view c.args.plan.now.0) in
+    let ty = type_view c.args.inner.now in
+    let k = below q (rests_of c.args.wanted.now) in
+    let here = rests_of c.in_ok-wanted.wanted in
+    let child = c.in_ok-child.child.now in
+    let b = branch_at S n ty q e c.args.key.now x child c.args.cell.now.left c.next.new.self.left after at
+    c.in_ok-child.ensures.ok in
+    let same = branch_wanted q c.args.key.now c.slice.result at.rest c.in-Some.prefix c.in-Some.field-0-1 c.args.end
+    (rests_of c.args.wanted.now) here c.take.result at.begins long c.in-Some.is c.take.ensures c.slice.ensures
+    c.in_ok-wanted.ensures in
+    let lies = edge_fills S e n ty child c.of-edge.result.left b.clean b.cell c.of-edge.ensures.left in
+    let m = c.in_ok-cut_edge.ensures q e n [] nothing less is lies in
+    let cell = edge_cell e child here q (edge_filled S n ty e child b.cell) b.clean in
+    let are = m.1 ∙ ap (λ (z : List Tree). z ++ cut_edge_for here q e) c.of-edge.ensures.made in
+    still _ c.from_residual-in_err-finish.result c.in_err-finish.field-0.0 (p.1 ∙ ap Err p.2)
+    (finished (Err c.in_err-finish.field-0.0) child c.cut_edge.new.cell.left c.cut_edge.new.cell.made.items
+    (cut_edge_for here q e) c.in_err-finish.ensures.ok c.in_err-finish.ensures.unread m.0 are cell)
+
+pub cut_branch-returns : goal.cut_branch-returns
+cut_branch-returns t c = λ q e n x after less long is at.
+    let S = cores (schema_view c.args.plan.now.0) in
+    let ty = type_view c.args.inner.now in
+    let k = below q (rests_of c.args.wanted.now) in
+    let here = rests_of c.in_ok-wanted.wanted in
+    let child = c.in_ok-child.child.now in
+    let b = branch_at S n ty q e c.args.key.now x child c.args.cell.now.left c.next.new.self.left after at
+    c.in_ok-child.ensures.ok in
+    let same = branch_wanted q c.args.key.now c.slice.result at.rest c.in-Some.prefix c.in-Some.field-0-1 c.args.end
+    (rests_of c.args.wanted.now) here c.take.result at.begins long c.in-Some.is c.take.ensures c.slice.ensures
+    c.in_ok-wanted.ensures in
+    let lies = edge_fills S e n ty child c.of-edge.result.left b.clean b.cell c.of-edge.ensures.left in
+    let m = c.in_ok-cut_edge.ensures q e n [] nothing less is lies in
+    let cell = edge_cell e child here q (edge_filled S n ty e child b.cell) b.clean in
+    let are = m.1 ∙ ap (λ (z : List Tree). z ++ cut_edge_for here q e) c.of-edge.ensures.made in
+    let whole = finished (Ok c.in_ok-finish.field-0) child c.cut_edge.new.cell.left c.cut_edge.new.cell.made.items
+    (cut_edge_for here q e) c.in_ok-finish.ensures.ok c.in_ok-finish.ensures.unread m.0 are cell in
+    one_put c.args.cell.now c.next.new.self c.put.new.self c.in_ok-finish.field-0 c.put.result after
+    (cut_at k x (cut_edge_for k q e) ∷ []) c.next.ensures.made c.put.ensures.ok c.put.ensures.left c.put.ensures.err b.rest
+    (branch_opened S n ty q e x child c.next.new.self.left after k here b same (sym c.if-is_nothing.ensures)
+    ∙ ap (λ (z : Tree). z ∷ []) (sym whole))
+
+-- ---- fields
+
+pub cut_field-cut_inner-requires : goal.cut_field-cut_inner-requires
+cut_field-cut_inner-requires t c = (
+  omega (arith, c.decreases),
+  here_within c.flat.result.now c.args.plan.now.1 c.args.ty c.in-Ok-Here.first c.in-Ok-Here.count c.in-Ok-Here.field-0
+      c.flat.ensures.lists c.requires.there c.in-Ok-Here.ensures.sound c.in-Ok-Here.field-0-is,
+)
+
+pub cut_field-cut_under-requires : goal.cut_field-cut_under-requires
+cut_field-cut_under-requires t c = (
+  omega (arith, c.decreases),
+  under_within c.flat.result.now c.args.plan.now.1 c.args.ty c.in-Ok-Under.first c.in-Ok-Under.count c.in-Ok-Under.field-0
+      c.flat.ensures.lists c.requires.there c.in-Ok-Under.ensures.sound c.in-Ok-Under.field-0-is,
+)
+
+pub cut_field-returns-in-Ok-LeftOut : goal.cut_field-returns-in-Ok-LeftOut
+cut_field-returns-in-Ok-LeftOut t c = λ d outs after is l.
+    let S = cores (schema_view c.args.plan.now.0) in
+    let p = c.args.plan.now.1 in
+    let scope = scope_of c.args.env.now c.args.types.now in
+    let shape = shaped c.flat.result.now p c.args.condition c.args.ty scope c.in-Ok-LeftOut.field-0 LeftOut c.flat.ensures.lists
+    c.in-Ok-LeftOut.ensures.shapes c.in-Ok-LeftOut.field-0-is in
+    let inner = at_shape S d (goals.at_field (governed p c.args.condition) (type_at p c.args.ty) scope) goals.left_out
+    c.args.cell.now.left outs after shape l in
+    let x = left_is S d (rests_of c.args.wanted.now) c.args.cell.now outs after inner in
+    (sym x.none, x.moves)
+
+pub cut_field-returns-in_err-cut_inner-in-Ok-Here : goal.cut_field-returns-in_err-cut_inner-in-Ok-Here
+cut_field-returns-in_err-cut_inner-in-Ok-Here t c = λ d outs after is l.
+    let r = err_from_is_err_and c.from_residual.result c.from_residual.ensures.1 in
+    let S = cores (schema_view c.args.plan.now.0) in
+    let p = c.args.plan.now.1 in
+    let scope = scope_of c.args.env.now c.args.types.now in
+    let items = record_at p c.in-Ok-Here.first c.in-Ok-Here.count in
+    let shape = shaped c.flat.result.now p c.args.condition c.args.ty scope c.in-Ok-Here.field-0 (Here c.in-Ok-Here.first c.in-Ok-Here.count) c.flat.ensures.lists
+    c.in-Ok-Here.ensures.shapes c.in-Ok-Here.field-0-is in
+    let inner = at_shape S d (goals.at_field (governed p c.args.condition) (type_at p c.args.ty) scope) (goals.fields_here items scope)
+    c.args.cell.now.left outs after shape l in
+    still _ c.from_residual.result c.in_err-cut_inner-in-Ok-Here.field-0.0 (r.1 ∙ ap Err r.2)
+    (c.in_err-cut_inner-in-Ok-Here.ensures d outs after is inner)
+
+pub cut_field-returns-in_ok-cut_inner-in-Ok-Here : goal.cut_field-returns-in_ok-cut_inner-in-Ok-Here
+cut_field-returns-in_ok-cut_inner-in-Ok-Here t c = λ d outs after is l.
+    let S = cores (schema_view c.args.plan.now.0) in
+    let p = c.args.plan.now.1 in
+    let scope = scope_of c.args.env.now c.args.types.now in
+    let items = record_at p c.in-Ok-Here.first c.in-Ok-Here.count in
+    let shape = shaped c.flat.result.now p c.args.condition c.args.ty scope c.in-Ok-Here.field-0 (Here c.in-Ok-Here.first c.in-Ok-Here.count) c.flat.ensures.lists
+    c.in-Ok-Here.ensures.shapes c.in-Ok-Here.field-0-is in
+    let inner = at_shape S d (goals.at_field (governed p c.args.condition) (type_at p c.args.ty) scope) (goals.fields_here items scope)
+    c.args.cell.now.left outs after shape l in
+    (sym (here_outs S d items scope c.args.cell.now.left outs after inner),
+    c.in_ok-cut_inner-in-Ok-Here.ensures d outs after is inner)
+
+pub cut_field-returns-in_err-cut_under-in-Ok-Under : goal.cut_field-returns-in_err-cut_under-in-Ok-Under
+cut_field-returns-in_err-cut_under-in-Ok-Under t c = λ d outs after is l.
+    let r = err_from_is_err_and c.from_residual-in_err-cut_under-in-Ok-Under.result c.from_residual-in_err-cut_under-in-Ok-Under.ensures.1 in
+    let S = cores (schema_view c.args.plan.now.0) in
+    let p = c.args.plan.now.1 in
+    let scope = scope_of c.args.env.now c.args.types.now in
+    let items = record_at p c.in-Ok-Under.first c.in-Ok-Under.count in
+    let shape = shaped c.flat.result.now p c.args.condition c.args.ty scope c.in-Ok-Under.field-0 (Under c.in-Ok-Under.first c.in-Ok-Under.count) c.flat.ensures.lists
+    c.in-Ok-Under.ensures.shapes c.in-Ok-Under.field-0-is in
+    let inner = at_shape S d (goals.at_field (governed p c.args.condition) (type_at p c.args.ty) scope) (goals.fields_under items scope)
+    c.args.cell.now.left outs after shape l in
+    still _ c.from_residual-in_err-cut_under-in-Ok-Under.result c.in_err-cut_under-in-Ok-Under.field-0.0 (r.1 ∙ ap Err r.2)
+    (c.in_err-cut_under-in-Ok-Under.ensures d outs after is inner)
+
+pub cut_field-returns-in_ok-cut_under-in-Ok-Under : goal.cut_field-returns-in_ok-cut_under-in-Ok-Under
+cut_field-returns-in_ok-cut_under-in-Ok-Under t c = λ d outs after is l.
+    let S = cores (schema_view c.args.plan.now.0) in
+    let p = c.args.plan.now.1 in
+    let scope = scope_of c.args.env.now c.args.types.now in
+    let items = record_at p c.in-Ok-Under.first c.in-Ok-Under.count in
+    let shape = shaped c.flat.result.now p c.args.condition c.args.ty scope c.in-Ok-Under.field-0 (Under c.in-Ok-Under.first c.in-Ok-Under.count) c.flat.ensures.lists
+    c.in-Ok-Under.ensures.shapes c.in-Ok-Under.field-0-is in
+    let inner = at_shape S d (goals.at_field (governed p c.args.condition) (type_at p c.args.ty) scope) (goals.fields_under items scope)
+    c.args.cell.now.left outs after shape l in
+    (sym (under_outs S d items scope c.args.cell.now.left outs after inner),
+    c.in_ok-cut_under-in-Ok-Under.ensures d outs after is inner)
+
+pub cut_fields-returns-in_err-next : goal.cut_fields-returns-in_err-next
+cut_fields-returns-in_err-next t c = λ end after all x.
+    let r = err_from_is_err_and c.from_residual.result c.from_residual.ensures.1 in
+    let S = cores (schema_view c.args.plan.now.0) in
+    let p = c.args.plan.now.1 in
+    let k = rests_of c.args.wanted.now in
+    let at = c.loop-op in
+    let scope = scope_of at.env c.args.types.now in
+    let D : List PlanOp → Type 0 = λ z. Due S k c.args.levels end after all
+    (items_in p (type_at p) (governed p at.condition) z) scope (map pair_of at.due) at.cell in
+    let due = at.invariant.due end after all x in
+    still _ c.from_residual.result c.in_err-next.field-0.0 (r.1 ∙ ap Err r.2)
+    (c.in_err-next.ensures.gives (drop (at.op-index + 1) c.args.ops.now) end after all
+    (subst D (op_next c.args.ops.now (Check 0 Eq 0 0) at.op-index c.loop-op-test.true) due))
+
+pub cut_fields-returns : goal.cut_fields-returns
+cut_fields-returns t c = λ end after all x.
+    let S = cores (schema_view c.args.plan.now.0) in
+    let p = c.args.plan.now.1 in
+    let k = rests_of c.args.wanted.now in
+    let at = c.loop-op in
+    let scope = scope_of at.env c.args.types.now in
+    let D : List PlanOp → Type 0 = λ z. Due S k c.args.levels end after all
+    (items_in p (type_at p) (governed p at.condition) z) scope (map pair_of at.due) at.cell in
+    let due = at.invariant.due end after all x in
+    let none = subst D (ops_end c.args.ops.now at.op-index c.loop-op-test.false) due in
+    let m = none_due S k c.args.levels end after all scope (map pair_of at.due) at.cell none in
+    (m.scope_is, (m.left, m.made))
+
+pub cut_op-returns-in-Ok-clause-gives : goal.cut_op-returns-in-Ok-clause-gives
+cut_op-returns-in-Ok-clause-gives t c = λ ops end after all x.
+    let S = cores (schema_view c.args.plan.now.0) in
+    let p = c.args.plan.now.1 in
+    let k = rests_of c.args.wanted.now in
+    let g = governed p c.args.condition in
+    let fields = map pair_of c.args.fields.now in
+    let it = c.in-Solve in
+    op_solved S k c.args.levels end after all p g c.args.op ops fields c.args.cell.now c.flat-flat.result.now
+    (length p.types) it.slot it.left it.right it.field-3 c.in-Ok.number c.args.env.now c.set.new.env c.args.types.now it.is
+    c.flat-flat.ensures.lists c.requires.sound c.in-Ok.ensures c.set.ensures x
+
+pub cut_op-returns-in-Err-clause-gives : goal.cut_op-returns-in-Err-clause-gives
+cut_op-returns-in-Err-clause-gives t c = λ ops end after all x.
+    let S = cores (schema_view c.args.plan.now.0) in
+    let p = c.args.plan.now.1 in
+    let k = rests_of c.args.wanted.now in
+    let g = governed p c.args.condition in
+    let fields = map pair_of c.args.fields.now in
+    let it = c.in-Solve in
+    absurd (op_unsolved S k c.args.levels end after all p g c.args.op ops fields c.args.cell.now c.flat-flat.result.now
+    (length p.types) it.slot it.left it.right it.field-3 c.in-Err.field-0 c.args.env.now c.args.types.now it.is
+    c.flat-flat.ensures.lists c.requires.sound c.in-Err.ensures x)
+
+pub cut_op-returns-in_default-clause-gives : goal.cut_op-returns-in_default-clause-gives
+cut_op-returns-in_default-clause-gives t c = λ ops end after all x.
+    let S = cores (schema_view c.args.plan.now.0) in
+    let p = c.args.plan.now.1 in
+    let k = rests_of c.args.wanted.now in
+    let g = governed p c.args.condition in
+    let fields = map pair_of c.args.fields.now in
+    let it = c.in-Field in
+    let scope = scope_of c.args.env.now c.args.types.now in
+    absurd (op_no_field S k c.args.levels end after all p g c.args.op ops fields c.args.cell.now it.field-0 it.ty it.slot scope
+    it.is (ap (map pair_of) (nil_from_length c.args.fields.now c.in_default.ensures.cases)) x)
+
+pub cut_op-returns-in_err-outputs-in-Field-clause-gives : goal.cut_op-returns-in_err-outputs-in-Field-clause-gives
+cut_op-returns-in_err-outputs-in-Field-clause-gives t c = λ ops end after all x.
+    let w = c.from_residual-in_err-outputs-in-Field in
+    let r = err_from_is_err_and w.result w.ensures.1 in
+    let S = cores (schema_view c.args.plan.now.0) in
+    let p = c.args.plan.now.1 in
+    let k = rests_of c.args.wanted.now in
+    let g = governed p c.args.condition in
+    let fields = map pair_of c.args.fields.now in
+    let it = c.in-Field in
+    let scope = scope_of c.args.env.now c.args.types.now in
+    let y = op_field S k c.args.levels end after all p g c.args.op ops fields c.args.cell.now it.field-0 it.ty it.slot scope
+    c.in-Some.name.now (value_view c.in-Some.value.now) (map pair_of c.in-Some.due.now) it.is
+    (ap (map pair_of) c.in-Some.ensures.cases.0) x in
+    still _ w.result c.in_err-outputs-in-Field.field-0.0 (r.1 ∙ ap Err r.2)
+    (c.in_err-outputs-in-Field.ensures y.first y.outs y.middle y.is_first y.lies)
+
+pub cut_op-returns-in_ok-outputs-in-Field-clause-gives : goal.cut_op-returns-in_ok-outputs-in-Field-clause-gives
+cut_op-returns-in_ok-outputs-in-Field-clause-gives t c = λ ops end after all x.
+    let S = cores (schema_view c.args.plan.now.0) in
+    let p = c.args.plan.now.1 in
+    let k = rests_of c.args.wanted.now in
+    let g = governed p c.args.condition in
+    let fields = map pair_of c.args.fields.now in
+    let it = c.in-Field in
+    let scope = scope_of c.args.env.now c.args.types.now in
+    let y = op_field S k c.args.levels end after all p g c.args.op ops fields c.args.cell.now it.field-0 it.ty it.slot scope
+    c.in-Some.name.now (value_view c.in-Some.value.now) (map pair_of c.in-Some.due.now) it.is
+    (ap (map pair_of) c.in-Some.ensures.cases.0) x in
+    let m = c.in_ok-outputs-in-Field.ensures y.first y.outs y.middle y.is_first y.lies in
+    let here = ap (λ (z : Rests). cut_for z y.first) c.in_ok-here.ensures in
+    y.then (scope_of c.bind_outputs.new.env c.args.types.now) c.cut_field.new.cell
+    (bound_as c.flat-flat.result.now p it.ty it.slot _ y.outs scope _ c.flat-flat.ensures.lists m.0
+    (c.bind_outputs.ensures c.args.types.now))
+    (moves_as _ _ y.middle.refs c.args.cell.now c.cut_field.new.cell here m.1)
