@@ -13,3 +13,4 @@ mod Rooted
 mod Shaped
 mod Turned
 mod Turning
+mod Typed
