@@ -16,10 +16,11 @@ use Rattle.pruning.specs.SpellsLaid.{EdgeCell, SpellsEdge, SpellsLaid}
 use Rattle.pruning_laws.specs.CleanLaws.{AllClean, IsClean}
 use Rattle.typed_value.specs.Paths.{keyed}
 use Rattle.typed_value.specs.declared.value.Value.{Value}
-use Rattle.pruned_proof.specs.Walks.{IsBranch, Lies, Moves}
+use Rattle.pruned_proof.specs.Walks.{HasBit, IsBranch, IsEdge, Lies, Moves}
 use Rattle.pruned_proof.specs.Wanted.{Rests, below, cut_at, cut_edge_for, cut_for, is_nothing, is_whole, onward}
 use Rattle.pruned_proof.specs.declared.cutting.Cutting.{Cutting}
-use Rattle.pruned_proof.proofs.Edges.{Begins, Forked, keys_in, seam}
+use Rattle.typed_value.specs.View.{pair_of, pairs_of}
+use Rattle.pruned_proof.proofs.Edges.{Begins, Forked, IsFork, IsLeaf, fork_of, keys_in, leaf_alone, seam, turns}
 use Rattle.pruned_proof.proofs.Filling.{edge_filled, in_cell}
 use Rattle.pruned_proof.proofs.Led.{first_same, rest_same}
 use Rattle.pruned_proof.proofs.Pruned.{edge_whole, kept_at, opened_at}
@@ -143,8 +144,10 @@ last_begins q l a b xs [] most x y f is at = absurd (cc)
 last_begins q l a b xs (w ∷ ys) most x y f is at =
     let some = f.some_one in
     let long = ap length is in
+    let less : length ys ≡ length (w ∷ ys) - 1 = omega arith in
+    let here : slice_get (w ∷ ys) (length ys) ≡ Some y = ap (slice_get (w ∷ ys)) less ∙ at in
     let there : slice_get (keys_in xs) (suc (length ys)) ≡ Some y.0 =
-    ap (λ (z : List (List ℕ × Value)). slice_get (keys_in z) (suc (length ys))) is ∙ get-key (w ∷ ys) (length ys) y at in
+    ap (λ (z : List (List ℕ × Value)). slice_get (keys_in z) (suc (length ys))) is ∙ get-key (w ∷ ys) (length ys) y here in
     f.begin_one (suc (length ys)) y.0 (omega (arith, some, long)) there
 
 -- where they part
@@ -248,3 +251,56 @@ branch_opened schema n t q e c child mid after k here b same some =
     ap (λ (z : Rests). cut_at z c (cut_edge_for z q e) ∷ []) (sym same)
     ∙ ap (λ (z : Tree). cut_at here z (cut_edge_for here q e) ∷ []) b.same
     ∙ ap (λ (z : Tree). z ∷ []) (opened_at here child (cut_edge_for here q e) some)
+
+-- ---- pairs that are looked at
+
+pub none_last : (xs : List (List ℕ × Value)) → None ≡ slice_get xs (length xs - 1) → xs ≡ []
+none_last [] none = refl
+none_last (x ∷ xs) none =
+    let less : length xs ≡ length (x ∷ xs) - 1 = omega arith in
+    absurd (never x xs (length xs) (omega arith) (none ∙ ap (slice_get (x ∷ xs)) (sym less)))
+  where
+    never : (x : List ℕ × Value) (xs : List (List ℕ × Value)) (i : ℕ) → i < length (x ∷ xs) → None ≡ slice_get (x ∷ xs) i → ⊥
+    never x xs zero lt none = absurd (cc)
+    never x [] (suc i) lt none = absurd (omega (arith, lt))
+    never x (y ∷ ys) (suc i) lt none = never y ys i (omega (arith, lt)) none
+
+-- the pairs of a fork are more than one
+pub fork_seen : (q : List ℕ) (e : LaidEdge) (x y : List ℕ × Value) (xs others : List (List ℕ × Value)) (most i : ℕ)
+    → IsEdge q e (pairs_of (map pair_of xs)) most → xs ≡ x ∷ others → slice_get others i ≡ Some y → IsFork q e xs most
+fork_seen q e x y xs [] most i is same at = absurd (cc)
+fork_seen q e x y xs (w ∷ ws) most i is same at =
+    let P : List (List ℕ × Value) → Type 0 = λ z. IsEdge q e (pairs_of (map pair_of z)) most in
+    let Q : List (List ℕ × Value) → Type 0 = λ z. IsFork q e z most in
+    subst Q (sym same) (fork_of q e x w ws most (subst P same is))
+
+pub leaf_seen : (q : List ℕ) (e : LaidEdge) (x : List ℕ × Value) (xs others : List (List ℕ × Value)) (most : ℕ)
+    → IsEdge q e (pairs_of (map pair_of xs)) most → xs ≡ x ∷ others → others ≡ [] → IsLeaf q e x most
+leaf_seen q e x xs others most is same none =
+    let P : List (List ℕ × Value) → Type 0 = λ z. IsEdge q e (pairs_of (map pair_of z)) most in
+    leaf_alone q e x most (subst P (same ∙ ap (λ (z : List (List ℕ × Value)). x ∷ z) none) is)
+
+-- where the pairs of a fork turn
+pub turned_at : (q l : List ℕ) (a b : LaidEdge) (xs : List (List ℕ × Value)) (most place n : ℕ) (f : Forked q l a b xs most)
+    → place ≡ length (q ++ l)
+    → ((k : ℕ) → k ≤ length xs → ((i : ℕ) → i < k → HasBit place 0 i (keys_in xs))
+    → ((i : ℕ) → k ≤ i → i < length xs → HasBit place 1 i (keys_in xs)) → n ≡ k)
+    → n ≡ f.count
+turned_at q l a b xs most place n f same turn =
+    let x = turns q l a b xs most f in
+    let P : ℕ → ℕ → Type 0 = λ bit i. HasBit place bit i (keys_in xs) in
+    let Z : ℕ → Type 0 = λ z. (i : ℕ) → i < f.count → HasBit z 0 i (keys_in xs) in
+    let O : ℕ → Type 0 = λ z. (i : ℕ) → f.count ≤ i → i < length xs → HasBit z 1 i (keys_in xs) in
+    turn f.count x.within (subst Z (sym same) x.zeros) (subst O (sym same) x.ones)
+
+pub zeros_at : (q l : List ℕ) (a b : LaidEdge) (xs zeros : List (List ℕ × Value)) (most n : ℕ) (f : Forked q l a b xs most)
+    → n ≡ f.count → zeros ≡ take n xs → IsEdge (q ++ (l ++ 0 ∷ [])) a (pairs_of (map pair_of zeros)) most
+zeros_at q l a b xs zeros most n f same are =
+    let P : List (List ℕ × Value) → Type 0 = λ z. IsEdge (q ++ (l ++ 0 ∷ [])) a (pairs_of (map pair_of z)) most in
+    subst P (sym (are ∙ ap (λ (z : ℕ). take z xs) same)) f.zeros
+
+pub ones_at : (q l : List ℕ) (a b : LaidEdge) (xs ones : List (List ℕ × Value)) (most n : ℕ) (f : Forked q l a b xs most)
+    → n ≡ f.count → ones ≡ drop n xs → IsEdge (q ++ (l ++ 1 ∷ [])) b (pairs_of (map pair_of ones)) most
+ones_at q l a b xs ones most n f same are =
+    let P : List (List ℕ × Value) → Type 0 = λ z. IsEdge (q ++ (l ++ 1 ∷ [])) b (pairs_of (map pair_of z)) most in
+    subst P (sym (are ∙ ap (λ (z : ℕ). drop z xs) same)) f.ones

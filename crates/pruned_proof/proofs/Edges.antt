@@ -53,9 +53,11 @@ get-left (x ∷ xs) ys zero lt = refl
 get-left (x ∷ xs) ys (suc i) lt = get-left xs ys i (omega (arith, lt))
 
 get-right : (xs ys : List (List ℕ)) (i : ℕ) → length xs ≤ i → slice_get (xs ++ ys) i ≡ slice_get ys (i - length xs)
-get-right [] ys i le = refl
+get-right [] ys i le = let all : i ≡ i - 0 = omega arith in ap (slice_get ys) all
 get-right (x ∷ xs) ys zero le = absurd (omega (arith, le))
-get-right (x ∷ xs) ys (suc i) le = get-right xs ys i (omega (arith, le))
+get-right (x ∷ xs) ys (suc i) le =
+    let less : i - length xs ≡ suc i - suc (length xs) = omega arith in
+    get-right xs ys i (omega (arith, le)) ∙ ap (slice_get ys) less
 
 -- an edge has a pair
 edge-some : (e : LaidEdge) → 0 < length (keys_of (plain_pairs e))

@@ -26,7 +26,24 @@ use Rattle.pruned_proof.specs.Wanted.{Rests, below, cut_at, cut_edge_for, cut_fo
 use Rattle.spelling.specs.Slices.{nothing}
 use Rattle.nat_solver.specs.declared.compare.Op.TheVariants.{Eq}
 use Rattle.std.proofs.lemmas.List.{nil_from_length}
-use Rattle.pruned_proof.proofs.Branched.{branch_at, branch_kept, branch_opened, branch_wanted, edge_fills, moves_as, moves_on}
+use Rattle.std.proofs.Common.{IsSome, is_some}
+use Rattle.std.proofs.lemmas.Option.{none-some, same_Some}
+use Rattle.core_form.specs.Core.{Declaration}
+use Rattle.core_form.specs.Fit.{fit as fit_of}
+use Rattle.core_form.specs.Scope.{values_in}
+use Rattle.field_plan.specs.Planned.{Planned}
+use Rattle.flat_form.specs.Stands.{range}
+use Rattle.plan_reading.specs.Slots.{slots_view}
+use Rattle.typed_value.specs.View.{record_parts, slice_of}
+use Rattle.typed_value.specs.declared.value.Value.{Value}
+use Rattle.pruned_proof.proofs.Chosen.{entry_ops, entry_outputs, entry_range, entry_sound, fit_binds, fits_some, found_named}
+use Rattle.pruned_proof.proofs.Chosen.{outputs_are, outputs_plain, planned_there, shown_by}
+use Rattle.pruned_proof.proofs.Edges.{no_edge}
+use Rattle.pruned_proof.proofs.Typed.{bits_give, dict_lies, empty_map, list_due, map_lies, number_gives, ref_outs, rest_gives}
+use Rattle.pruned_proof.proofs.Typed.{some_map, type_lies}
+use Rattle.pruned_proof.proofs.Branched.{first_begins, fork_lies, fork_moves, fork_seen, last_begins, leaf_lies, leaf_made}
+use Rattle.pruned_proof.proofs.Branched.{leaf_seen, none_last, one_branch, one_more, ones_at, parts_at, turned_at, zero_branch}
+use Rattle.pruned_proof.proofs.Branched.{branch_at, branch_kept, branch_opened, branch_wanted, edge_fills, moves_as, zeros_at}
 use Rattle.pruned_proof.proofs.Turned.{bound_as, op_checked, op_condition, op_field, op_no_field, op_solved, op_unsolved}
 use Rattle.pruned_proof.proofs.Filling.{type_fills, record_fills, filled_cell, edge_filled, edge_cell}
 use Rattle.pruned_proof.proofs.Led.{still, gives_as, one_put, none_left, led, led_at, led_fields, is_held, led_hidden, led_kept}
@@ -469,7 +486,7 @@ cut_fields-returns-in_err-next t c = λ end after all x.
     let at = c.loop-op in
     let scope = scope_of at.env c.args.types.now in
     let D : List PlanOp → Type 0 = λ z. Due S k c.args.levels end after all
-    (items_in p (type_at p) (governed p at.condition) z) scope (map pair_of at.due) at.cell in
+    (items_in p (type_at p) (governed p at.condition) z) scope (map pair_of at.due.now) at.cell in
     let due = at.invariant.due end after all x in
     still _ c.from_residual.result c.in_err-next.field-0.0 (r.1 ∙ ap Err r.2)
     (c.in_err-next.ensures.gives (drop (at.op-index + 1) c.args.ops.now) end after all
@@ -483,10 +500,10 @@ cut_fields-returns t c = λ end after all x.
     let at = c.loop-op in
     let scope = scope_of at.env c.args.types.now in
     let D : List PlanOp → Type 0 = λ z. Due S k c.args.levels end after all
-    (items_in p (type_at p) (governed p at.condition) z) scope (map pair_of at.due) at.cell in
+    (items_in p (type_at p) (governed p at.condition) z) scope (map pair_of at.due.now) at.cell in
     let due = at.invariant.due end after all x in
     let none = subst D (ops_end c.args.ops.now at.op-index c.loop-op-test.false) due in
-    let m = none_due S k c.args.levels end after all scope (map pair_of at.due) at.cell none in
+    let m = none_due S k c.args.levels end after all scope (map pair_of at.due.now) at.cell none in
     (m.scope_is, (m.left, m.made))
 
 pub cut_op-returns-in-Ok-clause-gives : goal.cut_op-returns-in-Ok-clause-gives
@@ -537,7 +554,7 @@ cut_op-returns-in_err-outputs-in-Field-clause-gives t c = λ ops end after all x
     let it = c.in-Field in
     let scope = scope_of c.args.env.now c.args.types.now in
     let y = op_field S k c.args.levels end after all p g c.args.op ops fields c.args.cell.now it.field-0 it.ty it.slot scope
-    c.in-Some.name.now (value_view c.in-Some.value.now) (map pair_of c.in-Some.due.now) it.is
+    c.in-Some.name (value_view c.in-Some.value) (map pair_of c.in-Some.due.now) it.is
     (ap (map pair_of) c.in-Some.ensures.cases.0) x in
     still _ w.result c.in_err-outputs-in-Field.field-0.0 (r.1 ∙ ap Err r.2)
     (c.in_err-outputs-in-Field.ensures y.first y.outs y.middle y.is_first y.lies)
@@ -552,7 +569,7 @@ cut_op-returns-in_ok-outputs-in-Field-clause-gives t c = λ ops end after all x.
     let it = c.in-Field in
     let scope = scope_of c.args.env.now c.args.types.now in
     let y = op_field S k c.args.levels end after all p g c.args.op ops fields c.args.cell.now it.field-0 it.ty it.slot scope
-    c.in-Some.name.now (value_view c.in-Some.value.now) (map pair_of c.in-Some.due.now) it.is
+    c.in-Some.name (value_view c.in-Some.value) (map pair_of c.in-Some.due.now) it.is
     (ap (map pair_of) c.in-Some.ensures.cases.0) x in
     let m = c.in_ok-outputs-in-Field.ensures y.first y.outs y.middle y.is_first y.lies in
     let here = ap (λ (z : Rests). cut_for z y.first) c.in_ok-here.ensures in
@@ -560,3 +577,381 @@ cut_op-returns-in_ok-outputs-in-Field-clause-gives t c = λ ops end after all x.
     (bound_as c.flat-flat.result.now p it.ty it.slot _ y.outs scope _ c.flat-flat.ensures.lists m.0
     (c.bind_outputs.ensures c.args.types.now))
     (moves_as _ _ y.middle.refs c.args.cell.now c.cut_field.new.cell here m.1)
+
+-- ---- a declared type
+
+pub cut_declared-entry-entry-requires : goal.cut_declared-entry-entry-requires
+cut_declared-entry-entry-requires t c =
+    let s = schema_view c.args.plan.now.0 in
+    let f = c.flat-flat.result.now in
+    let plans = c.args.plan.now.2 in
+    let n = c.in-Some-named.c in
+    let below = planned_there s f plans n c.flat-flat.ensures.planned c.in-Some-named.ensures.there in
+    below
+
+pub cut_declared-inputs-requires : goal.cut_declared-inputs-requires
+cut_declared-inputs-requires t c =
+    let s = schema_view c.args.plan.now.0 in
+    let f = c.flat-flat.result.now in
+    let plans = c.args.plan.now.2 in
+    let n = c.in-Some-named.c in
+    let below = planned_there s f plans n c.flat-flat.ensures.planned c.in-Some-named.ensures.there in
+    below
+
+pub cut_declared-outputs-requires : goal.cut_declared-outputs-requires
+cut_declared-outputs-requires t c =
+    let s = schema_view c.args.plan.now.0 in
+    let f = c.flat-flat.result.now in
+    let plans = c.args.plan.now.2 in
+    let n = c.in-Some-named.c in
+    let below = planned_there s f plans n c.flat-flat.ensures.planned c.in-Some-named.ensures.there in
+    below
+
+pub cut_declared-values-requires : goal.cut_declared-values-requires
+cut_declared-values-requires t c =
+    let s = schema_view c.args.plan.now.0 in
+    let f = c.flat-flat.result.now in
+    let plans = c.args.plan.now.2 in
+    let n = c.in-Some-named.c in
+    let below = planned_there s f plans n c.flat-flat.ensures.planned c.in-Some-named.ensures.there in
+    outputs_plain s f plans n c.flat-flat.ensures.planned below c.outputs.result.now c.outputs.ensures
+
+pub cut_declared-operations-ops-requires : goal.cut_declared-operations-ops-requires
+cut_declared-operations-ops-requires t c =
+    let s = schema_view c.args.plan.now.0 in
+    let f = c.flat-flat.result.now in
+    let plans = c.args.plan.now.2 in
+    let n = c.in-Some-named.c in
+    let below = planned_there s f plans n c.flat-flat.ensures.planned c.in-Some-named.ensures.there in
+    entry_range s f plans n c.flat-flat.ensures.planned below c.entry-entry.result c.entry-entry.ensures
+
+pub cut_declared-cut_fields-requires : goal.cut_declared-cut_fields-requires
+cut_declared-cut_fields-requires t c =
+    let s = schema_view c.args.plan.now.0 in
+    let f = c.flat-flat.result.now in
+    let plans = c.args.plan.now.2 in
+    let n = c.in-Some-named.c in
+    let below = planned_there s f plans n c.flat-flat.ensures.planned c.in-Some-named.ensures.there in
+    let sound = entry_sound s f plans n c.flat-flat.ensures.planned below c.entry-entry.result c.entry-entry.ensures in
+    let T : List PlanOp → Type 0 = λ z. OpsAreSound f (length f.types) z in
+    let P : Flat → Type 0 = λ z. OpsAreSound z (length z.types) c.operations-ops.result.now in
+    (omega (arith, c.decreases), subst P c.flat-flat.ensures.lists (subst T (sym c.operations-ops.ensures) sound))
+
+pub cut_declared-returns-in_default : goal.cut_declared-returns-in_default
+cut_declared-returns-in_default t c = λ d outs after is l.
+    let s = schema_view c.args.plan.now.0 in
+    let S = cores s in
+    let p = c.args.plan.now.1 in
+    let plans = c.args.plan.now.2 in
+    let k = rests_of c.args.wanted.now in
+    let name = (record_parts c.args.record.now).0 in
+    let fields = (record_parts c.args.record.now).1 in
+    let args = closed_args c.args.args.now in
+    let x = shown_by S k c.args.levels c.args.name.now args name fields c.args.cell.now outs after d is l in
+    none-some x.shown (sym c.in_default.is ∙ x.called)
+
+pub cut_declared-returns-in_default-named : goal.cut_declared-returns-in_default-named
+cut_declared-returns-in_default-named t c = λ d outs after is l.
+    let s = schema_view c.args.plan.now.0 in
+    let S = cores s in
+    let p = c.args.plan.now.1 in
+    let plans = c.args.plan.now.2 in
+    let k = rests_of c.args.wanted.now in
+    let name = (record_parts c.args.record.now).0 in
+    let fields = (record_parts c.args.record.now).1 in
+    let args = closed_args c.args.args.now in
+    let x = shown_by S k c.args.levels c.args.name.now args name fields c.args.cell.now outs after d is l in
+    none-some x.at (c.in_default-named.ensures.only x.at x.declaration x.there
+    (found_named S k c.args.levels c.args.name.now args name fields c.args.cell.now outs after d x c.in-Some.shown c.in-Some.is))
+
+pub cut_declared-returns-in_default-2 : goal.cut_declared-returns-in_default-2
+cut_declared-returns-in_default-2 t c = λ d outs after is l.
+    let s = schema_view c.args.plan.now.0 in
+    let S = cores s in
+    let p = c.args.plan.now.1 in
+    let plans = c.args.plan.now.2 in
+    let k = rests_of c.args.wanted.now in
+    let name = (record_parts c.args.record.now).0 in
+    let fields = (record_parts c.args.record.now).1 in
+    let args = closed_args c.args.args.now in
+    let x = shown_by S k c.args.levels c.args.name.now args name fields c.args.cell.now outs after d is l in
+    let P : Flat → Type 0 = λ z. Planned s z plans in
+    let planned = subst P c.flat-flat.ensures.lists c.flat-flat.ensures.planned in
+    let n = c.in-Some-named.c in
+    let below = planned_there s p plans n planned c.in-Some-named.ensures.there in
+    let same = same_Some n x.at (c.in-Some-named.ensures.only x.at x.declaration x.there
+    (found_named S k c.args.levels c.args.name.now args name fields c.args.cell.now outs after d x c.in-Some.shown c.in-Some.is)) in
+    let there = ap (slice_get S) same ∙ x.there in
+    let I : Option Scope → Type 0 = IsSome in
+    fits_some s p plans n planned below c.entry-entry.result c.entry-entry.ensures c.inputs.result.now args c.inputs.ensures
+    (λ e at. let one = same_Some x.declaration e (sym there ∙ at) in
+    ap (λ (z : Declaration). is_some (fit_of z.core args)) (sym one) ∙ ap is_some x.fits)
+    (sym (ap (option_map slots_view) c.in_default-2.is) ∙ c.in_ok-slots.ensures)
+
+pub cut_declared-returns-in_err-cut_fields : goal.cut_declared-returns-in_err-cut_fields
+cut_declared-returns-in_err-cut_fields t c = λ d outs after is l.
+    let w = c.from_residual-in_err-cut_fields in
+    let r = err_from_is_err_and w.result w.ensures.1 in
+    let s = schema_view c.args.plan.now.0 in
+    let S = cores s in
+    let p = c.args.plan.now.1 in
+    let plans = c.args.plan.now.2 in
+    let k = rests_of c.args.wanted.now in
+    let name = (record_parts c.args.record.now).0 in
+    let fields = (record_parts c.args.record.now).1 in
+    let args = closed_args c.args.args.now in
+    let x = shown_by S k c.args.levels c.args.name.now args name fields c.args.cell.now outs after d is l in
+    let P : Flat → Type 0 = λ z. Planned s z plans in
+    let planned = subst P c.flat-flat.ensures.lists c.flat-flat.ensures.planned in
+    let n = c.in-Some-named.c in
+    let below = planned_there s p plans n planned c.in-Some-named.ensures.there in
+    let same = same_Some n x.at (c.in-Some-named.ensures.only x.at x.declaration x.there
+    (found_named S k c.args.levels c.args.name.now args name fields c.args.cell.now outs after d x c.in-Some.shown c.in-Some.is)) in
+    let there = ap (slice_get S) same ∙ x.there in
+    let e = c.entry-entry.result in
+    let ops_are = c.operations-ops.ensures ∙ ap (λ (z : Flat). range z.ops e.first e.count) c.flat-flat.ensures.lists in
+    let items = entry_ops s p plans n planned below e c.entry-entry.ensures x.declaration there c.operations-ops.result.now
+    ops_are in
+    let slots = c.in-Some-2.slots in
+    let bound = ap (scope_of slots.numbers) c.as_slice-types.ensures.value
+    ∙ fit_binds s p plans n planned below e c.entry-entry.ensures x.declaration there c.inputs.result.now args
+    c.inputs.ensures (slots_view slots) x.scope (sym (ap (option_map slots_view) c.in-Some-2.is) ∙ c.in_ok-slots.ensures)
+    x.fits in
+    let all = c.args.cell.now.made.items ++ cut_for k d in
+    let D : Items → Scope → Type 0 = λ y z. Due S k c.args.levels x.end after all y z fields c.args.cell.now in
+    let due = subst (λ z. D z (scope_of slots.numbers c.as_slice-types.result.now)) (sym items) (subst (D _) (sym bound) x.due) in
+    still _ w.result c.in_err-cut_fields.field-0.0 (r.1 ∙ ap Err r.2) (c.in_err-cut_fields.ensures x.end after all due)
+
+pub cut_declared-returns-in-None : goal.cut_declared-returns-in-None
+cut_declared-returns-in-None t c = λ d outs after is l.
+    let s = schema_view c.args.plan.now.0 in
+    let S = cores s in
+    let p = c.args.plan.now.1 in
+    let plans = c.args.plan.now.2 in
+    let k = rests_of c.args.wanted.now in
+    let name = (record_parts c.args.record.now).0 in
+    let fields = (record_parts c.args.record.now).1 in
+    let args = closed_args c.args.args.now in
+    let x = shown_by S k c.args.levels c.args.name.now args name fields c.args.cell.now outs after d is l in
+    let P : Flat → Type 0 = λ z. Planned s z plans in
+    let planned = subst P c.flat-flat.ensures.lists c.flat-flat.ensures.planned in
+    let n = c.in-Some-named.c in
+    let below = planned_there s p plans n planned c.in-Some-named.ensures.there in
+    let same = same_Some n x.at (c.in-Some-named.ensures.only x.at x.declaration x.there
+    (found_named S k c.args.levels c.args.name.now args name fields c.args.cell.now outs after d x c.in-Some.shown c.in-Some.is)) in
+    let there = ap (slice_get S) same ∙ x.there in
+    let e = c.entry-entry.result in
+    let ops_are = c.operations-ops.ensures ∙ ap (λ (z : Flat). range z.ops e.first e.count) c.flat-flat.ensures.lists in
+    let items = entry_ops s p plans n planned below e c.entry-entry.ensures x.declaration there c.operations-ops.result.now
+    ops_are in
+    let slots = c.in-Some-2.slots in
+    let bound = ap (scope_of slots.numbers) c.as_slice-types.ensures.value
+    ∙ fit_binds s p plans n planned below e c.entry-entry.ensures x.declaration there c.inputs.result.now args
+    c.inputs.ensures (slots_view slots) x.scope (sym (ap (option_map slots_view) c.in-Some-2.is) ∙ c.in_ok-slots.ensures)
+    x.fits in
+    let all = c.args.cell.now.made.items ++ cut_for k d in
+    let D : Items → Scope → Type 0 = λ y z. Due S k c.args.levels x.end after all y z fields c.args.cell.now in
+    let due = subst (λ z. D z (scope_of slots.numbers c.as_slice-types.result.now)) (sym items) (subst (D _) (sym bound) x.due) in
+    let outputs = c.outputs.result.now in
+    let m = c.in_ok-cut_fields.ensures x.end after all due in
+    let O : Flat → Type 0 = λ z. None ≡ values_in (map (expr_at z) outputs)
+    (scope_of c.cut_fields.new.env c.as_slice-types.result.now) in
+    let given = outputs_are (map (expr_at p) outputs) x.declaration.core.outputs
+    (scope_of c.cut_fields.new.env c.as_slice-types.result.now) x.end None outs
+    (entry_outputs s p plans n planned below e c.entry-entry.ensures x.declaration there outputs c.outputs.ensures)
+    (subst O c.flat-flat.ensures.lists (sym c.in-None.is ∙ c.in_ok-values.ensures c.as_slice-types.result.now)) m.0 x.outputs in
+    none-some outs given
+
+pub cut_declared-returns : goal.cut_declared-returns
+cut_declared-returns t c = λ d outs after is l.
+    let s = schema_view c.args.plan.now.0 in
+    let S = cores s in
+    let p = c.args.plan.now.1 in
+    let plans = c.args.plan.now.2 in
+    let k = rests_of c.args.wanted.now in
+    let name = (record_parts c.args.record.now).0 in
+    let fields = (record_parts c.args.record.now).1 in
+    let args = closed_args c.args.args.now in
+    let x = shown_by S k c.args.levels c.args.name.now args name fields c.args.cell.now outs after d is l in
+    let P : Flat → Type 0 = λ z. Planned s z plans in
+    let planned = subst P c.flat-flat.ensures.lists c.flat-flat.ensures.planned in
+    let n = c.in-Some-named.c in
+    let below = planned_there s p plans n planned c.in-Some-named.ensures.there in
+    let same = same_Some n x.at (c.in-Some-named.ensures.only x.at x.declaration x.there
+    (found_named S k c.args.levels c.args.name.now args name fields c.args.cell.now outs after d x c.in-Some.shown c.in-Some.is)) in
+    let there = ap (slice_get S) same ∙ x.there in
+    let e = c.entry-entry.result in
+    let ops_are = c.operations-ops.ensures ∙ ap (λ (z : Flat). range z.ops e.first e.count) c.flat-flat.ensures.lists in
+    let items = entry_ops s p plans n planned below e c.entry-entry.ensures x.declaration there c.operations-ops.result.now
+    ops_are in
+    let slots = c.in-Some-2.slots in
+    let bound = ap (scope_of slots.numbers) c.as_slice-types.ensures.value
+    ∙ fit_binds s p plans n planned below e c.entry-entry.ensures x.declaration there c.inputs.result.now args
+    c.inputs.ensures (slots_view slots) x.scope (sym (ap (option_map slots_view) c.in-Some-2.is) ∙ c.in_ok-slots.ensures)
+    x.fits in
+    let all = c.args.cell.now.made.items ++ cut_for k d in
+    let D : Items → Scope → Type 0 = λ y z. Due S k c.args.levels x.end after all y z fields c.args.cell.now in
+    let due = subst (λ z. D z (scope_of slots.numbers c.as_slice-types.result.now)) (sym items) (subst (D _) (sym bound) x.due) in
+    let outputs = c.outputs.result.now in
+    let m = c.in_ok-cut_fields.ensures x.end after all due in
+    let O : Flat → Type 0 = λ z. Some c.in-Some-3.outputs ≡ values_in (map (expr_at z) outputs)
+    (scope_of c.cut_fields.new.env c.as_slice-types.result.now) in
+    let given = outputs_are (map (expr_at p) outputs) x.declaration.core.outputs
+    (scope_of c.cut_fields.new.env c.as_slice-types.result.now) x.end Some c.in-Some-3.outputs outs
+    (entry_outputs s p plans n planned below e c.entry-entry.ensures x.declaration there outputs c.outputs.ensures)
+    (subst O c.flat-flat.ensures.lists (sym c.in-Some-3.is ∙ c.in_ok-values.ensures c.as_slice-types.result.now)) m.0 x.outputs in
+    (same_Some c.in-Some-3.outputs outs given, (m.1, m.2))
+
+-- ---- edges
+
+pub cut_edge-returns-in_default : goal.cut_edge-returns-in_default
+cut_edge-returns-in_default t c = λ q e n outs after few is l.
+    no_edge q e c.args.pairs.now c.args.levels is (nil_from_length c.args.pairs.now c.in_default.ensures.cases)
+
+pub cut_edge-returns-in_err-cut_value : goal.cut_edge-returns-in_err-cut_value
+cut_edge-returns-in_err-cut_value t c = λ q e n outs after few is l.
+    let w = c.from_residual-in_err-cut_value in
+    let r = err_from_is_err_and w.result w.ensures.1 in
+    let S = cores (schema_view c.args.plan.now.0) in
+    let ty = type_view c.args.inner.now in
+    let k = rests_of c.args.wanted.now in
+    let pairs = c.args.pairs.now in
+    let first : List ℕ × Value = (c.in-Some.first, c.in-Some.value) in
+    let lf = leaf_seen q e first pairs c.in-Some.others.now c.args.levels is c.in-Some.ensures.cases.0
+    (none_last c.in-Some.others.now c.in_default-last.ensures.value) in
+    let ll = leaf_lies S e lf.label lf.laid n ty c.args.cell.now.left outs after lf.is l in
+    still _ w.result c.in_err-cut_value.field-0.0 (r.1 ∙ ap Err r.2)
+    (c.in_err-cut_value.ensures lf.laid ll.outs after lf.holds ll.lies)
+
+pub cut_edge-returns-in_default-last : goal.cut_edge-returns-in_default-last
+cut_edge-returns-in_default-last t c = λ q e n outs after few is l.
+    let S = cores (schema_view c.args.plan.now.0) in
+    let ty = type_view c.args.inner.now in
+    let k = rests_of c.args.wanted.now in
+    let pairs = c.args.pairs.now in
+    let first : List ℕ × Value = (c.in-Some.first, c.in-Some.value) in
+    let lf = leaf_seen q e first pairs c.in-Some.others.now c.args.levels is c.in-Some.ensures.cases.0
+    (none_last c.in-Some.others.now c.in_default-last.ensures.value) in
+    let ll = leaf_lies S e lf.label lf.laid n ty c.args.cell.now.left outs after lf.is l in
+    let m = c.in_ok-cut_value.ensures lf.laid ll.outs after lf.holds ll.lies in
+    moves_as _ (cut_edge_for k q e) after.refs c.args.cell.now c.cut_value.new.cell
+    (leaf_made k (rests_of c.in_ok-wanted.wanted) q lf.label first.0 e lf.laid lf.is lf.key c.in_ok-wanted.ensures) m.1
+
+pub cut_edge-returns-then-left-eq0 : goal.cut_edge-returns-then-left-eq0
+cut_edge-returns-then-left-eq0 t c = λ q e n outs after few is l.
+    let S = cores (schema_view c.args.plan.now.0) in
+    let ty = type_view c.args.inner.now in
+    let k = rests_of c.args.wanted.now in
+    let pairs = c.args.pairs.now in
+    let first : List ℕ × Value = (c.in-Some.first, c.in-Some.value) in
+    let last : List ℕ × Value = (c.in-Some-last.last, c.in-Some-last.field-0-1) in
+    let others = c.in-Some.others.now in
+    let fk = fork_seen q e first last pairs others c.args.levels (length others - 1) is c.in-Some.ensures.cases.0
+    (sym c.in-Some-last.ensures.value) in
+    let fl = fork_lies S e fk.label fk.zero_cell fk.zeros fk.one_cell fk.ones n ty c.args.cell.now.left outs after fk.is l in
+    let long = fl.long in
+    let none = c.if-left-eq0.true in
+    absurd (omega (arith, long, few, none))
+
+pub cut_edge-returns-in_err-cut_branch : goal.cut_edge-returns-in_err-cut_branch
+cut_edge-returns-in_err-cut_branch t c = λ q e n outs after few is l.
+    let w = c.from_residual-in_err-cut_branch in
+    let r = err_from_is_err_and w.result w.ensures.1 in
+    let S = cores (schema_view c.args.plan.now.0) in
+    let ty = type_view c.args.inner.now in
+    let k = rests_of c.args.wanted.now in
+    let pairs = c.args.pairs.now in
+    let first : List ℕ × Value = (c.in-Some.first, c.in-Some.value) in
+    let last : List ℕ × Value = (c.in-Some-last.last, c.in-Some-last.field-0-1) in
+    let others = c.in-Some.others.now in
+    let fk = fork_seen q e first last pairs others c.args.levels (length others - 1) is c.in-Some.ensures.cases.0
+    (sym c.in-Some-last.ensures.value) in
+    let fl = fork_lies S e fk.label fk.zero_cell fk.zeros fk.one_cell fk.ones n ty c.args.cell.now.left outs after fk.is l in
+    let b0 = first_begins q fk.label fk.zeros fk.ones pairs others c.args.levels first fk.forked c.in-Some.ensures.cases.0 in
+    let b1 = last_begins q fk.label fk.zeros fk.ones pairs others c.args.levels first last fk.forked
+    c.in-Some.ensures.cases.0 (sym c.in-Some-last.ensures.value) in
+    let place = parts_at q fk.label first.0 last.0 c.common.result b0 b1 c.common.ensures.is in
+    let turned = turned_at q fk.label fk.zeros fk.ones pairs c.args.levels c.common.result c.turn.result fk.forked place
+    c.turn.ensures.turns in
+    let less : fl.less ≤ c.args.left - 1 = (let long = fl.long in omega (arith, long, few)) in
+    let x0 = q ++ (fk.label ++ 0 ∷ []) in
+    let x1 = q ++ (fk.label ++ 1 ∷ []) in
+    let one = zero_branch S q fk.label fk.zero_cell fk.zeros fk.one_cell fk.ones n ty first.0 c.args.cell.now.left after.refs
+    fl b0 in
+    let here = c.in_err-cut_branch.ensures x0 fk.zeros fl.less fk.zero_cell (fk.one_cell ∷ after.refs) less
+    (one_more q fk.label 0 c.common.result place)
+    (zeros_at q fk.label fk.zeros fk.ones pairs c.split_at.result.0.now c.args.levels c.turn.result fk.forked turned
+    c.split_at.ensures.front) one in
+    still _ w.result c.in_err-cut_branch.field-0.0 (r.1 ∙ ap Err r.2) here
+
+pub cut_edge-returns : goal.cut_edge-returns
+cut_edge-returns t c = λ q e n outs after few is l.
+    let S = cores (schema_view c.args.plan.now.0) in
+    let ty = type_view c.args.inner.now in
+    let k = rests_of c.args.wanted.now in
+    let pairs = c.args.pairs.now in
+    let first : List ℕ × Value = (c.in-Some.first, c.in-Some.value) in
+    let last : List ℕ × Value = (c.in-Some-last.last, c.in-Some-last.field-0-1) in
+    let others = c.in-Some.others.now in
+    let fk = fork_seen q e first last pairs others c.args.levels (length others - 1) is c.in-Some.ensures.cases.0
+    (sym c.in-Some-last.ensures.value) in
+    let fl = fork_lies S e fk.label fk.zero_cell fk.zeros fk.one_cell fk.ones n ty c.args.cell.now.left outs after fk.is l in
+    let b0 = first_begins q fk.label fk.zeros fk.ones pairs others c.args.levels first fk.forked c.in-Some.ensures.cases.0 in
+    let b1 = last_begins q fk.label fk.zeros fk.ones pairs others c.args.levels first last fk.forked
+    c.in-Some.ensures.cases.0 (sym c.in-Some-last.ensures.value) in
+    let place = parts_at q fk.label first.0 last.0 c.common.result b0 b1 c.common.ensures.is in
+    let turned = turned_at q fk.label fk.zeros fk.ones pairs c.args.levels c.common.result c.turn.result fk.forked place
+    c.turn.ensures.turns in
+    let less : fl.less ≤ c.args.left - 1 = (let long = fl.long in omega (arith, long, few)) in
+    let x0 = q ++ (fk.label ++ 0 ∷ []) in
+    let x1 = q ++ (fk.label ++ 1 ∷ []) in
+    let one = zero_branch S q fk.label fk.zero_cell fk.zeros fk.one_cell fk.ones n ty first.0 c.args.cell.now.left after.refs
+    fl b0 in
+    let here = c.in_ok-cut_branch.ensures x0 fk.zeros fl.less fk.zero_cell (fk.one_cell ∷ after.refs) less
+    (one_more q fk.label 0 c.common.result place)
+    (zeros_at q fk.label fk.zeros fk.ones pairs c.split_at.result.0.now c.args.levels c.turn.result fk.forked turned
+    c.split_at.ensures.front) one in
+    let two = one_branch S q fk.label fk.zero_cell fk.zeros fk.one_cell fk.ones n ty last.0 c.args.cell.now.left
+    c.cut_branch.new.cell.left after.refs fl here.0 b1 in
+    let there = c.cut_branch-2.ensures x1 fk.ones fl.less fk.one_cell after.refs less
+    (one_more q fk.label 1 c.common.result place)
+    (ones_at q fk.label fk.zeros fk.ones pairs c.split_at.result.1.now c.args.levels c.turn.result fk.forked turned
+    c.split_at.ensures.back) two in
+    gives_as _ _ c.cut_branch-2.result
+    (λ z m. fork_moves k q e fk.label fk.zero_cell fk.zeros fk.one_cell fk.ones (fk.one_cell ∷ after.refs) after.refs
+    c.args.cell.now c.cut_branch.new.cell c.cut_branch-2.new.cell fk.is here m) there
+
+pub cut_root_edge-returns-in_default : goal.cut_root_edge-returns-in_default
+cut_root_edge-returns-in_default t c = λ d n outs after few is l.
+    empty_map (cores (schema_view c.args.plan.now.0)) (rests_of c.args.wanted.now) c.args.levels n
+    (type_view c.args.inner.now) c.args.cell.now outs after c.args.pairs.now d c.in_default.ensures.empty is l
+
+pub cut_root_edge-returns : goal.cut_root_edge-returns
+cut_root_edge-returns t c = λ d n outs after few is l.
+    let k = rests_of c.args.wanted.now in
+    let x = some_map (cores (schema_view c.args.plan.now.0)) c.args.levels n (type_view c.args.inner.now)
+    c.args.cell.now.left outs after c.in-Some.key (c.in-Some.key, c.in-Some.field-0-1) c.args.pairs.now _ d
+    c.in-Some.ensures.item is l in
+    gives_as _ _ c.cut_branch.result
+    (λ z m. moves_as _ (cut_for k d) after.refs c.args.cell.now c.cut_branch.new.cell (x.made k) m)
+    (c.cut_branch.ensures [] x.edge n x.cell after.refs few refl x.is_edge x.branch)
+
+-- ---- values
+
+pub cut_value-returns-in_default-Number : goal.cut_value-returns-in_default-Number
+cut_value-returns-in_default-Number t c = λ d outs after is l.
+    let S = cores (schema_view c.args.plan.now.0) in
+    let number = c.in_default-Number.number in
+    number_gives S (type_view c.args.ty.now) (rests_of c.args.wanted.now) c.args.levels c.args.cell.now outs after d
+    number.negative number.size c.own_output.result is l c.own_output.ensures
+
+pub cut_value-returns-in_default-Bits : goal.cut_value-returns-in_default-Bits
+cut_value-returns-in_default-Bits t c = λ d outs after is l.
+    bits_give (cores (schema_view c.args.plan.now.0)) (type_view c.args.ty.now) (rests_of c.args.wanted.now) c.args.levels
+    c.args.cell.now outs after d c.in_default-Bits.field-0 is l
+
+pub cut_value-returns-in_ok-keep_all-in_default-Rest : goal.cut_value-returns-in_ok-keep_all-in_default-Rest
+cut_value-returns-in_ok-keep_all-in_default-Rest t c = λ d outs after is l.
+    rest_gives (cores (schema_view c.args.plan.now.0)) (type_view c.args.ty.now) (rests_of c.args.wanted.now) c.args.levels
+    c.args.cell.now c.keep_all.new.self outs after d (slice_of c.in_default-Rest.field-0) is l
+    c.in_ok-keep_all-in_default-Rest.ensures.ok.0 c.in_ok-keep_all-in_default-Rest.ensures.ok.1
