@@ -304,3 +304,11 @@ pub ones_at : (q l : List ℕ) (a b : LaidEdge) (xs ones : List (List ℕ × Val
 ones_at q l a b xs ones most n f same are =
     let P : List (List ℕ × Value) → Type 0 = λ z. IsEdge (q ++ (l ++ 1 ∷ [])) b (pairs_of (map pair_of z)) most in
     subst P (sym (are ∙ ap (λ (z : ℕ). drop z xs) same)) f.ones
+
+pub no_first : (xs : List (List ℕ × Value)) → None ≡ slice_get xs 0 → xs ≡ []
+no_first [] none = refl
+no_first (x ∷ xs) none = absurd (cc)
+
+pub one_first : (xs : List (List ℕ × Value)) (x : List ℕ × Value) → slice_get xs 0 ≡ Some x → xs ≡ x ∷ drop 1 xs
+one_first [] x at = absurd (cc)
+one_first (y ∷ xs) x at = ap (λ (z : List ℕ × Value). z ∷ xs) (same_Some y x at)

@@ -6,10 +6,12 @@ mod Edges
 mod Fielded
 mod Filling
 mod Led
+mod Naming
 mod Numbers
 mod Pruned
 mod Recorded
 mod Rooted
+mod Seen
 mod Shaped
 mod Turned
 mod Turning

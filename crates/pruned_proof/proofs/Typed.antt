@@ -89,34 +89,34 @@ module _ (schema : CoreSchema) (t : Closed) (k : Rests) (n : ℕ) (cell : Cuttin
       let same = number_size negative sign size m is.value in
       gives_as (λ z. outputs_of z ≡ outs) _ r (λ z e. (e, stays cell after.refs (sym x.lies.refs ∙ y.refs)))
       (own negative outs x.lies.before after x.wide (subst P same s))
- number_gives (bit_string bits) sign m r is l own = let e = is.value in absurd (cc)
- number_gives (record_of name names ds) sign m r is l own = let e = is.value in absurd (cc)
+  number_gives (bit_string bits) sign m r is l own = let e = is.value in absurd (cc)
+  number_gives (record_of name names ds) sign m r is l own = let e = is.value in absurd (cc)
   number_gives absent sign m r is l own = let e = is.value in absurd (cc)
- number_gives (list_of ds) sign m r is l own = let e = is.value in absurd (cc)
- number_gives (ref_to c d) sign m r is l own = let e = is.value in absurd (cc)
- number_gives (ref_to_raw c) sign m r is l own = let e = is.value in absurd (cc)
+  number_gives (list_of ds) sign m r is l own = let e = is.value in absurd (cc)
+  number_gives (ref_to c d) sign m r is l own = let e = is.value in absurd (cc)
+  number_gives (ref_to_raw c) sign m r is l own = let e = is.value in absurd (cc)
   number_gives no_map sign m r is l own = let e = is.value in absurd (cc)
- number_gives (map_under c e) sign m r is l own = let e = is.value in absurd (cc)
- number_gives (map_here e) sign m r is l own = let e = is.value in absurd (cc)
- number_gives (rest s) sign m r is l own = let e = is.value in absurd (cc)
+  number_gives (map_under c e) sign m r is l own = let e = is.value in absurd (cc)
+  number_gives (map_here e) sign m r is l own = let e = is.value in absurd (cc)
+  number_gives (rest s) sign m r is l own = let e = is.value in absurd (cc)
 
   pub bits_give : (d : Laid) (bits : List ℕ) → Is d (values.bit_string bits) n
       → Lies (SpellsLaid schema d (at_type t)) cell.left outs after
       → ([] ≡ outs) × Moves (cut_for k d) after.refs cell cell
- bits_give (number negative size) bs is l = let e = is.value in absurd (cc)
+  bits_give (number negative size) bs is l = let e = is.value in absurd (cc)
   bits_give (bit_string bits) bs is l =
       let x = type_lies schema (bit_string bits) t cell.left outs after l in
       let y = takes schema (bit_string bits) (typed t) x.lies.before outs after x.lies.spelled in
       (string_outs bits (row t) x.lies.before outs after x.lies.spelled, stays cell after.refs (sym x.lies.refs ∙ y.refs))
- bits_give (record_of name names ds) bs is l = let e = is.value in absurd (cc)
+  bits_give (record_of name names ds) bs is l = let e = is.value in absurd (cc)
   bits_give absent bs is l = let e = is.value in absurd (cc)
- bits_give (list_of ds) bs is l = let e = is.value in absurd (cc)
- bits_give (ref_to c d) bs is l = let e = is.value in absurd (cc)
- bits_give (ref_to_raw c) bs is l = let e = is.value in absurd (cc)
+  bits_give (list_of ds) bs is l = let e = is.value in absurd (cc)
+  bits_give (ref_to c d) bs is l = let e = is.value in absurd (cc)
+  bits_give (ref_to_raw c) bs is l = let e = is.value in absurd (cc)
   bits_give no_map bs is l = let e = is.value in absurd (cc)
- bits_give (map_under c e) bs is l = let e = is.value in absurd (cc)
- bits_give (map_here e) bs is l = let e = is.value in absurd (cc)
- bits_give (rest s) bs is l = let e = is.value in absurd (cc)
+  bits_give (map_under c e) bs is l = let e = is.value in absurd (cc)
+  bits_give (map_here e) bs is l = let e = is.value in absurd (cc)
+  bits_give (rest s) bs is l = let e = is.value in absurd (cc)
 
 rest_whole : (s : values.Slice) (t : Closed) (before : Slice) (outs : List ℕ) (after : Slice)
     → SpellsRest s (typed t) before outs after → ([] ≡ outs) × (s ≡ kept before) × (after ≡ nothing)
@@ -132,7 +132,7 @@ rest_whole s (closed.ref t) before outs after x = absurd x
 rest_whole s (closed.repeat n t) before outs after x = absurd x
 rest_whole s (closed.dict n t) before outs after x = absurd x
 rest_whole s (closed.dict_e n t) before outs after x = absurd x
-rest_whole s (closed.named x args) before outs after x = absurd x
+rest_whole s (closed.named name args) before outs after x = absurd x
 
 pub rest_gives : (schema : CoreSchema) (t : Closed) (k : Rests) (n : ℕ) (old new : Cutting) (outs : List ℕ) (after : Slice)
     (d : Laid) (part : values.Slice) → Is d (values.rest part) n → Lies (SpellsLaid schema d (at_type t)) old.left outs after

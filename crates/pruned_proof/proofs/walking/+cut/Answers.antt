@@ -38,7 +38,11 @@ use Rattle.typed_value.specs.View.{record_parts, slice_of}
 use Rattle.typed_value.specs.declared.value.Value.{Value}
 use Rattle.pruned_proof.proofs.Chosen.{entry_ops, entry_outputs, entry_range, entry_sound, fit_binds, fits_some, found_named}
 use Rattle.pruned_proof.proofs.Chosen.{outputs_are, outputs_plain, planned_there, shown_by}
+use Rattle.typed_value.specs.Values.{Plain}
+use Rattle.std.proofs.lemmas.List.{drop_all}
 use Rattle.pruned_proof.proofs.Edges.{no_edge}
+use Rattle.pruned_proof.proofs.Seen.{is_bits, is_list, is_map, is_number, is_record, is_ref, is_rest, item_next}
+use Rattle.pruned_proof.proofs.Branched.{no_first, one_first}
 use Rattle.pruned_proof.proofs.Typed.{bits_give, dict_lies, empty_map, list_due, map_lies, number_gives, ref_outs, rest_gives}
 use Rattle.pruned_proof.proofs.Typed.{some_map, type_lies}
 use Rattle.pruned_proof.proofs.Branched.{first_begins, fork_lies, fork_moves, fork_seen, last_begins, leaf_lies, leaf_made}
@@ -504,7 +508,7 @@ cut_fields-returns t c = λ end after all x.
     let due = at.invariant.due end after all x in
     let none = subst D (ops_end c.args.ops.now at.op-index c.loop-op-test.false) due in
     let m = none_due S k c.args.levels end after all scope (map pair_of at.due.now) at.cell none in
-    (m.scope_is, (m.left, m.made))
+    (m.scope_is, m.left, m.made)
 
 pub cut_op-returns-in-Ok-clause-gives : goal.cut_op-returns-in-Ok-clause-gives
 cut_op-returns-in-Ok-clause-gives t c = λ ops end after all x.
@@ -554,7 +558,7 @@ cut_op-returns-in_err-outputs-in-Field-clause-gives t c = λ ops end after all x
     let it = c.in-Field in
     let scope = scope_of c.args.env.now c.args.types.now in
     let y = op_field S k c.args.levels end after all p g c.args.op ops fields c.args.cell.now it.field-0 it.ty it.slot scope
-    c.in-Some.name (value_view c.in-Some.value) (map pair_of c.in-Some.due.now) it.is
+    c.in-Some.field-0-0.now.0 (value_view c.in-Some.field-0-0.now.1) (map pair_of c.in-Some.due.now) it.is
     (ap (map pair_of) c.in-Some.ensures.cases.0) x in
     still _ w.result c.in_err-outputs-in-Field.field-0.0 (r.1 ∙ ap Err r.2)
     (c.in_err-outputs-in-Field.ensures y.first y.outs y.middle y.is_first y.lies)
@@ -569,7 +573,7 @@ cut_op-returns-in_ok-outputs-in-Field-clause-gives t c = λ ops end after all x.
     let it = c.in-Field in
     let scope = scope_of c.args.env.now c.args.types.now in
     let y = op_field S k c.args.levels end after all p g c.args.op ops fields c.args.cell.now it.field-0 it.ty it.slot scope
-    c.in-Some.name (value_view c.in-Some.value) (map pair_of c.in-Some.due.now) it.is
+    c.in-Some.field-0-0.now.0 (value_view c.in-Some.field-0-0.now.1) (map pair_of c.in-Some.due.now) it.is
     (ap (map pair_of) c.in-Some.ensures.cases.0) x in
     let m = c.in_ok-outputs-in-Field.ensures y.first y.outs y.middle y.is_first y.lies in
     let here = ap (λ (z : Rests). cut_for z y.first) c.in_ok-here.ensures in
@@ -644,10 +648,11 @@ cut_declared-returns-in_default t c = λ d outs after is l.
     let p = c.args.plan.now.1 in
     let plans = c.args.plan.now.2 in
     let k = rests_of c.args.wanted.now in
-    let name = (record_parts c.args.record.now).0 in
-    let fields = (record_parts c.args.record.now).1 in
+    let name = c.args.record.now.name in
+    let fields = map pair_of c.args.record.now.fields in
+    let same_is = is_record d c.args.record.now (c.args.levels + 1) is in
     let args = closed_args c.args.args.now in
-    let x = shown_by S k c.args.levels c.args.name.now args name fields c.args.cell.now outs after d is l in
+    let x = shown_by S k c.args.levels c.args.name.now args name fields c.args.cell.now outs after d same_is l in
     none-some x.shown (sym c.in_default.is ∙ x.called)
 
 pub cut_declared-returns-in_default-named : goal.cut_declared-returns-in_default-named
@@ -657,10 +662,11 @@ cut_declared-returns-in_default-named t c = λ d outs after is l.
     let p = c.args.plan.now.1 in
     let plans = c.args.plan.now.2 in
     let k = rests_of c.args.wanted.now in
-    let name = (record_parts c.args.record.now).0 in
-    let fields = (record_parts c.args.record.now).1 in
+    let name = c.args.record.now.name in
+    let fields = map pair_of c.args.record.now.fields in
+    let same_is = is_record d c.args.record.now (c.args.levels + 1) is in
     let args = closed_args c.args.args.now in
-    let x = shown_by S k c.args.levels c.args.name.now args name fields c.args.cell.now outs after d is l in
+    let x = shown_by S k c.args.levels c.args.name.now args name fields c.args.cell.now outs after d same_is l in
     none-some x.at (c.in_default-named.ensures.only x.at x.declaration x.there
     (found_named S k c.args.levels c.args.name.now args name fields c.args.cell.now outs after d x c.in-Some.shown c.in-Some.is))
 
@@ -671,10 +677,11 @@ cut_declared-returns-in_default-2 t c = λ d outs after is l.
     let p = c.args.plan.now.1 in
     let plans = c.args.plan.now.2 in
     let k = rests_of c.args.wanted.now in
-    let name = (record_parts c.args.record.now).0 in
-    let fields = (record_parts c.args.record.now).1 in
+    let name = c.args.record.now.name in
+    let fields = map pair_of c.args.record.now.fields in
+    let same_is = is_record d c.args.record.now (c.args.levels + 1) is in
     let args = closed_args c.args.args.now in
-    let x = shown_by S k c.args.levels c.args.name.now args name fields c.args.cell.now outs after d is l in
+    let x = shown_by S k c.args.levels c.args.name.now args name fields c.args.cell.now outs after d same_is l in
     let P : Flat → Type 0 = λ z. Planned s z plans in
     let planned = subst P c.flat-flat.ensures.lists c.flat-flat.ensures.planned in
     let n = c.in-Some-named.c in
@@ -682,7 +689,6 @@ cut_declared-returns-in_default-2 t c = λ d outs after is l.
     let same = same_Some n x.at (c.in-Some-named.ensures.only x.at x.declaration x.there
     (found_named S k c.args.levels c.args.name.now args name fields c.args.cell.now outs after d x c.in-Some.shown c.in-Some.is)) in
     let there = ap (slice_get S) same ∙ x.there in
-    let I : Option Scope → Type 0 = IsSome in
     fits_some s p plans n planned below c.entry-entry.result c.entry-entry.ensures c.inputs.result.now args c.inputs.ensures
     (λ e at. let one = same_Some x.declaration e (sym there ∙ at) in
     ap (λ (z : Declaration). is_some (fit_of z.core args)) (sym one) ∙ ap is_some x.fits)
@@ -697,10 +703,11 @@ cut_declared-returns-in_err-cut_fields t c = λ d outs after is l.
     let p = c.args.plan.now.1 in
     let plans = c.args.plan.now.2 in
     let k = rests_of c.args.wanted.now in
-    let name = (record_parts c.args.record.now).0 in
-    let fields = (record_parts c.args.record.now).1 in
+    let name = c.args.record.now.name in
+    let fields = map pair_of c.args.record.now.fields in
+    let same_is = is_record d c.args.record.now (c.args.levels + 1) is in
     let args = closed_args c.args.args.now in
-    let x = shown_by S k c.args.levels c.args.name.now args name fields c.args.cell.now outs after d is l in
+    let x = shown_by S k c.args.levels c.args.name.now args name fields c.args.cell.now outs after d same_is l in
     let P : Flat → Type 0 = λ z. Planned s z plans in
     let planned = subst P c.flat-flat.ensures.lists c.flat-flat.ensures.planned in
     let n = c.in-Some-named.c in
@@ -729,10 +736,11 @@ cut_declared-returns-in-None t c = λ d outs after is l.
     let p = c.args.plan.now.1 in
     let plans = c.args.plan.now.2 in
     let k = rests_of c.args.wanted.now in
-    let name = (record_parts c.args.record.now).0 in
-    let fields = (record_parts c.args.record.now).1 in
+    let name = c.args.record.now.name in
+    let fields = map pair_of c.args.record.now.fields in
+    let same_is = is_record d c.args.record.now (c.args.levels + 1) is in
     let args = closed_args c.args.args.now in
-    let x = shown_by S k c.args.levels c.args.name.now args name fields c.args.cell.now outs after d is l in
+    let x = shown_by S k c.args.levels c.args.name.now args name fields c.args.cell.now outs after d same_is l in
     let P : Flat → Type 0 = λ z. Planned s z plans in
     let planned = subst P c.flat-flat.ensures.lists c.flat-flat.ensures.planned in
     let n = c.in-Some-named.c in
@@ -769,10 +777,11 @@ cut_declared-returns t c = λ d outs after is l.
     let p = c.args.plan.now.1 in
     let plans = c.args.plan.now.2 in
     let k = rests_of c.args.wanted.now in
-    let name = (record_parts c.args.record.now).0 in
-    let fields = (record_parts c.args.record.now).1 in
+    let name = c.args.record.now.name in
+    let fields = map pair_of c.args.record.now.fields in
+    let same_is = is_record d c.args.record.now (c.args.levels + 1) is in
     let args = closed_args c.args.args.now in
-    let x = shown_by S k c.args.levels c.args.name.now args name fields c.args.cell.now outs after d is l in
+    let x = shown_by S k c.args.levels c.args.name.now args name fields c.args.cell.now outs after d same_is l in
     let P : Flat → Type 0 = λ z. Planned s z plans in
     let planned = subst P c.flat-flat.ensures.lists c.flat-flat.ensures.planned in
     let n = c.in-Some-named.c in
@@ -816,7 +825,7 @@ cut_edge-returns-in_err-cut_value t c = λ q e n outs after few is l.
     let ty = type_view c.args.inner.now in
     let k = rests_of c.args.wanted.now in
     let pairs = c.args.pairs.now in
-    let first : List ℕ × Value = (c.in-Some.first, c.in-Some.value) in
+    let first = c.in-Some.field-0-0.now in
     let lf = leaf_seen q e first pairs c.in-Some.others.now c.args.levels is c.in-Some.ensures.cases.0
     (none_last c.in-Some.others.now c.in_default-last.ensures.value) in
     let ll = leaf_lies S e lf.label lf.laid n ty c.args.cell.now.left outs after lf.is l in
@@ -829,7 +838,7 @@ cut_edge-returns-in_default-last t c = λ q e n outs after few is l.
     let ty = type_view c.args.inner.now in
     let k = rests_of c.args.wanted.now in
     let pairs = c.args.pairs.now in
-    let first : List ℕ × Value = (c.in-Some.first, c.in-Some.value) in
+    let first = c.in-Some.field-0-0.now in
     let lf = leaf_seen q e first pairs c.in-Some.others.now c.args.levels is c.in-Some.ensures.cases.0
     (none_last c.in-Some.others.now c.in_default-last.ensures.value) in
     let ll = leaf_lies S e lf.label lf.laid n ty c.args.cell.now.left outs after lf.is l in
@@ -843,8 +852,8 @@ cut_edge-returns-then-left-eq0 t c = λ q e n outs after few is l.
     let ty = type_view c.args.inner.now in
     let k = rests_of c.args.wanted.now in
     let pairs = c.args.pairs.now in
-    let first : List ℕ × Value = (c.in-Some.first, c.in-Some.value) in
-    let last : List ℕ × Value = (c.in-Some-last.last, c.in-Some-last.field-0-1) in
+    let first = c.in-Some.field-0-0.now in
+    let last = c.in-Some-last.field-0.now in
     let others = c.in-Some.others.now in
     let fk = fork_seen q e first last pairs others c.args.levels (length others - 1) is c.in-Some.ensures.cases.0
     (sym c.in-Some-last.ensures.value) in
@@ -861,8 +870,8 @@ cut_edge-returns-in_err-cut_branch t c = λ q e n outs after few is l.
     let ty = type_view c.args.inner.now in
     let k = rests_of c.args.wanted.now in
     let pairs = c.args.pairs.now in
-    let first : List ℕ × Value = (c.in-Some.first, c.in-Some.value) in
-    let last : List ℕ × Value = (c.in-Some-last.last, c.in-Some-last.field-0-1) in
+    let first = c.in-Some.field-0-0.now in
+    let last = c.in-Some-last.field-0.now in
     let others = c.in-Some.others.now in
     let fk = fork_seen q e first last pairs others c.args.levels (length others - 1) is c.in-Some.ensures.cases.0
     (sym c.in-Some-last.ensures.value) in
@@ -890,8 +899,8 @@ cut_edge-returns t c = λ q e n outs after few is l.
     let ty = type_view c.args.inner.now in
     let k = rests_of c.args.wanted.now in
     let pairs = c.args.pairs.now in
-    let first : List ℕ × Value = (c.in-Some.first, c.in-Some.value) in
-    let last : List ℕ × Value = (c.in-Some-last.last, c.in-Some-last.field-0-1) in
+    let first = c.in-Some.field-0-0.now in
+    let last = c.in-Some-last.field-0.now in
     let others = c.in-Some.others.now in
     let fk = fork_seen q e first last pairs others c.args.levels (length others - 1) is c.in-Some.ensures.cases.0
     (sym c.in-Some-last.ensures.value) in
@@ -924,14 +933,14 @@ cut_edge-returns t c = λ q e n outs after few is l.
 pub cut_root_edge-returns-in_default : goal.cut_root_edge-returns-in_default
 cut_root_edge-returns-in_default t c = λ d n outs after few is l.
     empty_map (cores (schema_view c.args.plan.now.0)) (rests_of c.args.wanted.now) c.args.levels n
-    (type_view c.args.inner.now) c.args.cell.now outs after c.args.pairs.now d c.in_default.ensures.empty is l
+    (type_view c.args.inner.now) c.args.cell.now outs after c.args.pairs.now d (no_first c.args.pairs.now c.in_default.ensures.value) is l
 
 pub cut_root_edge-returns : goal.cut_root_edge-returns
 cut_root_edge-returns t c = λ d n outs after few is l.
     let k = rests_of c.args.wanted.now in
     let x = some_map (cores (schema_view c.args.plan.now.0)) c.args.levels n (type_view c.args.inner.now)
-    c.args.cell.now.left outs after c.in-Some.key (c.in-Some.key, c.in-Some.field-0-1) c.args.pairs.now _ d
-    c.in-Some.ensures.item is l in
+    c.args.cell.now.left outs after c.in-Some.key c.in-Some.field-0.now c.args.pairs.now
+    (drop 1 c.args.pairs.now) d (one_first c.args.pairs.now c.in-Some.field-0.now (sym c.in-Some.ensures.value)) is l in
     gives_as _ _ c.cut_branch.result
     (λ z m. moves_as _ (cut_for k d) after.refs c.args.cell.now c.cut_branch.new.cell (x.made k) m)
     (c.cut_branch.ensures [] x.edge n x.cell after.refs few refl x.is_edge x.branch)
@@ -943,15 +952,67 @@ cut_value-returns-in_default-Number t c = λ d outs after is l.
     let S = cores (schema_view c.args.plan.now.0) in
     let number = c.in_default-Number.number in
     number_gives S (type_view c.args.ty.now) (rests_of c.args.wanted.now) c.args.levels c.args.cell.now outs after d
-    number.negative number.size c.own_output.result is l c.own_output.ensures
+    number.negative number.size c.own_output.result
+    (is_number d c.args.value.now c.args.levels number c.in_default-Number.is-1 is) l c.own_output.ensures
 
 pub cut_value-returns-in_default-Bits : goal.cut_value-returns-in_default-Bits
 cut_value-returns-in_default-Bits t c = λ d outs after is l.
     bits_give (cores (schema_view c.args.plan.now.0)) (type_view c.args.ty.now) (rests_of c.args.wanted.now) c.args.levels
-    c.args.cell.now outs after d c.in_default-Bits.field-0 is l
+    c.args.cell.now outs after d c.in_default-Bits.field-0-1
+    (is_bits d c.args.value.now c.args.levels c.in_default-Bits.field-0-1 c.in_default-Bits.is-1 is) l
 
 pub cut_value-returns-in_ok-keep_all-in_default-Rest : goal.cut_value-returns-in_ok-keep_all-in_default-Rest
 cut_value-returns-in_ok-keep_all-in_default-Rest t c = λ d outs after is l.
     rest_gives (cores (schema_view c.args.plan.now.0)) (type_view c.args.ty.now) (rests_of c.args.wanted.now) c.args.levels
-    c.args.cell.now c.keep_all.new.self outs after d (slice_of c.in_default-Rest.field-0) is l
+    c.args.cell.now c.keep_all.new.self outs after d (slice_of c.in_default-Rest.field-0-1)
+    (is_rest d c.args.value.now c.args.levels c.in_default-Rest.field-0-1 c.in_default-Rest.is-1 is) l
     c.in_ok-keep_all-in_default-Rest.ensures.ok.0 c.in_ok-keep_all-in_default-Rest.ensures.ok.1
+
+-- ---- items
+
+pub cut_items-returns-in_err-cut_value : goal.cut_items-returns-in_err-cut_value
+cut_items-returns-in_err-cut_value t c = λ after all x.
+    let w = c.from_residual-in_err-cut_value in
+    let r = err_from_is_err_and w.result w.ensures.1 in
+    let S = cores (schema_view c.args.plan.now.0) in
+    let k = rests_of c.args.wanted.now in
+    let ty = type_view c.args.inner.now in
+    let at = c.loop-item in
+    let items = c.args.items.now in
+    let item = c.item-item.result in
+    let D : List Plain → Type 0 = λ z. DueItems S k c.args.levels ty after all at.place z at.cell in
+    let due = subst D (item_next items at.item-index item c.loop-item-test.true c.item-item.is) (at.invariant after all x) in
+    let y = first_item S k c.args.levels ty after all at.place (value_view item)
+    (map value_view (drop (at.item-index + 1) items)) at.cell due in
+    still _ w.result c.in_err-cut_value.field-0.0 (r.1 ∙ ap Err r.2)
+    (c.in_err-cut_value.ensures y.first y.outs y.middle y.is_first y.lies)
+
+pub cut_items-loop-item-preserved : goal.cut_items-loop-item-preserved
+cut_items-loop-item-preserved t c = λ after all x.
+    let S = cores (schema_view c.args.plan.now.0) in
+    let k = rests_of c.args.wanted.now in
+    let ty = type_view c.args.inner.now in
+    let at = c.loop-item in
+    let items = c.args.items.now in
+    let item = c.item-item.result in
+    let D : List Plain → Type 0 = λ z. DueItems S k c.args.levels ty after all at.place z at.cell in
+    let due = subst D (item_next items at.item-index item c.loop-item-test.true c.item-item.is) (at.invariant after all x) in
+    let y = first_item S k c.args.levels ty after all at.place (value_view item)
+    (map value_view (drop (at.item-index + 1) items)) at.cell due in
+    let m = c.in_ok-cut_value.ensures y.first y.outs y.middle y.is_first y.lies in
+    let here = ap (λ (z : Rests). cut_for z y.first) c.in_ok-here.ensures in
+    let few = y.below in
+    let next = c.saturating_add.ensures in
+    y.then c.saturating_add.result c.cut_value.new.cell (omega (arith, few, next))
+    (moves_as _ _ y.middle.refs at.cell c.cut_value.new.cell here m.1)
+
+pub cut_items-returns : goal.cut_items-returns
+cut_items-returns t c = λ after all x.
+    let S = cores (schema_view c.args.plan.now.0) in
+    let k = rests_of c.args.wanted.now in
+    let ty = type_view c.args.inner.now in
+    let at = c.loop-item in
+    let D : List Plain → Type 0 = λ z. DueItems S k c.args.levels ty after all at.place z at.cell in
+    let none = ap (map value_view) (drop_all at.item-index c.args.items.now c.loop-item-test.false) in
+    let m = no_item S k c.args.levels ty after all at.place at.cell (subst D none (at.invariant after all x)) in
+    (m.left, m.made)
