@@ -576,7 +576,7 @@ cut_op-returns-in_ok-outputs-in-Field-clause-gives t c = λ ops end after all x.
     c.in-Some.field-0-0.now.0 (value_view c.in-Some.field-0-0.now.1) (map pair_of c.in-Some.due.now) it.is
     (ap (map pair_of) c.in-Some.ensures.cases.0) x in
     let m = c.in_ok-outputs-in-Field.ensures y.first y.outs y.middle y.is_first y.lies in
-    let here = ap (λ (z : Rests). cut_for z y.first) c.in_ok-here.ensures in
+    let here = ap (λ (z : Rests). cut_for z y.first) c.in_ok-here-in-Field.ensures in
     y.then (scope_of c.bind_outputs.new.env c.args.types.now) c.cut_field.new.cell
     (bound_as c.flat-flat.result.now p it.ty it.slot _ y.outs scope _ c.flat-flat.ensures.lists m.0
     (c.bind_outputs.ensures c.args.types.now))
@@ -726,7 +726,11 @@ cut_declared-returns-in_err-cut_fields t c = λ d outs after is l.
     x.fits in
     let all = c.args.cell.now.made.items ++ cut_for k d in
     let D : Items → Scope → Type 0 = λ y z. Due S k c.args.levels x.end after all y z fields c.args.cell.now in
-    let due = subst (λ z. D z (scope_of slots.numbers c.as_slice-types.result.now)) (sym items) (subst (D _) (sym bound) x.due) in
+    let here = subst (λ z. D z (scope_of slots.numbers c.as_slice-types.result.now)) (sym items) (subst (D _) (sym bound) x.due) in
+    let F : List (List ℕ × Value) → Type 0 = λ z. Due S k c.args.levels x.end after all
+    (items_in p (type_at p) None c.operations-ops.result.now) (scope_of slots.numbers c.as_slice-types.result.now)
+    (map pair_of z) c.args.cell.now in
+    let due = subst F (sym c.as_slice-fields.ensures) here in
     still _ w.result c.in_err-cut_fields.field-0.0 (r.1 ∙ ap Err r.2) (c.in_err-cut_fields.ensures x.end after all due)
 
 pub cut_declared-returns-in-None : goal.cut_declared-returns-in-None
@@ -759,7 +763,11 @@ cut_declared-returns-in-None t c = λ d outs after is l.
     x.fits in
     let all = c.args.cell.now.made.items ++ cut_for k d in
     let D : Items → Scope → Type 0 = λ y z. Due S k c.args.levels x.end after all y z fields c.args.cell.now in
-    let due = subst (λ z. D z (scope_of slots.numbers c.as_slice-types.result.now)) (sym items) (subst (D _) (sym bound) x.due) in
+    let here = subst (λ z. D z (scope_of slots.numbers c.as_slice-types.result.now)) (sym items) (subst (D _) (sym bound) x.due) in
+    let F : List (List ℕ × Value) → Type 0 = λ z. Due S k c.args.levels x.end after all
+    (items_in p (type_at p) None c.operations-ops.result.now) (scope_of slots.numbers c.as_slice-types.result.now)
+    (map pair_of z) c.args.cell.now in
+    let due = subst F (sym c.as_slice-fields.ensures) here in
     let outputs = c.outputs.result.now in
     let m = c.in_ok-cut_fields.ensures x.end after all due in
     let O : Flat → Type 0 = λ z. None ≡ values_in (map (expr_at z) outputs)
@@ -800,7 +808,11 @@ cut_declared-returns t c = λ d outs after is l.
     x.fits in
     let all = c.args.cell.now.made.items ++ cut_for k d in
     let D : Items → Scope → Type 0 = λ y z. Due S k c.args.levels x.end after all y z fields c.args.cell.now in
-    let due = subst (λ z. D z (scope_of slots.numbers c.as_slice-types.result.now)) (sym items) (subst (D _) (sym bound) x.due) in
+    let here = subst (λ z. D z (scope_of slots.numbers c.as_slice-types.result.now)) (sym items) (subst (D _) (sym bound) x.due) in
+    let F : List (List ℕ × Value) → Type 0 = λ z. Due S k c.args.levels x.end after all
+    (items_in p (type_at p) None c.operations-ops.result.now) (scope_of slots.numbers c.as_slice-types.result.now)
+    (map pair_of z) c.args.cell.now in
+    let due = subst F (sym c.as_slice-fields.ensures) here in
     let outputs = c.outputs.result.now in
     let m = c.in_ok-cut_fields.ensures x.end after all due in
     let O : Flat → Type 0 = λ z. Some c.in-Some-3.outputs ≡ values_in (map (expr_at z) outputs)
@@ -879,8 +891,8 @@ cut_edge-returns-in_err-cut_branch t c = λ q e n outs after few is l.
     let b0 = first_begins q fk.label fk.zeros fk.ones pairs others c.args.levels first fk.forked c.in-Some.ensures.cases.0 in
     let b1 = last_begins q fk.label fk.zeros fk.ones pairs others c.args.levels first last fk.forked
     c.in-Some.ensures.cases.0 (sym c.in-Some-last.ensures.value) in
-    let place = parts_at q fk.label first.0 last.0 c.common.result b0 b1 c.common.ensures.is in
-    let turned = turned_at q fk.label fk.zeros fk.ones pairs c.args.levels c.common.result c.turn.result fk.forked place
+    let place = parts_at q fk.label first.0 last.0 c.common-common.result b0 b1 c.common-common.ensures.is in
+    let turned = turned_at q fk.label fk.zeros fk.ones pairs c.args.levels c.common-common.result c.turn.result fk.forked place
     c.turn.ensures.turns in
     let less : fl.less ≤ c.args.left - 1 = (let long = fl.long in omega (arith, long, few)) in
     let x0 = q ++ (fk.label ++ 0 ∷ []) in
@@ -888,7 +900,7 @@ cut_edge-returns-in_err-cut_branch t c = λ q e n outs after few is l.
     let one = zero_branch S q fk.label fk.zero_cell fk.zeros fk.one_cell fk.ones n ty first.0 c.args.cell.now.left after.refs
     fl b0 in
     let here = c.in_err-cut_branch.ensures x0 fk.zeros fl.less fk.zero_cell (fk.one_cell ∷ after.refs) less
-    (one_more q fk.label 0 c.common.result place)
+    (one_more q fk.label 0 c.common-common.result place)
     (zeros_at q fk.label fk.zeros fk.ones pairs c.split_at.result.0.now c.args.levels c.turn.result fk.forked turned
     c.split_at.ensures.front) one in
     still _ w.result c.in_err-cut_branch.field-0.0 (r.1 ∙ ap Err r.2) here
@@ -908,8 +920,8 @@ cut_edge-returns t c = λ q e n outs after few is l.
     let b0 = first_begins q fk.label fk.zeros fk.ones pairs others c.args.levels first fk.forked c.in-Some.ensures.cases.0 in
     let b1 = last_begins q fk.label fk.zeros fk.ones pairs others c.args.levels first last fk.forked
     c.in-Some.ensures.cases.0 (sym c.in-Some-last.ensures.value) in
-    let place = parts_at q fk.label first.0 last.0 c.common.result b0 b1 c.common.ensures.is in
-    let turned = turned_at q fk.label fk.zeros fk.ones pairs c.args.levels c.common.result c.turn.result fk.forked place
+    let place = parts_at q fk.label first.0 last.0 c.common-common.result b0 b1 c.common-common.ensures.is in
+    let turned = turned_at q fk.label fk.zeros fk.ones pairs c.args.levels c.common-common.result c.turn.result fk.forked place
     c.turn.ensures.turns in
     let less : fl.less ≤ c.args.left - 1 = (let long = fl.long in omega (arith, long, few)) in
     let x0 = q ++ (fk.label ++ 0 ∷ []) in
@@ -917,13 +929,13 @@ cut_edge-returns t c = λ q e n outs after few is l.
     let one = zero_branch S q fk.label fk.zero_cell fk.zeros fk.one_cell fk.ones n ty first.0 c.args.cell.now.left after.refs
     fl b0 in
     let here = c.in_ok-cut_branch.ensures x0 fk.zeros fl.less fk.zero_cell (fk.one_cell ∷ after.refs) less
-    (one_more q fk.label 0 c.common.result place)
+    (one_more q fk.label 0 c.common-common.result place)
     (zeros_at q fk.label fk.zeros fk.ones pairs c.split_at.result.0.now c.args.levels c.turn.result fk.forked turned
     c.split_at.ensures.front) one in
     let two = one_branch S q fk.label fk.zero_cell fk.zeros fk.one_cell fk.ones n ty last.0 c.args.cell.now.left
     c.cut_branch.new.cell.left after.refs fl here.0 b1 in
     let there = c.cut_branch-2.ensures x1 fk.ones fl.less fk.one_cell after.refs less
-    (one_more q fk.label 1 c.common.result place)
+    (one_more q fk.label 1 c.common-common.result place)
     (ones_at q fk.label fk.zeros fk.ones pairs c.split_at.result.1.now c.args.levels c.turn.result fk.forked turned
     c.split_at.ensures.back) two in
     gives_as _ _ c.cut_branch-2.result
@@ -939,7 +951,7 @@ pub cut_root_edge-returns : goal.cut_root_edge-returns
 cut_root_edge-returns t c = λ d n outs after few is l.
     let k = rests_of c.args.wanted.now in
     let x = some_map (cores (schema_view c.args.plan.now.0)) c.args.levels n (type_view c.args.inner.now)
-    c.args.cell.now.left outs after c.in-Some.key c.in-Some.field-0.now c.args.pairs.now
+    c.args.cell.now.left outs after c.in-Some.field-0.now.0 c.in-Some.field-0.now c.args.pairs.now
     (drop 1 c.args.pairs.now) d (one_first c.args.pairs.now c.in-Some.field-0.now (sym c.in-Some.ensures.value)) is l in
     gives_as _ _ c.cut_branch.result
     (λ z m. moves_as _ (cut_for k d) after.refs c.args.cell.now c.cut_branch.new.cell (x.made k) m)
@@ -1002,8 +1014,8 @@ cut_items-loop-item-preserved t c = λ after all x.
     let m = c.in_ok-cut_value.ensures y.first y.outs y.middle y.is_first y.lies in
     let here = ap (λ (z : Rests). cut_for z y.first) c.in_ok-here.ensures in
     let few = y.below in
-    let next = c.saturating_add.ensures in
-    y.then c.saturating_add.result c.cut_value.new.cell (omega (arith, few, next))
+    let next = c.saturating_add-place.ensures in
+    y.then c.saturating_add-place.result c.cut_value.new.cell (omega (arith, few, next))
     (moves_as _ _ y.middle.refs at.cell c.cut_value.new.cell here m.1)
 
 pub cut_items-returns : goal.cut_items-returns
