@@ -818,7 +818,7 @@ cut_declared-returns t c = λ d outs after is l.
     let O : Flat → Type 0 = λ z. Some c.in-Some-3.outputs ≡ values_in (map (expr_at z) outputs)
     (scope_of c.cut_fields.new.env c.as_slice-types.result.now) in
     let given = outputs_are (map (expr_at p) outputs) x.declaration.core.outputs
-    (scope_of c.cut_fields.new.env c.as_slice-types.result.now) x.end Some c.in-Some-3.outputs outs
+    (scope_of c.cut_fields.new.env c.as_slice-types.result.now) x.end (Some c.in-Some-3.outputs) outs
     (entry_outputs s p plans n planned below e c.entry-entry.ensures x.declaration there outputs c.outputs.ensures)
     (subst O c.flat-flat.ensures.lists (sym c.in-Some-3.is ∙ c.in_ok-values.ensures c.as_slice-types.result.now)) m.0 x.outputs in
     (same_Some c.in-Some-3.outputs outs given, (m.1, m.2))
@@ -939,7 +939,7 @@ cut_edge-returns t c = λ q e n outs after few is l.
     (ones_at q fk.label fk.zeros fk.ones pairs c.split_at.result.1.now c.args.levels c.turn.result fk.forked turned
     c.split_at.ensures.back) two in
     gives_as _ _ c.cut_branch-2.result
-    (λ z m. fork_moves k q e fk.label fk.zero_cell fk.zeros fk.one_cell fk.ones (fk.one_cell ∷ after.refs) after.refs
+    (λ z m. fork_moves k q fk.label e fk.zero_cell fk.zeros fk.one_cell fk.ones (fk.one_cell ∷ after.refs) after.refs
     c.args.cell.now c.cut_branch.new.cell c.cut_branch-2.new.cell fk.is here m) there
 
 pub cut_root_edge-returns-in_default : goal.cut_root_edge-returns-in_default
