@@ -21,13 +21,13 @@ bits_seen b = search (rules, the_lemmas)
 rest_seen : (r : RestPart) → value (Rest r) ≡ rest (slice_of r)
 rest_seen r = search (rules, the_lemmas)
 
-list_seen : (vs : List Value) → value (Series vs) ≡ list_of (vals_of (map value vs))
+pub list_seen : (vs : List Value) → value (Series vs) ≡ list_of (vals_of (map value vs))
 list_seen vs = search (rules, the_lemmas)
 
-ref_seen : (v : Value) → value (Ref v) ≡ ref_to tt (value v)
+pub ref_seen : (v : Value) → value (Ref v) ≡ ref_to tt (value v)
 ref_seen v = search (rules, the_lemmas)
 
-map_seen : (d : Dict) → value (Map d) ≡ map_of tt (pairs_of (map pair_of d.pairs)) d.unknown
+pub map_seen : (d : Dict) → value (Map d) ≡ map_of tt (pairs_of (map pair_of d.pairs)) d.unknown
 map_seen d = search (rules, the_lemmas)
 
 record_seen : (r : TheRecord) → value (Record r) ≡ record_of (record_parts r).0 (names_in (record_parts r).1)

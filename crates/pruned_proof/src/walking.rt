@@ -69,7 +69,9 @@ fn cut_value(
             cut_ref(alloc, plan, levels, inner.get(), held.get(), wanted, cell)?;
             Ok(Outputs::Empty)
         }
-        (ClosedType::Repeat(_, inner), Value::List(items)) => {
+        (ClosedType::Repeat(count, inner), Value::List(items)) => {
+            // The count is one of 32 bits.
+            let _count = *count;
             cut_items(
                 alloc,
                 plan,
