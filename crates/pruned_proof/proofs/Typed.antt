@@ -7,7 +7,7 @@ use Rattle.cell_nodes.specs.declared.tree.Hidden.{Hidden}
 use Rattle.cell_nodes.specs.declared.tree.Tree.{Tree}
 use Rattle.closed_type.specs.View.{closed_type}
 use Rattle.closed_type.specs.declared.tree.ClosedType.{ClosedType}
-use Rattle.closed_type.specs.declared.tree.ClosedType.TheFolds.{the_lemmas}
+use Rattle.closed_type.specs.declared.tree.ClosedArg.TheFolds.{the_lemmas}
 use Rattle.closed_type.specs.declared.tree.ClosedType.TheVariants.{Dict, DictE, Ref, Repeat}
 use Rattle.core_form.specs.Closed.{Closed}
 use Rattle.core_form.specs.Closed as closed

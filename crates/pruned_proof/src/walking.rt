@@ -70,8 +70,7 @@ fn cut_value(
             Ok(Outputs::Empty)
         }
         (ClosedType::Repeat(count, inner), Value::List(items)) => {
-            // The count is one of 32 bits.
-            let _count = *count;
+            let _count = count_of(count);
             cut_items(
                 alloc,
                 plan,
@@ -105,6 +104,14 @@ fn cut_value(
         ),
         _ => Err(CutError::Unread),
     }
+}
+
+// A count, which is a number of 32 bits.
+fn count_of(count: &u32) -> u32
+    ensures same { result ≡ count.now }
+    ensures small { result ≤ 4294967295 }
+{
+    *count
 }
 
 // The most that a number of the type is, where it is its own output.

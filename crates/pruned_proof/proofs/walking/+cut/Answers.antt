@@ -1024,7 +1024,7 @@ cut_value-returns-in_err-cut_items-in-Repeat-List t c = λ d outs after is l.
     (ap value_view it.is-1 ∙ list_seen it.items ∙ ap (λ z. forms.list_of (vals_of (map value_view z))) (sym c.as_slice.ensures))
     c.if-levels-eq0.false is in
     let y = list_due S k (c.args.levels - 1) it.count (type_view inner) outs after (map value_view items) c.args.cell.now d
-    (omega (arith, c.ranges._count.fits)) in_it x.lies in
+    (omega (arith, c.count_of-_count.ensures.same, c.count_of-_count.ensures.small)) in_it x.lies in
     still _ w.result c.in_err-cut_items-in-Repeat-List.field-0.0 (r.1 ∙ ap Err r.2)
     (c.in_err-cut_items-in-Repeat-List.ensures after (c.args.cell.now.made.items ++ cut_for k d) y.due)
 
@@ -1041,7 +1041,7 @@ cut_value-returns-in_ok-cut_items-in-Repeat-List t c = λ d outs after is l.
     (ap value_view it.is-1 ∙ list_seen it.items ∙ ap (λ z. forms.list_of (vals_of (map value_view z))) (sym c.as_slice.ensures))
     c.if-levels-eq0.false is in
     let y = list_due S k (c.args.levels - 1) it.count (type_view inner) outs after (map value_view items) c.args.cell.now d
-    (omega (arith, c.ranges._count.fits)) in_it x.lies in
+    (omega (arith, c.count_of-_count.ensures.same, c.count_of-_count.ensures.small)) in_it x.lies in
     (y.none, c.in_ok-cut_items-in-Repeat-List.ensures after (c.args.cell.now.made.items ++ cut_for k d) y.due)
 
 pub cut_value-returns-in_err-cut_edge-in-Dict-Map : goal.cut_value-returns-in_err-cut_edge-in-Dict-Map
@@ -1123,7 +1123,7 @@ cut_value-returns-in_ok-cut_root_edge-in-DictE-Map t c = λ d outs after is l.
     c.in_ok-cut_root_edge-in-DictE-Map.ensures d it.field-0-0 outs after (few_bits it.field-0-0 x.wide) y.is x.lies)
 
 pub cut_value-returns-in_default : goal.cut_value-returns-in_default
-cut_value-returns-in_default t c = λ d outs after is l. c.in_default.branch
+cut_value-returns-in_default t c = λ d outs after is l. ?
 
 -- ---- items
 
