@@ -62,6 +62,10 @@ use Rattle.pruned_proof.proofs.Shaped.{shaped, at_shape, here_outs, under_outs, 
 use Rattle.pruned_proof.proofs.Shaped.{op_next, ops_end}
 use Rattle.plan_reading.specs.declared.shapes.FlatShape.TheVariants.{Here, Under, LeftOut, Typed}
 use Rattle.pruned_proof.proofs.walking.+cut.Goals as goal
+use Rattle.pruned_proof.proofs.walking.+cut.Goals.{cut_value-in_default-via-in-Ref+in_default}
+use Rattle.pruned_proof.proofs.walking.+cut.Goals.{cut_value-in_default-via-in-List+in_default}
+use Rattle.pruned_proof.proofs.walking.+cut.Goals.{cut_value-in_default-via-in-Map+in_default}
+use Rattle.pruned_proof.proofs.walking.+cut.Goals.{cut_value-in_default-via-in-Record+in_default, cut_value-in_default-via-in_default}
 
 pub cut_ref-returns-in_err-child : goal.cut_ref-returns-in_err-child
 cut_ref-returns-in_err-child t c = λ d outs after is l.
@@ -1024,7 +1028,7 @@ cut_value-returns-in_err-cut_items-in-Repeat-List t c = λ d outs after is l.
     (ap value_view it.is-1 ∙ list_seen it.items ∙ ap (λ z. forms.list_of (vals_of (map value_view z))) (sym c.as_slice.ensures))
     c.if-levels-eq0.false is in
     let y = list_due S k (c.args.levels - 1) it.count (type_view inner) outs after (map value_view items) c.args.cell.now d
-    (omega (arith, c.count_of-_count.ensures.same, c.count_of-_count.ensures.small)) in_it x.lies in
+    (omega (arith, c.count_of-count.ensures.same, c.count_of-count.ensures.small)) in_it x.lies in
     still _ w.result c.in_err-cut_items-in-Repeat-List.field-0.0 (r.1 ∙ ap Err r.2)
     (c.in_err-cut_items-in-Repeat-List.ensures after (c.args.cell.now.made.items ++ cut_for k d) y.due)
 
@@ -1041,7 +1045,7 @@ cut_value-returns-in_ok-cut_items-in-Repeat-List t c = λ d outs after is l.
     (ap value_view it.is-1 ∙ list_seen it.items ∙ ap (λ z. forms.list_of (vals_of (map value_view z))) (sym c.as_slice.ensures))
     c.if-levels-eq0.false is in
     let y = list_due S k (c.args.levels - 1) it.count (type_view inner) outs after (map value_view items) c.args.cell.now d
-    (omega (arith, c.count_of-_count.ensures.same, c.count_of-_count.ensures.small)) in_it x.lies in
+    (omega (arith, c.count_of-count.ensures.same, c.count_of-count.ensures.small)) in_it x.lies in
     (y.none, c.in_ok-cut_items-in-Repeat-List.ensures after (c.args.cell.now.made.items ++ cut_for k d) y.due)
 
 pub cut_value-returns-in_err-cut_edge-in-Dict-Map : goal.cut_value-returns-in_err-cut_edge-in-Dict-Map
@@ -1123,7 +1127,14 @@ cut_value-returns-in_ok-cut_root_edge-in-DictE-Map t c = λ d outs after is l.
     c.in_ok-cut_root_edge-in-DictE-Map.ensures d it.field-0-0 outs after (few_bits it.field-0-0 x.wide) y.is x.lies)
 
 pub cut_value-returns-in_default : goal.cut_value-returns-in_default
-cut_value-returns-in_default t c = λ d outs after is l. ?
+cut_value-returns-in_default t c = λ d outs after is l.
+    elim c.in_default.branch [
+      | cut_value-in_default-via-in-Ref+in_default w ↦ w.in_default.zzz
+      | cut_value-in_default-via-in-List+in_default w ↦ w.in_default.zzz
+      | cut_value-in_default-via-in-Map+in_default w ↦ w.in_default.zzz
+      | cut_value-in_default-via-in-Record+in_default w ↦ w.in_default.zzz
+      | cut_value-in_default-via-in_default w ↦ w.in_default.zzz
+    ]
 
 -- ---- items
 
