@@ -1,7 +1,9 @@
+mod BuiltFacts
 mod Layers
 mod Named
 mod ProofFacts
 mod Shows
 mod StageFacts
 mod Stopped
+mod ValueTextFacts
 mod Whole

@@ -1,4 +1,5 @@
 pub mod Bag
+pub mod Built
 pub mod Cell
 pub mod Kinds
 pub mod Proof
@@ -9,4 +10,6 @@ pub mod StageLaws
 pub mod Stages
 pub mod Tags
 pub mod TypeWord
+pub mod ValueText
+pub mod ValueTextLaws
 pub mod View

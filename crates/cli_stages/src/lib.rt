@@ -2,6 +2,7 @@
 #![tactic(auto)]
 
 pub mod bag;
+pub mod built;
 pub mod cell;
 mod kinds;
 pub mod laws;
@@ -11,5 +12,6 @@ pub mod schema;
 mod schema_text;
 mod stop;
 mod tags;
+pub mod value_text;
 
 pub use stop::Stop;
