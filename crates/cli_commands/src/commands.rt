@@ -3,6 +3,7 @@ ghost use Rattle.std.specs.Prelude.{◌≡◌, ◌≤◌, length, map, string_by
 ghost use Rattle.tlb_files.specs.Contents.{AreShort};
 ghost use Rattle.tlb_files.specs.View.{contents_of};
 ghost use Rattle.cli_stages.specs.Stage.{Answers};
+ghost use Rattle.cli_commands.specs.Build.{Builds};
 ghost use Rattle.cli_commands.specs.Command.{at};
 ghost use Rattle.cli_commands.specs.Commands.{CommandAnswers, slots_of, verb_of};
 ghost use Rattle.cli_commands.specs.Forms.{are_taken, files_in};
@@ -11,6 +12,7 @@ ghost use Rattle.cli_commands.specs.Slots.{root_hash as hash_of_word};
 ghost use Rattle.cli_commands.specs.View.{text_by};
 ghost use Rattle.cli_commands.specs.Views.{Views, view_slots as slots_by_count};
 
+use crate::build::build;
 use crate::check::check;
 use crate::hash::hash;
 use crate::read::read;
@@ -25,6 +27,7 @@ use std::alloc::Global;
 pub enum Verb {
     Read,
     Lax,
+    Build,
     View,
     Hash,
     Check,
@@ -38,6 +41,7 @@ impl Verb {
         match word {
             "read" => Some(Verb::Read),
             "lax" => Some(Verb::Lax),
+            "build" => Some(Verb::Build),
             "view" => Some(Verb::View),
             "hash" => Some(Verb::Hash),
             "check" => Some(Verb::Check),
@@ -51,6 +55,7 @@ impl Verb {
     {
         match self {
             Verb::Read | Verb::Lax => &[Slot::Schema, Slot::TypeWord, Slot::Bag],
+            Verb::Build => &[Slot::Schema, Slot::TypeWord, Slot::Text],
             Verb::View => view_slots(words),
             Verb::Hash => &[Slot::Bag],
             Verb::Check => &[Slot::Schema],
@@ -73,6 +78,7 @@ impl Verb {
         match self {
             Verb::Read => read_in(alloc, Mode::Whole, words, contents),
             Verb::Lax => read_in(alloc, Mode::Lax, words, contents),
+            Verb::Build => build_in(alloc, words, contents),
             Verb::View => view_in(alloc, words, contents),
             Verb::Hash => hash(alloc, bytes_at(contents, 0)),
             Verb::Check => check(alloc, bytes_at(contents, 0)),
@@ -125,6 +131,19 @@ fn read_in(
     let word = word_at(words, 1);
     let bag = bytes_at(contents, 1);
     read(alloc, mode, schema, word, bag)
+}
+
+// What `build` answers.
+fn build_in(alloc: Global, words: &[String], contents: &[Vec<u8>]) -> Result<Vec<u8>, Stop>
+    requires schema { length (at (contents_of contents.now) 0) ≤ 1048576 }
+    requires word { length (at (map string_bytes words.now) 1) ≤ 1048576 }
+    ensures { Answers (Builds (at (map string_bytes words.now) 1) (at (contents_of contents.now) 0)
+        (at (contents_of contents.now) 1)) text_by result }
+{
+    let schema = bytes_at(contents, 0);
+    let name = word_at(words, 1);
+    let text = bytes_at(contents, 1);
+    build(alloc, schema, name, text)
 }
 
 // What `view` answers.

@@ -19,10 +19,10 @@ pub data Refusal : Type 0 where
   schema : SchemaCause → Refusal
   type_word : TypeError → Refusal
   bag : BagError → Refusal
-  text : TextCause → ℕ → Refusal
+  value_text : TextCause → ℕ → Refusal
   proof : ProofCause → Refusal
   cell : List ℕ → Cause → Refusal
-  value : List ℕ → Cause → Refusal
+  unfit : List ℕ → Cause → Refusal
 
 abbrev pub status_of : Refusal → Status
 status_of usage = Usage
@@ -31,10 +31,10 @@ status_of (too_long name) = TooLong
 status_of (schema cause) = SchemaRefused
 status_of (type_word cause) = TypeRefused
 status_of (bag cause) = BagRefused
-status_of (text cause place) = TextRefused
+status_of (value_text cause place) = TextRefused
 status_of (proof cause) = ProofRefused
 status_of (cell place cause) = CellRefused
-status_of (value place cause) = ValueRefused
+status_of (unfit place cause) = ValueRefused
 
 -- a refusal in words
 abbrev pub words_of : Refusal → List ℕ
@@ -44,10 +44,10 @@ words_of (too_long name) = spaced (codes "long") name
 words_of (schema cause) = spaced (codes "schema") (schema_cause cause)
 words_of (type_word cause) = spaced (codes "type") (type_cause cause)
 words_of (bag cause) = spaced (codes "bag") (bag_cause cause)
-words_of (text cause place) = spaced (codes "text") (text_cause cause place)
+words_of (value_text cause place) = spaced (codes "text") (text_cause cause place)
 words_of (proof cause) = spaced (codes "proof") (proof_cause cause)
 words_of (cell place cause) = spaced (codes "cell") (spaced place (cause_text cause))
-words_of (value place cause) = spaced (codes "value") (spaced place (cause_text cause))
+words_of (unfit place cause) = spaced (codes "value") (spaced place (cause_text cause))
 
 abbrev pub refusal_line : Refusal → List ℕ
 refusal_line refusal = line_of (codes "refused: " ++ words_of refusal)

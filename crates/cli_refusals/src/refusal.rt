@@ -86,7 +86,11 @@ impl Refusal {
             Refusal::Schema(cause) => spaced(alloc, b"schema", &schema_words(alloc, cause)?),
             Refusal::TypeWord(cause) => spaced(alloc, b"type", &type_words(alloc, cause)?),
             Refusal::Bag(error) => spaced(alloc, b"bag", &bag_words(alloc, *error)?),
-            Refusal::Text(cause, place) => spaced(alloc, b"text", &text_words(alloc, *cause, *place)?),
+            Refusal::Text(cause, place) => spaced(
+                alloc,
+                b"text",
+                &text_words(alloc, *cause, *place)?,
+            ),
             Refusal::Proof(cause) => spaced(alloc, b"proof", &proof_words(alloc, cause)?),
             Refusal::Cell(place, cause) => spaced(
                 alloc,

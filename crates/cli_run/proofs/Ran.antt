@@ -27,8 +27,10 @@ answer-put (Err (long_refusal name)) = tt
 answer-put (Err (schema cause)) = tt
 answer-put (Err (type_word cause)) = tt
 answer-put (Err (bag cause)) = tt
+answer-put (Err (value_text cause place)) = tt
 answer-put (Err (proof cause)) = tt
 answer-put (Err (cell place cause)) = tt
+answer-put (Err (unfit place cause)) = tt
 
 answer-line : (a : Answer) → IsRefusal (verdict_of a).status → IsRefusalLine (verdict_of a).text
 answer-line (Ok text) refusal = absurd refusal

@@ -14,7 +14,7 @@ use Rattle.building.specs.Unfit.{Unfit}
 use Rattle.building_laws.specs.Laws.{IsTreeOf, NoTreeWhereUnfit, OnePlace, OneTree, TreeOrPlace}
 use Rattle.accepted_building.specs.Laws.{AcceptedIsBuildable, IsOnePlaceOf, IsOneTreeOf}
 use Rattle.cli_refusals.specs.Lines.{spot_text}
-use Rattle.cli_refusals.specs.Refusal.{value}
+use Rattle.cli_refusals.specs.Refusal.{unfit}
 use Rattle.cli_stages.specs.Built.{Built, RefusesValue}
 use Rattle.cli_stages.specs.Schema.{IsWhole}
 use Rattle.cli_stages.specs.Stage.{Answers, IfRefused, IsAnswered, IsStage}
@@ -34,11 +34,11 @@ built-some : (s : SchemaView) (type : ShownType) (v : Plain)
     → ((c : Tree) × IsTreeOf Whole (cores s) type.closed v c) ⊎ ((p : Place) × Unfit Whole (cores s) type.closed v p)
     → IsAnswered (Built s type v)
 built-some s type v (inl h) = (Ok h.0, h.1)
-built-some s type v (inr h) = (Err _, record { place = h.0; unfit = h.1; is = refl })
+built-some s type v (inr h) = (Err _, record { place = h.0; is_unfit = h.1; is = refl })
 
 same-place : (s : SchemaView) (type : ShownType) (p q : Place) → p ≡ q
-    → value (spot_text (cores s) type.text p.spot) p.cause ≡ value (spot_text (cores s) type.text q.spot) q.cause
-same-place s type p q same = ap (λ (x : Place). value (spot_text (cores s) type.text x.spot) x.cause) same
+    → unfit (spot_text (cores s) type.text p.spot) p.cause ≡ unfit (spot_text (cores s) type.text q.spot) q.cause
+same-place s type p q same = ap (λ (x : Place). unfit (spot_text (cores s) type.text x.spot) x.cause) same
 
 pub built-stage : Buildings → (s : SchemaView) (type : ShownType) (v : Plain) → IsWhole s → InRange v → IsStage (Built s type v)
 built-stage laws s type v whole range =
@@ -49,11 +49,11 @@ built-stage laws s type v whole range =
           (λ r q a b.
           a.is
           ∙ same-place s type a.place b.place
-          (laws.one_place Whole refl (cores s) can type.closed v range a.place b.place a.unfit b.unfit)
+          (laws.one_place Whole refl (cores s) can type.closed v range a.place b.place a.is_unfit b.is_unfit)
           ∙ sym b.is)
           (λ c d a b.
           laws.one_tree Whole refl (cores s) can type.closed v range c d a.good b.good a.reading b.reading)
-          (λ r c a b. laws.not_both Whole refl (cores s) can type.closed v range c a.place b a.unfit);
+          (λ r c a b. laws.not_both Whole refl (cores s) can type.closed v range c a.place b a.is_unfit);
       answered = built-some s type v (laws.some Whole refl (cores s) can type.closed v range);
       refuses = λ r given. judged-as r _ given.is tt;
     }
@@ -68,9 +68,9 @@ tree-built s type v c kept is =
 
 pub value-unfit : (s : SchemaView) (type : ShownType) (v : Plain) (p : Place) (stop : Stop) → kept_of s ≡ s
     → IsOnePlaceOf Whole (kept_cores s) type.closed v p
-    → IfRefused (λ r. r ≡ value (spot_text (cores s) type.text p.spot) p.cause) stop
+    → IfRefused (λ r. r ≡ unfit (spot_text (cores s) type.text p.spot) p.cause) stop
     → Answers {T = Tree} (Built s type v) (λ tree. tree) (Err stop)
 value-unfit s type v p (Refused r) kept is refused =
     let P : SchemaView → Type 0 = λ x. Unfit Whole (cores x) type.closed v p in
-    record { answer = record { place = p; unfit = subst P kept is.unfit; is = refused } }
+    record { answer = record { place = p; is_unfit = subst P kept is.unfit; is = refused } }
 value-unfit s type v p NoMemory kept is refused = record { answer = tt }

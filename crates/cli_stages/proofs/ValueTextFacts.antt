@@ -6,7 +6,7 @@ use Rattle.typed_value.specs.declared.value.Value.{Value}
 use Rattle.value_text.specs.Writes.{TextWrites}
 use Rattle.value_grammar.specs.Refused.{TextRefused}
 use Rattle.value_grammar.specs.declared.cause.Cause.{Cause}
-use Rattle.cli_refusals.specs.Refusal.{text}
+use Rattle.cli_refusals.specs.Refusal.{value_text}
 use Rattle.cli_stages.specs.Stage.{Answers, IfRefused, IsAnswered, IsStage}
 use Rattle.cli_stages.specs.ValueText.{RefusesValueText, ValueText}
 use Rattle.cli_stages.specs.declared.stop.Stop.{Stop}
@@ -25,8 +25,8 @@ value-text-some : (file : List ℕ) → ((v : Plain) × TextWrites file v) ⊎ (
 value-text-some file (inl h) = (Ok h.0, h.1)
 value-text-some file (inr h) = (Err _, record { cause = h.0; byte = h.1; refused = h.2; is = refl })
 
-same-text : (cause other : Cause) (byte further : ℕ) → cause ≡ other → byte ≡ further → text cause byte ≡ text other further
-same-text cause other byte further c b = λ i. text (c i) (b i)
+same-text : (cause other : Cause) (byte further : ℕ) → cause ≡ other → byte ≡ further → value_text cause byte ≡ value_text other further
+same-text cause other byte further c b = λ i. value_text (c i) (b i)
 
 pub value-text-stage : ValueTexts → (file : List ℕ) → IsStage (ValueText file)
 value-text-stage laws file = record {
@@ -43,7 +43,7 @@ value-text-stage laws file = record {
 -- ---- what is answered
 
 pub text-refused : (file : List ℕ) (cause : Cause) (byte : ℕ) (stop : Stop) → TextRefused file cause byte
-    → IfRefused (λ r. r ≡ text cause byte) stop → Answers {T = Value} (ValueText file) value (Err stop)
+    → IfRefused (λ r. r ≡ value_text cause byte) stop → Answers {T = Value} (ValueText file) value (Err stop)
 text-refused file cause byte (Refused r) refused is =
     record { answer = record { cause = cause; byte = byte; refused = refused; is = is } }
 text-refused file cause byte NoMemory refused is = record { answer = tt }

@@ -1,7 +1,6 @@
 -- The stages: each comes to exactly one answer.
 use Rattle.std.specs.Prelude.{ℕ, List, Ok, Option}
 use Rattle.cell_nodes.specs.declared.tree.Mode.{Mode}
-use Rattle.cell_nodes.specs.declared.tree.Mode.TheVariants.{Lax}
 use Rattle.cell_nodes.specs.declared.tree.Tree.{Tree}
 use Rattle.tlb_edge.specs.Files.{Name}
 use Rattle.tlb_syntax.specs.Tree.{SchemaView}
@@ -26,7 +25,5 @@ pub record Stages : Type 0 where
   pub cell : (mode : Mode) (s : SchemaView) (type : ShownType) (root : Tree) → IsWhole s → IsStage (Cell mode s type root)
   pub proof : (root : Option (List ℕ)) (s : SchemaView) (type : ShownType) (cell : Tree) → IsWhole s
       → IsStage (Proof root s type cell)
-  -- of a value in range: one that a text writes, and one that is read of what a bag holds
+  -- of a value in range, as each that a text writes
   pub built : (s : SchemaView) (type : ShownType) (v : Plain) → IsWhole s → InRange v → IsStage (Built s type v)
-  pub read_in_range : (file : List ℕ) (s : SchemaView) (type : ShownType) (root : Tree) (v : Plain) → Bag file (Ok root)
-      → Cell Lax s type root (Ok v) → InRange v

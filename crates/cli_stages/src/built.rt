@@ -6,7 +6,7 @@ ghost use Rattle.schema_leads.specs.Tags.{cores};
 ghost use Rattle.tlb_syntax.specs.View.{schema as schema_view};
 ghost use Rattle.typed_value.specs.View.{value as value_view};
 ghost use Rattle.cli_refusals.specs.Lines.{spot_text};
-ghost use Rattle.cli_refusals.specs.Refusal.{value};
+ghost use Rattle.cli_refusals.specs.Refusal.{unfit as refused_value};
 ghost use Rattle.cli_stages.specs.Built.{Built};
 ghost use Rattle.cli_stages.specs.Stage.{Answers, IfRefused};
 ghost use Rattle.cli_stages.specs.View.{type_by};
@@ -22,7 +22,7 @@ use typed_value::Value;
 
 // The refusal at a place.
 fn unfit(alloc: Global, plan: &Plan, ty: &ShownType, place: &Place) -> Stop
-    ensures { IfRefused (λ r. r ≡ value (spot_text (cores (schema_view plan.now.0)) (type_by ty.now).text
+    ensures { IfRefused (λ r. r ≡ refused_value (spot_text (cores (schema_view plan.now.0)) (type_by ty.now).text
         (place_view place.now).spot) (place_view place.now).cause) result }
 {
     match place_words(alloc, plan, &ty.text, place) {
@@ -33,7 +33,7 @@ fn unfit(alloc: Global, plan: &Plan, ty: &ShownType, place: &Place) -> Stop
 
 /// The cell that the value is built to.
 pub fn built(alloc: Global, plan: &Plan, ty: &ShownType, value: &Value) -> Result<Cell, Stop>
-    ensures { Answers (Built (schema_view plan.now.0) (type_by ty.now) (value_view value.now)) (λ tree. tree) result }
+    ensures answer { Answers (Built (schema_view plan.now.0) (type_by ty.now) (value_view value.now)) (λ tree. tree) result }
     ensures small { IfOk result (λ cell. unfolded cell ≤ 262144) }
 {
     // Nothing in it is passed over.

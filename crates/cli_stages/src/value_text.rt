@@ -1,7 +1,7 @@
 //! The stage of a value's text.
 ghost use Rattle.std.specs.Prelude.{◌≡◌};
 ghost use Rattle.typed_value.specs.View.{value};
-ghost use Rattle.cli_refusals.specs.Refusal.{text};
+ghost use Rattle.cli_refusals.specs.Refusal.{value_text as refused_text};
 ghost use Rattle.cli_stages.specs.Stage.{Answers, IfRefused};
 ghost use Rattle.cli_stages.specs.ValueText.{ValueText};
 
@@ -13,7 +13,7 @@ use value_grammar::Cause;
 use value_parse::{TextError, parse};
 
 fn refused(cause: Cause, place: u64) -> Stop
-    ensures { IfRefused (λ r. r ≡ text cause place) result }
+    ensures { IfRefused (λ r. r ≡ refused_text cause place) result }
 {
     Stop::Refused(Refusal::Text(cause, place))
 }
