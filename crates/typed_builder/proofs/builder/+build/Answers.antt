@@ -1,5 +1,5 @@
 use Rattle.building.specs.Growing.{Grown}
-use Rattle.building.specs.PlainBuilder.{has_fields, list_at, make_fields, make_inside, make_leaves, record_at, ref_at}
+use Rattle.building.specs.PlainBuilder.{has_fields, list_at, make_fields, make_inside, make_leaves, record_at as named_at, ref_at}
 use Rattle.cell_nodes.specs.declared.tree.Tree.{Tree}
 use Rattle.closed_type.specs.View.{closed_args, closed_type as type_view}
 use Rattle.core_form.specs.Core.{Declaration, Word, check, sets}
