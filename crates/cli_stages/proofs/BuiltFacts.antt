@@ -12,7 +12,7 @@ use Rattle.typed_value.specs.Values.{Plain}
 use Rattle.building.specs.Buildable.{InRange, IsBuildable}
 use Rattle.building.specs.Unfit.{Unfit}
 use Rattle.building_laws.specs.Laws.{IsTreeOf, NoTreeWhereUnfit, OnePlace, OneTree, TreeOrPlace}
-use Rattle.accepted_building.specs.Laws.{AcceptedIsBuildable, IsOnePlaceOf, IsOneTreeOf}
+use Rattle.accepted_building.specs.Laws.{AcceptedIsBuildable, IsOnePlaceOf}
 use Rattle.cli_refusals.specs.Lines.{spot_text}
 use Rattle.cli_refusals.specs.Refusal.{unfit}
 use Rattle.cli_stages.specs.Built.{Built, RefusesValue}
@@ -59,12 +59,6 @@ built-stage laws s type v whole range =
     }
 
 -- ---- what is answered
-
-pub tree-built : (s : SchemaView) (type : ShownType) (v : Plain) (c : Tree) → kept_of s ≡ s
-    → IsOneTreeOf Whole (kept_cores s) type.closed v c → IsTreeOf Whole (cores s) type.closed v c
-tree-built s type v c kept is =
-    let P : SchemaView → Type 0 = λ x. IsTreeOf Whole (cores x) type.closed v c in
-    subst P kept is.tree
 
 pub value-unfit : (s : SchemaView) (type : ShownType) (v : Plain) (p : Place) (stop : Stop) → kept_of s ≡ s
     → IsOnePlaceOf Whole (kept_cores s) type.closed v p
