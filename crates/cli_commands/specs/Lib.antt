@@ -7,5 +7,6 @@ pub mod Hash
 pub mod Laws
 pub mod Read
 pub mod Slots
+pub mod Tidy
 pub mod View
 pub mod Views

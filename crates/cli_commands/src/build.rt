@@ -18,7 +18,7 @@ use cli_stages::Stop;
 use cli_stages::built::built;
 use cli_stages::named_type::{ShownType, named_type};
 use cli_stages::schema::plan;
-use cli_stages::value_text::value_text;
+use cli_stages::text::value_text;
 use field_plan::Plan;
 use std::alloc::Global;
 use tlb_memory::NoMemory;
@@ -35,7 +35,7 @@ fn written(alloc: Global, cell: &Cell) -> Result<Vec<u8>, NoMemory>
 }
 
 // Its digits, on a line.
-fn bag_line(alloc: Global, cell: &Cell) -> Result<Vec<u8>, NoMemory>
+pub(crate) fn bag_line(alloc: Global, cell: &Cell) -> Result<Vec<u8>, NoMemory>
     requires { unfolded cell.now ≤ 262144 }
     ensures { IfOk result (λ text. text.items ≡ line_of_bag cell.now) }
 {

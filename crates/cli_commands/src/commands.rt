@@ -9,6 +9,7 @@ ghost use Rattle.cli_commands.specs.Commands.{CommandAnswers, slots_of, verb_of}
 ghost use Rattle.cli_commands.specs.Forms.{are_taken, files_in};
 ghost use Rattle.cli_commands.specs.Read.{Reads};
 ghost use Rattle.cli_commands.specs.Slots.{root_hash as hash_of_word};
+ghost use Rattle.cli_commands.specs.Tidy.{Tidies};
 ghost use Rattle.cli_commands.specs.View.{text_by};
 ghost use Rattle.cli_commands.specs.Views.{Views, view_slots as slots_by_count};
 
@@ -17,6 +18,7 @@ use crate::check::check;
 use crate::hash::hash;
 use crate::read::read;
 use crate::slot::{Slot, root_hash};
+use crate::tidy::tidy;
 use crate::view::view;
 use cell_nodes::Mode;
 use cli_stages::Stop;
@@ -28,6 +30,7 @@ pub enum Verb {
     Read,
     Lax,
     Build,
+    Tidy,
     View,
     Hash,
     Check,
@@ -42,6 +45,7 @@ impl Verb {
             "read" => Some(Verb::Read),
             "lax" => Some(Verb::Lax),
             "build" => Some(Verb::Build),
+            "tidy" => Some(Verb::Tidy),
             "view" => Some(Verb::View),
             "hash" => Some(Verb::Hash),
             "check" => Some(Verb::Check),
@@ -54,7 +58,7 @@ impl Verb {
         ensures { result.now ≡ slots_of self (map string_bytes words.now) }
     {
         match self {
-            Verb::Read | Verb::Lax => &[Slot::Schema, Slot::TypeWord, Slot::Bag],
+            Verb::Read | Verb::Lax | Verb::Tidy => &[Slot::Schema, Slot::TypeWord, Slot::Bag],
             Verb::Build => &[Slot::Schema, Slot::TypeWord, Slot::Text],
             Verb::View => view_slots(words),
             Verb::Hash => &[Slot::Bag],
@@ -79,6 +83,7 @@ impl Verb {
             Verb::Read => read_in(alloc, Mode::Whole, words, contents),
             Verb::Lax => read_in(alloc, Mode::Lax, words, contents),
             Verb::Build => build_in(alloc, words, contents),
+            Verb::Tidy => tidy_in(alloc, words, contents),
             Verb::View => view_in(alloc, words, contents),
             Verb::Hash => hash(alloc, bytes_at(contents, 0)),
             Verb::Check => check(alloc, bytes_at(contents, 0)),
@@ -144,6 +149,19 @@ fn build_in(alloc: Global, words: &[String], contents: &[Vec<u8>]) -> Result<Vec
     let name = word_at(words, 1);
     let text = bytes_at(contents, 1);
     build(alloc, schema, name, text)
+}
+
+// What `tidy` answers.
+fn tidy_in(alloc: Global, words: &[String], contents: &[Vec<u8>]) -> Result<Vec<u8>, Stop>
+    requires schema { length (at (contents_of contents.now) 0) ≤ 1048576 }
+    requires word { length (at (map string_bytes words.now) 1) ≤ 1048576 }
+    ensures { Answers (Tidies (at (map string_bytes words.now) 1) (at (contents_of contents.now) 0)
+        (at (contents_of contents.now) 1)) text_by result }
+{
+    let schema = bytes_at(contents, 0);
+    let name = word_at(words, 1);
+    let bag = bytes_at(contents, 1);
+    tidy(alloc, schema, name, bag)
 }
 
 // What `view` answers.

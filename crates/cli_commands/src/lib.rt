@@ -9,6 +9,7 @@ mod hash;
 pub mod laws;
 mod read;
 mod slot;
+mod tidy;
 mod view;
 
 pub use commands::Verb;

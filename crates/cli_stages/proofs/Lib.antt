@@ -2,6 +2,7 @@ mod BuiltFacts
 mod Layers
 mod Named
 mod ProofFacts
+mod RebuiltFacts
 mod Shows
 mod StageFacts
 mod Stopped

@@ -3,6 +3,7 @@ pub mod Built
 pub mod Cell
 pub mod Kinds
 pub mod Proof
+pub mod Rebuilt
 pub mod Schema
 pub mod SchemaText
 pub mod Stage

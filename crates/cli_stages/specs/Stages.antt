@@ -10,6 +10,7 @@ use Rattle.cli_stages.specs.Bag.{Bag}
 use Rattle.cli_stages.specs.Built.{Built}
 use Rattle.cli_stages.specs.Cell.{Cell}
 use Rattle.cli_stages.specs.Proof.{Proof}
+use Rattle.cli_stages.specs.Rebuilt.{Rebuilt}
 use Rattle.cli_stages.specs.Schema.{IsWhole, Schema}
 use Rattle.cli_stages.specs.Stage.{IsStage}
 use Rattle.cli_stages.specs.TypeWord.{ShownType, TypeWord}
@@ -21,6 +22,7 @@ pub record Stages : Type 0 where
   pub type_word : (word : Name) (s : SchemaView) → IsStage (TypeWord word s)
   pub bag : (file : List ℕ) → IsStage (Bag file)
   pub value_text : (file : List ℕ) → IsStage (ValueText file)
+  pub rebuilt : (s : SchemaView) (type : ShownType) (v : Plain) → IsStage (Rebuilt s type v)
   -- of a schema that the first stage gives
   pub cell : (mode : Mode) (s : SchemaView) (type : ShownType) (root : Tree) → IsWhole s → IsStage (Cell mode s type root)
   pub proof : (root : Option (List ℕ)) (s : SchemaView) (type : ShownType) (cell : Tree) → IsWhole s

@@ -8,10 +8,11 @@ mod kinds;
 pub mod laws;
 pub mod named_type;
 pub mod proof;
+pub mod rebuilt;
 pub mod schema;
 mod schema_text;
 mod stop;
 mod tags;
-pub mod value_text;
+pub mod text;
 
 pub use stop::Stop;

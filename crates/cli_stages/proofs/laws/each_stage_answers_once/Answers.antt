@@ -1,6 +1,7 @@
 use Rattle.cli_stages.proofs.BuiltFacts.{Buildings, built-stage}
 use Rattle.cli_stages.proofs.Layers.{Bags, Schemas, Texts, Words}
 use Rattle.cli_stages.proofs.ProofFacts.{proof-stage}
+use Rattle.cli_stages.proofs.RebuiltFacts.{rebuilt-stage}
 use Rattle.cli_stages.proofs.StageFacts.{bag-stage, cell-stage, schema-stage, word-stage}
 use Rattle.cli_stages.proofs.ValueTextFacts.{ValueTexts, value-text-stage}
 use Rattle.cli_stages.proofs.Whole.{is-whole}
@@ -56,4 +57,5 @@ returns c =
       proof = proof-stage c.read_or_stuck.ensures;
       value_text = value-text-stage values;
       built = built-stage buildings;
+      rebuilt = rebuilt-stage;
     }
