@@ -6,3 +6,6 @@ returns-in_err-value c = stopped c.in_err-value.ensures c.from_residual.ensures.
 
 pub returns : goal.returns
 returns c = passed c.in_ok-value.ensures c.tidy_value.ensures
+
+pub tidy_value-requires : goal.tidy_value-requires
+tidy_value-requires c = c.in_ok-value.ensures.answer
