@@ -29,7 +29,7 @@ use Rattle.value_grammar.specs.declared.cause.Cause.{Cause as TextCause}
 use Rattle.value_grammar.specs.declared.cause.Cause.TheVariants as texts
 use Rattle.cli_refusals.specs.Shown.{shown_at}
 use Rattle.cli_refusals.specs.declared.proof_lines.ProofCause.{ProofCause}
-use Rattle.cli_refusals.specs.declared.proof_lines.ProofCause.TheVariants.{NotProof, NotWhole, HashDiffers, DepthDiffers, WrongRoot}
+use Rattle.cli_refusals.specs.declared.proof_lines.ProofCause.TheVariants.{NotProof, NotWhole, HashDiffers, DepthDiffers, WrongRoot, ProofTooDeep, ProofTooLarge}
 use Rattle.cli_refusals.specs.declared.refusal.SchemaCause.{SchemaCause}
 use Rattle.cli_refusals.specs.declared.refusal.SchemaCause.TheVariants as schemas
 
@@ -198,6 +198,8 @@ proof_cause NotWhole = codes "NotWhole"
 proof_cause (HashDiffers kept found) = spaced (spaced (codes "HashDiffers") (hash_text kept)) (hash_text found)
 proof_cause (DepthDiffers kept found) = numbered (numbered (codes "DepthDiffers") kept) found
 proof_cause (WrongRoot found) = spaced (codes "WrongRoot") (hash_text found)
+proof_cause ProofTooDeep = codes "ProofTooDeep"
+proof_cause ProofTooLarge = codes "ProofTooLarge"
 
 -- ---- schemas
 

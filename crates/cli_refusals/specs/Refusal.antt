@@ -5,12 +5,12 @@ use Rattle.tlb_edge.specs.Files.{Name}
 use Rattle.spelling.specs.declared.Cause.{Cause}
 use Rattle.type_word.specs.declared.error.TypeError.{TypeError}
 use Rattle.value_grammar.specs.declared.cause.Cause.{Cause as TextCause}
-use Rattle.cli_refusals.specs.Lines.{line_of, spaced, bag_cause, cause_text, proof_cause, schema_cause, text_cause, type_cause}
+use Rattle.cli_refusals.specs.Lines.{line_of, spaced, numbered, bag_cause, cause_text, proof_cause, schema_cause, text_cause, type_cause}
 use Rattle.cli_refusals.specs.declared.proof_lines.ProofCause.{ProofCause}
 use Rattle.cli_refusals.specs.declared.refusal.SchemaCause.{SchemaCause}
 use Rattle.cli_refusals.specs.declared.status.Status.{Status}
 use Rattle.cli_refusals.specs.declared.status.Status.TheVariants.{Done, Usage, ReadFault, TooLong, SchemaRefused, BagRefused}
-use Rattle.cli_refusals.specs.declared.status.Status.TheVariants.{TypeRefused, CellRefused, TextRefused, ValueRefused, ProofRefused}
+use Rattle.cli_refusals.specs.declared.status.Status.TheVariants.{TypeRefused, CellRefused, TextRefused, PathRefused, ValueRefused, ProofRefused}
 
 pub data Refusal : Type 0 where
   usage : Refusal
@@ -22,6 +22,7 @@ pub data Refusal : Type 0 where
   value_text : TextCause → ℕ → Refusal
   proof : ProofCause → Refusal
   cell : List ℕ → Cause → Refusal
+  path : ℕ → Refusal
   unfit : List ℕ → Cause → Refusal
 
 abbrev pub status_of : Refusal → Status
@@ -34,6 +35,7 @@ status_of (bag cause) = BagRefused
 status_of (value_text cause place) = TextRefused
 status_of (proof cause) = ProofRefused
 status_of (cell place cause) = CellRefused
+status_of (path number) = PathRefused
 status_of (unfit place cause) = ValueRefused
 
 -- a refusal in words
@@ -47,6 +49,7 @@ words_of (bag cause) = spaced (codes "bag") (bag_cause cause)
 words_of (value_text cause place) = spaced (codes "text") (text_cause cause place)
 words_of (proof cause) = spaced (codes "proof") (proof_cause cause)
 words_of (cell place cause) = spaced (codes "cell") (spaced place (cause_text cause))
+words_of (path number) = numbered (codes "path") number
 words_of (unfit place cause) = spaced (codes "value") (spaced place (cause_text cause))
 
 abbrev pub refusal_line : Refusal → List ℕ

@@ -1,7 +1,7 @@
 -- A refusal, seen without where it lies in memory.
-use Rattle.cli_refusals.specs.Refusal.{Refusal, usage, unread, too_long, schema, type_word, bag, value_text, proof, cell, unfit}
+use Rattle.cli_refusals.specs.Refusal.{Refusal, usage, unread, too_long, schema, type_word, bag, value_text, proof, cell, path, unfit}
 use Rattle.cli_refusals.specs.declared.refusal.Refusal.{Refusal as Refused}
-use Rattle.cli_refusals.specs.declared.refusal.Refusal.TheVariants.{Usage, ReadFault, TooLong, Schema, TypeWord, Bag, Text, Proof, Cell, Value}
+use Rattle.cli_refusals.specs.declared.refusal.Refusal.TheVariants.{Usage, ReadFault, TooLong, Schema, TypeWord, Bag, Text, Proof, Cell, Path, Value}
 
 abbrev pub refusal_by : Refused → Refusal
 refusal_by Usage = usage
@@ -13,4 +13,5 @@ refusal_by (Bag cause) = bag cause
 refusal_by (Text cause place) = value_text cause place
 refusal_by (Proof cause) = proof cause
 refusal_by (Cell place cause) = cell place.items cause
+refusal_by (Path number) = path number
 refusal_by (Value place cause) = unfit place.items cause

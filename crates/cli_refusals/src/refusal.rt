@@ -5,7 +5,7 @@ ghost use Rattle.cli_refusals.specs.Refusal.{refusal_line, status_of, words_of};
 ghost use Rattle.cli_refusals.specs.View.{refusal_by};
 
 use crate::kind_lines::kind_words;
-use crate::lines::{bag_words, grammar_words, spaced};
+use crate::lines::{bag_words, grammar_words, numbered, spaced};
 use crate::place_lines::cause_words;
 use crate::proof_lines::{ProofCause, proof_words};
 use crate::status::Status;
@@ -42,6 +42,8 @@ pub enum Refusal {
     Text(TextCause, u64),
     Proof(ProofCause),
     Cell(Vec<u8>, Cause),
+    /// The number of a path, from 1.
+    Path(u32),
     Value(Vec<u8>, Cause),
 }
 
@@ -69,6 +71,7 @@ impl Refusal {
             Refusal::Text(_, _) => Status::TextRefused,
             Refusal::Proof(_) => Status::ProofRefused,
             Refusal::Cell(_, _) => Status::CellRefused,
+            Refusal::Path(_) => Status::PathRefused,
             Refusal::Value(_, _) => Status::ValueRefused,
         }
     }
@@ -97,6 +100,7 @@ impl Refusal {
                 b"cell",
                 &spaced(alloc, place, cause_words(*cause))?,
             ),
+            Refusal::Path(number) => numbered(alloc, b"path", u64::from(*number)),
             Refusal::Value(place, cause) => spaced(
                 alloc,
                 b"value",
