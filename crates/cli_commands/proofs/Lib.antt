@@ -1,4 +1,5 @@
 mod Checked
+mod SameBuilds
 mod SameInputs
 mod SameViews
 mod SlotFiles

@@ -3,24 +3,28 @@ use Rattle.std.specs.Prelude.{ℕ, List, [], ◌∷◌, length, Option, None, So
 use Rattle.std.specs.Str.{bytes_eq}
 use Rattle.tlb_edge.specs.Files.{Name}
 use Rattle.cli_refusals.specs.Refusal.{Answer}
+use Rattle.cli_commands.specs.Build.{build}
 use Rattle.cli_commands.specs.Check.{check}
 use Rattle.cli_commands.specs.Command.{Command}
 use Rattle.cli_commands.specs.Hash.{hash}
 use Rattle.cli_commands.specs.Read.{lax, read}
+use Rattle.cli_commands.specs.Tidy.{tidy}
 use Rattle.cli_commands.specs.Views.{view}
 use Rattle.cli_commands.specs.declared.slot.Slot.{Slot}
 use Rattle.cli_commands.specs.declared.commands.Verb.{Verb}
-use Rattle.cli_commands.specs.declared.commands.Verb.TheVariants.{Read, Lax, View, Hash, Check}
+use Rattle.cli_commands.specs.declared.commands.Verb.TheVariants.{Read, Lax, Build, Tidy, View, Hash, Check}
 
 abbrev pub command_of : Verb → Command
 command_of Read = read
 command_of Lax = lax
+command_of Build = build
+command_of Tidy = tidy
 command_of View = view
 command_of Hash = hash
 command_of Check = check
 
 abbrev pub verbs : List Verb
-verbs = Read ∷ Lax ∷ View ∷ Hash ∷ Check ∷ []
+verbs = Read ∷ Lax ∷ Build ∷ Tidy ∷ View ∷ Hash ∷ Check ∷ []
 
 -- ---- what holds of the whole table
 

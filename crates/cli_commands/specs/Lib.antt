@@ -1,3 +1,4 @@
+pub mod Build
 pub mod Check
 pub mod Command
 pub mod Commands
@@ -6,5 +7,6 @@ pub mod Hash
 pub mod Laws
 pub mod Read
 pub mod Slots
+pub mod Tidy
 pub mod View
 pub mod Views

@@ -4,13 +4,14 @@ use Rattle.hex.specs.Hex.{decode_sized}
 use Rattle.hex.specs.declared.error.FromHexError.{FromHexError}
 use Rattle.tlb_edge.specs.Files.{Name}
 use Rattle.cli_commands.specs.declared.slot.Slot.{Slot}
-use Rattle.cli_commands.specs.declared.slot.Slot.TheVariants.{Schema, TypeWord, Bag, RootHash}
+use Rattle.cli_commands.specs.declared.slot.Slot.TheVariants.{Schema, TypeWord, Bag, Text, RootHash}
 
 -- the most bytes of the file that a slot's word names, where it names one
 abbrev pub limit_of : Slot → Option ℕ
 limit_of Schema = Some 1048576
 limit_of TypeWord = None
 limit_of Bag = Some 134217728
+limit_of Text = Some 134217728
 limit_of RootHash = None
 
 -- what was decoded, where it was
@@ -28,6 +29,7 @@ is_formed RootHash word = is_some (root_hash word)
 is_formed Schema word = true
 is_formed TypeWord word = true
 is_formed Bag word = true
+is_formed Text word = true
 
 -- a slot takes a word: one of at most 1,048,576 bytes, in its form
 abbrev pub takes : Slot → Name → Bool

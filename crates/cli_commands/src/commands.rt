@@ -3,18 +3,22 @@ ghost use Rattle.std.specs.Prelude.{◌≡◌, ◌≤◌, length, map, string_by
 ghost use Rattle.tlb_files.specs.Contents.{AreShort};
 ghost use Rattle.tlb_files.specs.View.{contents_of};
 ghost use Rattle.cli_stages.specs.Stage.{Answers};
+ghost use Rattle.cli_commands.specs.Build.{Builds};
 ghost use Rattle.cli_commands.specs.Command.{at};
 ghost use Rattle.cli_commands.specs.Commands.{CommandAnswers, slots_of, verb_of};
 ghost use Rattle.cli_commands.specs.Forms.{are_taken, files_in};
 ghost use Rattle.cli_commands.specs.Read.{Reads};
 ghost use Rattle.cli_commands.specs.Slots.{root_hash as hash_of_word};
+ghost use Rattle.cli_commands.specs.Tidy.{Tidies};
 ghost use Rattle.cli_commands.specs.View.{text_by};
 ghost use Rattle.cli_commands.specs.Views.{Views, view_slots as slots_by_count};
 
+use crate::build::build;
 use crate::check::check;
 use crate::hash::hash;
 use crate::read::read;
 use crate::slot::{Slot, root_hash};
+use crate::tidy::tidy;
 use crate::view::view;
 use cell_nodes::Mode;
 use cli_stages::Stop;
@@ -25,6 +29,8 @@ use std::alloc::Global;
 pub enum Verb {
     Read,
     Lax,
+    Build,
+    Tidy,
     View,
     Hash,
     Check,
@@ -38,6 +44,8 @@ impl Verb {
         match word {
             "read" => Some(Verb::Read),
             "lax" => Some(Verb::Lax),
+            "build" => Some(Verb::Build),
+            "tidy" => Some(Verb::Tidy),
             "view" => Some(Verb::View),
             "hash" => Some(Verb::Hash),
             "check" => Some(Verb::Check),
@@ -50,7 +58,8 @@ impl Verb {
         ensures { result.now ≡ slots_of self (map string_bytes words.now) }
     {
         match self {
-            Verb::Read | Verb::Lax => &[Slot::Schema, Slot::TypeWord, Slot::Bag],
+            Verb::Read | Verb::Lax | Verb::Tidy => &[Slot::Schema, Slot::TypeWord, Slot::Bag],
+            Verb::Build => &[Slot::Schema, Slot::TypeWord, Slot::Text],
             Verb::View => view_slots(words),
             Verb::Hash => &[Slot::Bag],
             Verb::Check => &[Slot::Schema],
@@ -73,6 +82,8 @@ impl Verb {
         match self {
             Verb::Read => read_in(alloc, Mode::Whole, words, contents),
             Verb::Lax => read_in(alloc, Mode::Lax, words, contents),
+            Verb::Build => build_in(alloc, words, contents),
+            Verb::Tidy => tidy_in(alloc, words, contents),
             Verb::View => view_in(alloc, words, contents),
             Verb::Hash => hash(alloc, bytes_at(contents, 0)),
             Verb::Check => check(alloc, bytes_at(contents, 0)),
@@ -125,6 +136,32 @@ fn read_in(
     let word = word_at(words, 1);
     let bag = bytes_at(contents, 1);
     read(alloc, mode, schema, word, bag)
+}
+
+// What `build` answers.
+fn build_in(alloc: Global, words: &[String], contents: &[Vec<u8>]) -> Result<Vec<u8>, Stop>
+    requires schema { length (at (contents_of contents.now) 0) ≤ 1048576 }
+    requires word { length (at (map string_bytes words.now) 1) ≤ 1048576 }
+    ensures { Answers (Builds (at (map string_bytes words.now) 1) (at (contents_of contents.now) 0)
+        (at (contents_of contents.now) 1)) text_by result }
+{
+    let schema = bytes_at(contents, 0);
+    let name = word_at(words, 1);
+    let text = bytes_at(contents, 1);
+    build(alloc, schema, name, text)
+}
+
+// What `tidy` answers.
+fn tidy_in(alloc: Global, words: &[String], contents: &[Vec<u8>]) -> Result<Vec<u8>, Stop>
+    requires schema { length (at (contents_of contents.now) 0) ≤ 1048576 }
+    requires word { length (at (map string_bytes words.now) 1) ≤ 1048576 }
+    ensures { Answers (Tidies (at (map string_bytes words.now) 1) (at (contents_of contents.now) 0)
+        (at (contents_of contents.now) 1)) text_by result }
+{
+    let schema = bytes_at(contents, 0);
+    let name = word_at(words, 1);
+    let bag = bytes_at(contents, 1);
+    tidy(alloc, schema, name, bag)
 }
 
 // What `view` answers.

@@ -1,6 +1,7 @@
 //! The commands: a table of verbs with their slots, and what each answers for words and the bytes of its files.
 #![tactic(auto)]
 
+mod build;
 mod check;
 mod commands;
 mod form;
@@ -8,6 +9,7 @@ mod hash;
 pub mod laws;
 mod read;
 mod slot;
+mod tidy;
 mod view;
 
 pub use commands::Verb;

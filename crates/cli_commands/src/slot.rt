@@ -10,6 +10,7 @@ pub enum Slot {
     Schema,
     TypeWord,
     Bag,
+    Text,
     RootHash,
 }
 
@@ -23,7 +24,7 @@ impl Slot {
         match self {
             Slot::Schema => Some(1_048_576),
             Slot::TypeWord => None,
-            Slot::Bag => Some(134_217_728),
+            Slot::Bag | Slot::Text => Some(134_217_728),
             Slot::RootHash => None,
         }
     }
@@ -40,7 +41,7 @@ impl Slot {
     {
         match self {
             Slot::RootHash => root_hash(word).is_some(),
-            Slot::Schema | Slot::TypeWord | Slot::Bag => true,
+            Slot::Schema | Slot::TypeWord | Slot::Bag | Slot::Text => true,
         }
     }
 }

@@ -25,9 +25,11 @@ use Rattle.core_form.specs.Core.{CoreSchema}
 use Rattle.spelling.specs.Places.{Holder, Spot, root, constructor_of}
 use Rattle.spelling.specs.declared.Cause.{Cause}
 use Rattle.spelling.specs.declared.Cause.TheVariants as why
+use Rattle.value_grammar.specs.declared.cause.Cause.{Cause as TextCause}
+use Rattle.value_grammar.specs.declared.cause.Cause.TheVariants as texts
 use Rattle.cli_refusals.specs.Shown.{shown_at}
 use Rattle.cli_refusals.specs.declared.proof_lines.ProofCause.{ProofCause}
-use Rattle.cli_refusals.specs.declared.proof_lines.ProofCause.TheVariants.{NotProof, NotWhole, HashDiffers, DepthDiffers, WrongRoot}
+use Rattle.cli_refusals.specs.declared.proof_lines.ProofCause.TheVariants.{NotProof, NotWhole, HashDiffers, DepthDiffers, WrongRoot, ProofTooDeep, ProofTooLarge}
 use Rattle.cli_refusals.specs.declared.refusal.SchemaCause.{SchemaCause}
 use Rattle.cli_refusals.specs.declared.refusal.SchemaCause.TheVariants as schemas
 
@@ -139,6 +141,16 @@ type_cause words.TooWide = codes "TooWide"
 type_cause words.BigType = codes "BigType"
 type_cause words.NoMemory = []
 
+-- ---- texts of values
+
+-- the cause of a value text's refusal, and its place
+abbrev pub text_cause : TextCause → ℕ → List ℕ
+text_cause texts.Syntax place = numbered (codes "Syntax") place
+text_cause texts.Range place = numbered (codes "Range") place
+text_cause texts.KeyOrder place = numbered (codes "KeyOrder") place
+text_cause texts.DeepText place = numbered (codes "DeepText") place
+text_cause texts.BulkText place = numbered (codes "BulkText") place
+
 -- ---- places in a value
 
 -- TYPE.CONSTRUCTOR, or root:TYPE where no constructor is around, of this text
@@ -186,6 +198,8 @@ proof_cause NotWhole = codes "NotWhole"
 proof_cause (HashDiffers kept found) = spaced (spaced (codes "HashDiffers") (hash_text kept)) (hash_text found)
 proof_cause (DepthDiffers kept found) = numbered (numbered (codes "DepthDiffers") kept) found
 proof_cause (WrongRoot found) = spaced (codes "WrongRoot") (hash_text found)
+proof_cause ProofTooDeep = codes "ProofTooDeep"
+proof_cause ProofTooLarge = codes "ProofTooLarge"
 
 -- ---- schemas
 

@@ -4,11 +4,13 @@ use Rattle.bag_cells.specs.declared.error.BagError.{BagError}
 use Rattle.tlb_edge.specs.Files.{Name}
 use Rattle.spelling.specs.declared.Cause.{Cause}
 use Rattle.type_word.specs.declared.error.TypeError.{TypeError}
-use Rattle.cli_refusals.specs.Lines.{line_of, spaced, bag_cause, cause_text, proof_cause, schema_cause, type_cause}
+use Rattle.value_grammar.specs.declared.cause.Cause.{Cause as TextCause}
+use Rattle.cli_refusals.specs.Lines.{line_of, spaced, numbered, bag_cause, cause_text, proof_cause, schema_cause, text_cause, type_cause}
 use Rattle.cli_refusals.specs.declared.proof_lines.ProofCause.{ProofCause}
 use Rattle.cli_refusals.specs.declared.refusal.SchemaCause.{SchemaCause}
 use Rattle.cli_refusals.specs.declared.status.Status.{Status}
-use Rattle.cli_refusals.specs.declared.status.Status.TheVariants.{Done, Usage, ReadFault, TooLong, SchemaRefused, BagRefused, TypeRefused, CellRefused, ProofRefused}
+use Rattle.cli_refusals.specs.declared.status.Status.TheVariants.{Done, Usage, ReadFault, TooLong, SchemaRefused, BagRefused}
+use Rattle.cli_refusals.specs.declared.status.Status.TheVariants.{TypeRefused, CellRefused, TextRefused, PathRefused, ValueRefused, ProofRefused}
 
 pub data Refusal : Type 0 where
   usage : Refusal
@@ -17,8 +19,11 @@ pub data Refusal : Type 0 where
   schema : SchemaCause → Refusal
   type_word : TypeError → Refusal
   bag : BagError → Refusal
+  value_text : TextCause → ℕ → Refusal
   proof : ProofCause → Refusal
   cell : List ℕ → Cause → Refusal
+  path : ℕ → Refusal
+  unfit : List ℕ → Cause → Refusal
 
 abbrev pub status_of : Refusal → Status
 status_of usage = Usage
@@ -27,8 +32,11 @@ status_of (too_long name) = TooLong
 status_of (schema cause) = SchemaRefused
 status_of (type_word cause) = TypeRefused
 status_of (bag cause) = BagRefused
+status_of (value_text cause place) = TextRefused
 status_of (proof cause) = ProofRefused
 status_of (cell place cause) = CellRefused
+status_of (path number) = PathRefused
+status_of (unfit place cause) = ValueRefused
 
 -- a refusal in words
 abbrev pub words_of : Refusal → List ℕ
@@ -38,8 +46,11 @@ words_of (too_long name) = spaced (codes "long") name
 words_of (schema cause) = spaced (codes "schema") (schema_cause cause)
 words_of (type_word cause) = spaced (codes "type") (type_cause cause)
 words_of (bag cause) = spaced (codes "bag") (bag_cause cause)
+words_of (value_text cause place) = spaced (codes "text") (text_cause cause place)
 words_of (proof cause) = spaced (codes "proof") (proof_cause cause)
 words_of (cell place cause) = spaced (codes "cell") (spaced place (cause_text cause))
+words_of (path number) = numbered (codes "path") number
+words_of (unfit place cause) = spaced (codes "value") (spaced place (cause_text cause))
 
 abbrev pub refusal_line : Refusal → List ℕ
 refusal_line refusal = line_of (codes "refused: " ++ words_of refusal)

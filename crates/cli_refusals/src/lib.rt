@@ -9,6 +9,7 @@ mod proof_lines;
 mod refusal;
 mod status;
 mod tag_lines;
+mod text_lines;
 mod type_lines;
 
 pub use place_lines::place_words;

@@ -14,6 +14,8 @@ pub enum ProofCause {
     HashDiffers([u8; 32], [u8; 32]),
     DepthDiffers(u16, u16),
     WrongRoot([u8; 32]),
+    ProofTooDeep,
+    ProofTooLarge,
 }
 
 // The 64 digits of a hash.
@@ -48,5 +50,7 @@ pub fn proof_words(alloc: Global, cause: &ProofCause) -> Result<Vec<u8>, NoMemor
         ProofCause::HashDiffers(kept, found) => hashes(alloc, *kept, *found),
         ProofCause::DepthDiffers(kept, found) => depths(alloc, *kept, *found),
         ProofCause::WrongRoot(found) => spaced(alloc, b"WrongRoot", &hash_digits(alloc, *found)?),
+        ProofCause::ProofTooDeep => words(alloc, b"ProofTooDeep"),
+        ProofCause::ProofTooLarge => words(alloc, b"ProofTooLarge"),
     }
 }

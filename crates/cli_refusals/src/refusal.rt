@@ -5,11 +5,12 @@ ghost use Rattle.cli_refusals.specs.Refusal.{refusal_line, status_of, words_of};
 ghost use Rattle.cli_refusals.specs.View.{refusal_by};
 
 use crate::kind_lines::kind_words;
-use crate::lines::{bag_words, grammar_words, spaced};
+use crate::lines::{bag_words, grammar_words, numbered, spaced};
 use crate::place_lines::cause_words;
 use crate::proof_lines::{ProofCause, proof_words};
 use crate::status::Status;
 use crate::tag_lines::tag_words;
+use crate::text_lines::text_words;
 use crate::type_lines::type_words;
 use bag_cells::BagError;
 use field_plan::Cause;
@@ -19,6 +20,7 @@ use tlb_grammar::GrammarError;
 use tlb_kinds::KindError;
 use tlb_memory::NoMemory;
 use type_word::TypeError;
+use value_grammar::Cause as TextCause;
 
 /// Why a schema is refused.
 #[derive(Drop)]
@@ -37,8 +39,12 @@ pub enum Refusal {
     Schema(SchemaCause),
     TypeWord(TypeError),
     Bag(BagError),
+    Text(TextCause, u64),
     Proof(ProofCause),
     Cell(Vec<u8>, Cause),
+    /// The number of a path, from 1.
+    Path(u32),
+    Value(Vec<u8>, Cause),
 }
 
 fn schema_words(alloc: Global, cause: &SchemaCause) -> Result<Vec<u8>, NoMemory>
@@ -62,8 +68,11 @@ impl Refusal {
             Refusal::Schema(_) => Status::SchemaRefused,
             Refusal::TypeWord(_) => Status::TypeRefused,
             Refusal::Bag(_) => Status::BagRefused,
+            Refusal::Text(_, _) => Status::TextRefused,
             Refusal::Proof(_) => Status::ProofRefused,
             Refusal::Cell(_, _) => Status::CellRefused,
+            Refusal::Path(_) => Status::PathRefused,
+            Refusal::Value(_, _) => Status::ValueRefused,
         }
     }
 
@@ -80,10 +89,21 @@ impl Refusal {
             Refusal::Schema(cause) => spaced(alloc, b"schema", &schema_words(alloc, cause)?),
             Refusal::TypeWord(cause) => spaced(alloc, b"type", &type_words(alloc, cause)?),
             Refusal::Bag(error) => spaced(alloc, b"bag", &bag_words(alloc, *error)?),
+            Refusal::Text(cause, place) => spaced(
+                alloc,
+                b"text",
+                &text_words(alloc, *cause, *place)?,
+            ),
             Refusal::Proof(cause) => spaced(alloc, b"proof", &proof_words(alloc, cause)?),
             Refusal::Cell(place, cause) => spaced(
                 alloc,
                 b"cell",
+                &spaced(alloc, place, cause_words(*cause))?,
+            ),
+            Refusal::Path(number) => numbered(alloc, b"path", u64::from(*number)),
+            Refusal::Value(place, cause) => spaced(
+                alloc,
+                b"value",
                 &spaced(alloc, place, cause_words(*cause))?,
             ),
         }

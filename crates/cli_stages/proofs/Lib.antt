@@ -1,7 +1,10 @@
+mod BuiltFacts
 mod Layers
 mod Named
 mod ProofFacts
+mod RebuiltFacts
 mod Shows
 mod StageFacts
 mod Stopped
+mod ValueTextFacts
 mod Whole

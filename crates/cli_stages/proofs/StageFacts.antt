@@ -53,11 +53,11 @@ some-same d e o a b = let same : Some d ≡ Some e = sym a ∙ b in cc
 none-some : {X : Type 0} (d : X) (o : Option X) → o ≡ None → o ≡ Some d → ⊥
 none-some d o a b = let same : None ≡ Some d = sym a ∙ b in grind arith
 
-judged-as : (r s : Refusal) → r ≡ s → IsStageStatus (status_of s) → IsStageStatus (status_of r)
+pub judged-as : (r s : Refusal) → r ≡ s → IsStageStatus (status_of s) → IsStageStatus (status_of r)
 judged-as r s is holds = let P : Refusal → Type 0 = λ x. IsStageStatus (status_of x) in subst P (sym is) holds
 
 -- a stage of one refusal or one result
-stage-once : {X : Type 0} (refuses : Refusal → Type 0) (gives : X → Type 0) → ((r s : Refusal) → refuses r → refuses s → r ≡ s)
+pub stage-once : {X : Type 0} (refuses : Refusal → Type 0) (gives : X → Type 0) → ((r s : Refusal) → refuses r → refuses s → r ≡ s)
     → ((x y : X) → gives x → gives y → x ≡ y) → ((r : Refusal) (x : X) → refuses r → gives x → ⊥) → IsOnce (stage refuses gives)
 stage-once refuses gives one_refusal one_result never_both (Ok x) (Ok y) a b = ap Ok (one_result x y a b)
 stage-once refuses gives one_refusal one_result never_both (Ok x) (Err r) a b = absurd (never_both r x b a)

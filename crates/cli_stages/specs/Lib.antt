@@ -1,7 +1,9 @@
 pub mod Bag
+pub mod Built
 pub mod Cell
 pub mod Kinds
 pub mod Proof
+pub mod Rebuilt
 pub mod Schema
 pub mod SchemaText
 pub mod Stage
@@ -9,4 +11,6 @@ pub mod StageLaws
 pub mod Stages
 pub mod Tags
 pub mod TypeWord
+pub mod ValueText
+pub mod ValueTextLaws
 pub mod View

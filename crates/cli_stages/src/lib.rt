@@ -2,14 +2,17 @@
 #![tactic(auto)]
 
 pub mod bag;
+pub mod built;
 pub mod cell;
 mod kinds;
 pub mod laws;
 pub mod named_type;
 pub mod proof;
+pub mod rebuilt;
 pub mod schema;
 mod schema_text;
 mod stop;
 mod tags;
+pub mod text;
 
 pub use stop::Stop;

@@ -1,6 +1,9 @@
+use Rattle.cli_stages.proofs.BuiltFacts.{Buildings, built-stage}
 use Rattle.cli_stages.proofs.Layers.{Bags, Schemas, Texts, Words}
 use Rattle.cli_stages.proofs.ProofFacts.{proof-stage}
+use Rattle.cli_stages.proofs.RebuiltFacts.{rebuilt-stage}
 use Rattle.cli_stages.proofs.StageFacts.{bag-stage, cell-stage, schema-stage, word-stage}
+use Rattle.cli_stages.proofs.ValueTextFacts.{ValueTexts, value-text-stage}
 use Rattle.cli_stages.proofs.Whole.{is-whole}
 use Rattle.cli_stages.proofs.laws.each_stage_answers_once.Goals as goal
 
@@ -32,6 +35,19 @@ returns c =
       not_both = c.at_most_one.ensures.not_both;
       some = c.at_least_one.ensures;
     } in
+    let values : ValueTexts = record {
+      value = c.at_most_one_value.ensures;
+      refusal = c.at_most_one_refusal.ensures;
+      not_both = c.refused_writes_none.ensures;
+      some = c.value_or_refusal.ensures;
+    } in
+    let buildings : Buildings = record {
+      buildable = c.accepted_is_buildable.ensures;
+      one_tree = c.one_tree.ensures;
+      one_place = c.one_place.ensures;
+      not_both = c.no_tree_where_unfit.ensures;
+      some = c.tree_or_place.ensures;
+    } in
     record {
       schema = schema-stage texts schemas;
       whole = is-whole schemas c.accepted_stays.ensures;
@@ -39,4 +55,7 @@ returns c =
       bag = bag-stage bags;
       cell = cell-stage c.read_or_stuck.ensures;
       proof = proof-stage c.read_or_stuck.ensures;
+      value_text = value-text-stage values;
+      built = built-stage buildings;
+      rebuilt = rebuilt-stage;
     }

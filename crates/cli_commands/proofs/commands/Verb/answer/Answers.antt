@@ -41,3 +41,25 @@ view_in-requires-clause-word c =
 
 pub returns-in-View : goal.returns-in-View
 returns-in-View c = rw (c.in-View.is) c.view_in.ensures
+
+pub build_in-requires-clause-schema : goal.build_in-requires-clause-schema
+build_in-requires-clause-schema c =
+    schema-of c.args.self _ _ (map string_bytes c.args.words.now) (contents_of c.args.contents.now) c.in-Build.is refl c.requires.files
+
+pub build_in-requires-clause-word : goal.build_in-requires-clause-word
+build_in-requires-clause-word c =
+    short-at (slots_of c.args.self (map string_bytes c.args.words.now)) (map string_bytes c.args.words.now) 1 c.requires.words
+
+pub returns-in-Build : goal.returns-in-Build
+returns-in-Build c = rw (c.in-Build.is) c.build_in.ensures
+
+pub tidy_in-requires-clause-schema : goal.tidy_in-requires-clause-schema
+tidy_in-requires-clause-schema c =
+    schema-of c.args.self _ _ (map string_bytes c.args.words.now) (contents_of c.args.contents.now) c.in-Tidy.is refl c.requires.files
+
+pub tidy_in-requires-clause-word : goal.tidy_in-requires-clause-word
+tidy_in-requires-clause-word c =
+    short-at (slots_of c.args.self (map string_bytes c.args.words.now)) (map string_bytes c.args.words.now) 1 c.requires.words
+
+pub returns-in-Tidy : goal.returns-in-Tidy
+returns-in-Tidy c = rw (c.in-Tidy.is) c.tidy_in.ensures

@@ -1,0 +1,15 @@
+pub mod Choosing
+pub mod Declared
+pub mod Fields
+pub mod Leaves
+pub mod Levels
+pub mod Lists
+pub mod Maps
+pub mod Planned
+pub mod Refs
+pub mod Roots
+pub mod Shapes
+pub mod Shown
+pub mod Steps
+pub mod Turned
+pub mod Turning
