@@ -1,7 +1,10 @@
 mod BuiltFacts
 mod Layers
+mod MadeFacts
 mod Named
+mod PathFacts
 mod ProofFacts
+mod ProvesFacts
 mod RebuiltFacts
 mod Shows
 mod StageFacts
