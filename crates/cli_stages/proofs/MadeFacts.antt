@@ -33,7 +33,7 @@ some-path p q o a b = let same : Some p ≡ Some q = sym a ∙ b in cc
 no-path : (o : Option (List Stride)) (p : List Stride) → o ≡ None → o ≡ Some p → ⊥
 no-path o p a b = let same : None ≡ Some p = sym a ∙ b in grind arith
 
-pub all-name : (v : Plain) (words : List Name) (paths : List (List Stride)) → AllChoose v words paths → AllName v paths
+all-name : (v : Plain) (words : List Name) (paths : List (List Stride)) → AllChoose v words paths → AllName v paths
 all-name v [] [] all = λ i p there. absurd (no-path _ p refl there)
 all-name v [] (s ∷ paths) all = absurd all
 all-name v (word ∷ words) [] all = absurd all
@@ -74,9 +74,10 @@ pub record Proofs : Type 0 where
   pub one_reading : ReadOrStuck
   pub laid : LaidIsRead
 
-pub made-stage : Proofs → (s : SchemaView) (type : ShownType) (root : Tree) (paths : List (List Stride)) (v : Plain)
-    → IsWhole s → Reading Whole (cores s) type.closed root v → AllName v paths → IsStage (Made s type root paths)
-made-stage laws s type root paths v whole reading all =
+pub made-stage : Proofs → (s : SchemaView) (type : ShownType) (root : Tree) (words : List Name)
+    (paths : List (List Stride)) (v : Plain) → IsWhole s → Reading Whole (cores s) type.closed root v
+    → AllChoose v words paths → IsStage (Made s type root paths)
+made-stage laws s type root words paths v whole reading all =
     let P : SchemaView → Type 0 = λ x. ExactlyOne (ProveAnswers (cores x) type.closed root paths) in
     let one = subst P whole.kept (laws.one_answer s whole.accepted type.closed root paths) in
     let Q : SchemaView → Type 0 = λ x. spelled.ExactlyOne Whole (cores x) type.closed root in
@@ -91,6 +92,6 @@ made-stage laws s type root paths v whole reading all =
           (λ c d a b. made-same c d a.shown b.shown (one.one _ _ a.answers b.answers))
           (λ r c a b.
           no-cause a.cause (cause_of a.answer) (ap cause_of (one.one a.answer _ a.answers b.answers)) a.is_cause);
-      answered = made-some s type root paths v read laws.laid reading all one.some.0 one.some.1;
+      answered = made-some s type root paths v read laws.laid reading (all-name v words paths all) one.some.0 one.some.1;
       refuses = λ r given. judged-as r _ given.is tt;
     }

@@ -20,7 +20,7 @@ use Rattle.cli_stages.specs.Cell.{Cell}
 use Rattle.cli_stages.specs.Made.{IsMade, Made, RefusesProof}
 use Rattle.cli_stages.specs.PathWords.{AreBegun, Is, answer_for, unless_bad}
 use Rattle.cli_stages.specs.Paths.{AllChoose, Chooses, IsFirstBad, Paths}
-use Rattle.cli_stages.specs.Proves.{Proves}
+use Rattle.cli_stages.specs.ProofOf.{ProofOf}
 use Rattle.cli_stages.specs.Stage.{Answers, IsAnswer, goes_on, stops}
 use Rattle.cli_stages.specs.TypeWord.{ShownType}
 use Rattle.cli_stages.specs.declared.stop.Stop.{Stop}
@@ -49,12 +49,17 @@ nameless-first : OnePath → (first : ℕ) (v : Plain) (words : List Name) (path
 nameless-first one first v words [] bad number index p begun counted there no before = absurd (no-path _ p refl there)
 nameless-first one first v [] (s ∷ paths) bad number index p begun counted there no before = absurd begun
 nameless-first one first v (word ∷ words) (s ∷ paths) bad number zero p begun counted there no before =
-    inl (omega (arith, counted), λ steps c.
-    no (subst (NamesSomething v) (one word steps s c.writes begun.0 ∙ some-path s p (Some s) refl there) c.names))
+    inl (
+      omega (arith, counted),
+      λ steps c.
+          no (subst (NamesSomething v) (one word steps s c.writes begun.0 ∙ some-path s p (Some s) refl there) c.names),
+    )
 nameless-first one first v (word ∷ words) (s ∷ paths) bad number (suc index) p begun counted there no before =
-    inr ((s, record { writes = begun.0; names = before 0 s (omega arith) refl }),
-    nameless-first one (first + 1) v words paths bad number index p begun.1 (omega (arith, counted)) there no
-    (λ j other less at. before (suc j) other (omega (arith, less)) at))
+    inr (
+      (s, record { writes = begun.0; names = before 0 s (omega arith) refl }),
+      nameless-first one (first + 1) v words paths bad number index p begun.1 (omega (arith, counted)) there no
+          (λ j other less at. before (suc j) other (omega (arith, less)) at),
+    )
 
 -- ---- where all paths name something, a bad word is the first
 
@@ -68,8 +73,10 @@ bad-word first v (word ∷ words) [] number begun all =
     some-number : (m n : ℕ) → (◌≡◌ {A = Option ℕ} (Some m) (Some n)) → m ≡ n
     some-number m n same = cc
 bad-word first v (word ∷ words) (s ∷ paths) number begun all =
-    inr ((s, record { writes = begun.0; names = first-named v s paths all }),
-    bad-word (first + 1) v words paths number begun.1 (later-named v s paths all))
+    inr (
+      (s, record { writes = begun.0; names = first-named v s paths all }),
+      bad-word (first + 1) v words paths number begun.1 (later-named v s paths all),
+    )
 
 all-chosen : (first : ℕ) (v : Plain) (words : List Name) (paths : List (List Stride)) → AreBegun first words paths None
     → AllName v paths → AllChoose v words paths
@@ -77,9 +84,10 @@ all-chosen first v [] [] begun all = tt
 all-chosen first v [] (s ∷ paths) begun all = absurd begun
 all-chosen first v (word ∷ words) [] begun all =
     absurd (let same : (◌≡◌ {A = Option ℕ} None (Some first)) = begun.0 in grind arith)
-all-chosen first v (word ∷ words) (s ∷ paths) begun all =
-    (record { writes = begun.0; names = first-named v s paths all },
-    all-chosen (first + 1) v words paths begun.1 (later-named v s paths all))
+all-chosen first v (word ∷ words) (s ∷ paths) begun all = (
+  record { writes = begun.0; names = first-named v s paths all },
+  all-chosen (first + 1) v words paths begun.1 (later-named v s paths all),
+)
 
 -- ---- the answer
 
@@ -91,7 +99,7 @@ read-laid laid s type root r is = (laid (cores s) type.closed root).reads r is
 made-unless : LaidIsRead → (words : List Name) (paths : List (List Stride)) (bad : Option ℕ) (s : SchemaView) (type : ShownType)
     (root : Tree) (r : LaidRoot) → AreBegun 1 words paths bad → LaidReading (cores s) type.closed root r
     → AllName (plain_root r) paths → (made : Result Tree _) → Made s type root paths made
-    → Proves words s type root (unless_bad bad made)
+    → ProofOf words s type root (unless_bad bad made)
 made-unless laid words paths None s type root r begun is all made given =
     goes_on (plain_root r) (read-laid laid s type root r is)
     (goes_on paths (all-chosen 1 (plain_root r) words paths begun all) given)
@@ -101,15 +109,17 @@ made-unless laid words paths (Some number) s type root r begun is all made given
 
 pub proves : LaidIsRead → OnePath → (words : List Name) (paths : List (List Stride)) (bad : Option ℕ) (s : SchemaView)
     (type : ShownType) (root : Tree) → AreBegun 1 words paths bad → (a : ProveAnswer)
-    → ProveAnswers (cores s) type.closed root paths a → Proves words s type root (answer_for s type bad a)
+    → ProveAnswers (cores s) type.closed root paths a → ProofOf words s type root (answer_for s type bad a)
 proves laid one words paths bad s type root begun (stuck_at place) is =
     stops _ (record { place = place; stuck = is; is = refl }) refl
 proves laid one words paths bad s type root begun (no_such_path number) is =
     goes_on (plain_root is.0) (read-laid laid s type root is.0 is.1)
-    (stops (path number)
-    (number,
-    nameless-first one 1 (plain_root is.0) words paths bad number is.2.index is.2.path begun is.2.counted is.2.there
-    is.2.nameless is.2.before, refl)
+    (stops (path number) (
+      number,
+      nameless-first one 1 (plain_root is.0) words paths bad number is.2.index is.2.path begun is.2.counted is.2.there
+          is.2.nameless is.2.before,
+      refl,
+    )
     refl)
 proves laid one words paths bad s type root begun (proved made shown) is =
     made-unless laid words paths bad s type root is.0 begun is.1 is.2.0.named (Ok made) (record { shown = shown; answers = is })
@@ -124,10 +134,10 @@ proves laid one words paths bad s type root begun proof_too_large is =
     (record { answer = proof_too_large; answers = is; cause = _; is_cause = refl; is = refl })
 
 pub proves-as : (words : List Name) (s : SchemaView) (type : ShownType) (root : Tree) (expected : Result Tree _)
-    → Proves words s type root expected → (result : Result Tree Stop) → Answers (Is expected) (λ tree. tree) result
-    → Answers (Proves words s type root) (λ tree. tree) result
+    → ProofOf words s type root expected → (result : Result Tree Stop) → Answers (Is expected) (λ tree. tree) result
+    → Answers (ProofOf words s type root) (λ tree. tree) result
 proves-as words s type root expected holds (Ok tree) given =
-    record { answer = subst (Proves words s type root) (sym given.answer) holds }
+    record { answer = subst (ProofOf words s type root) (sym given.answer) holds }
 proves-as words s type root expected holds (Err (Refused r)) given =
-    record { answer = subst (Proves words s type root) (sym given.answer) holds }
+    record { answer = subst (ProofOf words s type root) (sym given.answer) holds }
 proves-as words s type root expected holds (Err NoMemory) given = record { answer = tt }

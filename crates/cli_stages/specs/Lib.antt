@@ -6,7 +6,8 @@ pub mod Made
 pub mod PathWords
 pub mod Paths
 pub mod Proof
-pub mod Proves
+pub mod ProofOf
+pub mod ProofOf
 pub mod Rebuilt
 pub mod Schema
 pub mod SchemaText

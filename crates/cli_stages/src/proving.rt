@@ -7,7 +7,7 @@ ghost use Rattle.tlb_edge.specs.Files.{Name};
 ghost use Rattle.tlb_syntax.specs.View.{schema as schema_view};
 ghost use Rattle.cli_refusals.specs.Refusal.{Refusal as Refused, path as refused_path};
 ghost use Rattle.cli_stages.specs.PathWords.{AreBegun, Is, unless_bad};
-ghost use Rattle.cli_stages.specs.Proves.{Proves};
+ghost use Rattle.cli_stages.specs.ProofOf.{ProofOf};
 ghost use Rattle.cli_stages.specs.Stage.{Answers, IfRefused};
 ghost use Rattle.cli_stages.specs.View.{type_by};
 
@@ -53,7 +53,7 @@ fn proof_of(
 ) -> Result<Cell, Stop>
     requires { length paths.now ≤ 64 }
     ensures answer { (words : List Name) → AreBegun 1 words (path_views paths.now) bad
-        → Answers (Proves words (schema_view plan.now.0) (type_by ty.now) root.now) (λ tree. tree) result }
+        → Answers (ProofOf words (schema_view plan.now.0) (type_by ty.now) root.now) (λ tree. tree) result }
     ensures small { IfOk result (λ proof. unfolded proof ≤ 262144) }
 {
     // Nothing in it is passed over.
@@ -81,7 +81,7 @@ pub fn proved(
     words: &[String],
 ) -> Result<Cell, Stop>
     requires { length words.now ≤ 64 }
-    ensures answer { Answers (Proves (map string_bytes words.now) (schema_view plan.now.0) (type_by ty.now) root.now)
+    ensures answer { Answers (ProofOf (map string_bytes words.now) (schema_view plan.now.0) (type_by ty.now) root.now)
         (λ tree. tree) result }
     ensures small { IfOk result (λ proof. unfolded proof ≤ 262144) }
 {

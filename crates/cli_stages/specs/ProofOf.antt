@@ -11,8 +11,8 @@ use Rattle.cli_stages.specs.Paths.{Paths}
 use Rattle.cli_stages.specs.Stage.{Next}
 use Rattle.cli_stages.specs.TypeWord.{ShownType}
 
-abbrev pub Proves : List Name → SchemaView → ShownType → Tree → Result Tree Refusal → Type 0
-Proves words s type root =
+abbrev pub ProofOf : List Name → SchemaView → ShownType → Tree → Result Tree Refusal → Type 0
+ProofOf words s type root =
     Next (Cell Whole s type root) (λ v.
     Next (Paths v words) (λ paths.
     Made s type root paths))
