@@ -7,11 +7,11 @@ file, and how the time grows. Ends with status 1 where the ratio of the first me
 two takes more than 12 times the time, or where the memory passes 400 MB. Times are the least of three runs.
 """
 import os
-import subprocess
 import sys
 import tempfile
 
 from cells import bag, edge, number
+from processor_time import spent, spent_and_held
 
 HERE = os.path.dirname(os.path.abspath(__file__))
 PROGRAM = os.path.join(HERE, "..", "crates", "tlb_cli", "out", "tlb_cli")
@@ -43,28 +43,13 @@ def bits(count):
     return number(count, 10) + "10" * (count // 2), []
 
 
-def run(words):
-    """The least processor time of three runs in seconds, and the most memory in kilobytes."""
-    least, most = None, 0
-    for _ in range(3):
-        process = subprocess.Popen([PROGRAM, *words], stdout=subprocess.PIPE)
-        output = process.stdout.read()
-        _, status, usage = os.wait4(process.pid, 0)
-        if os.waitstatus_to_exitcode(status) != 0:
-            raise SystemExit(f"{words}: {output[:200]}")
-        spent = usage.ru_utime + usage.ru_stime
-        least = spent if least is None else min(least, spent)
-        most = max(most, usage.ru_maxrss)
-    return least, most
-
-
 def measured(folder, name, schema, type_word, root):
     path = os.path.join(folder, "bag")
     written = bag(root)
     with open(path, "wb") as out:
         out.write(written)
-    read, memory = run(["read", schema, type_word, path])
-    hashed, _ = run(["hash", path])
+    read, memory = spent_and_held([PROGRAM, "read", schema, type_word, path])
+    hashed = spent([PROGRAM, "hash", path])
     beside = memory / 1024 - len(written) / 2**20
     print(f"{name}: read {read:.3f} s, hash {hashed:.3f} s, ratio {read / hashed:.1f}; {beside:.0f} MB besides the file")
     return read, read / hashed, beside

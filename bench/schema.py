@@ -7,6 +7,9 @@ ring, and types of which each exposes many later ones and the last exposes itsel
 prints its line and its processor time. Then by `check` on schemas whose tags and leads take work: many types, large types with long
 tags and parameters, a chain of empty tags, leads that pass 64 at every second type, and one computed tag of a text of that size. All
 take time in proportion to their size, but for large types, where each two constructors of a type are compared.
+
+Last come schemas that `check` accepts, of many types and fields, by `check` and by `read` at a word for a type: the name of one type,
+a word for a type of 4,095 nodes, and one that is mostly white space. What `read` takes beyond `check` goes to the plan and the word.
 """
 import os
 import resource
@@ -41,12 +44,33 @@ def tag_texts():
     yield "computed tag", "a {" + "0+" * 524_270 + "0 = 0} = T;"
 
 
+def plan_texts():
+    words = {"large types": "T0 1 2 3 4 5 6 7 8", "more than 64 leads": "T122", "computed tag": "T"}
+    for name, text in tag_texts():
+        yield name, text, words.get(name, "T7")
+    for count in (409, 4096):
+        text = "".join(f"a$0 {fields(i, 20, count)} = T{i};\n" for i in range(count))
+        yield f"{count} types of 20 fields", text, "T7"
+        yield f"{count} types of 20 fields, white space", text, "T7" + " " * 100_000
+    text = "b$_ {X:Type} {Y:Type} first:X second:Y = Both X Y;\n" + "".join(f"a$0 = T{i};\n" for i in range(4095))
+    yield "4096 types, 409 nodes", text, pairs(204)
+    yield "4096 types, 4095 nodes", text, pairs(2047)
+
+
+def pairs(count):
+    """A word that applies Both so often: a type of twice as many nodes and one."""
+    if count == 0:
+        return "T4000"
+    left = (count - 1) // 2
+    return f"(Both {pairs(left)} {pairs(count - 1 - left)})"
+
+
 def over_64(i):
     return "".join(f"a{j}${j:07b} = T{i};\n" for j in range(65)) + f"_ x:T{i} = T{i + 1};\n"
 
 
-def fields(i, count):
-    return " ".join(f"f{j}:T{min(i + j + 1, 4095)}" for j in range(count))
+def fields(i, count, types=4096):
+    return " ".join(f"f{j}:T{min(i + j + 1, types - 1)}" for j in range(count))
 
 
 def run(folder, text, words):
@@ -65,6 +89,10 @@ def main():
             for name, text in listed:
                 spent, line = run(folder, text, words)
                 print(f"{words[0]}: {name}, {len(text)} bytes: {spent:.2f} s, {line}")
+        for name, text, word in plan_texts():
+            checked, line = run(folder, text, ["check"])
+            spent, shown = run(folder, text, ["read", word, BAG])
+            print(f"read beyond check: {name}, {len(text)} bytes, a word of {len(word)}: {spent - checked:.2f} s, {line}, {shown[:60]}")
 
 
 if __name__ == "__main__":

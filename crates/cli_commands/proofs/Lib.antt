@@ -1,4 +1,6 @@
 mod Checked
 mod SameInputs
+mod SameViews
+mod SlotFiles
 mod Slots
 mod Words

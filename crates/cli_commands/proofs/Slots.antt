@@ -45,7 +45,7 @@ pub none-left : (slots : List Slot) (words : List Name) (place : ℕ) → length
 none-left slots words place all_slots all_words =
     ap (λ xs. are_taken xs (drop place words)) (drop_of_length-le slots all_slots) ∙ ap (are_taken []) (drop_of_length-le words all_words)
 
-word-at : (words : List (String Global)) (place : ℕ) (x : String Global) → x ≡ get_or words place x → get_or (map string_bytes words) place (string_bytes x) ≡ string_bytes x
+pub word-at : (words : List (String Global)) (place : ℕ) (x : String Global) → x ≡ get_or words place x → get_or (map string_bytes words) place (string_bytes x) ≡ string_bytes x
 word-at words place x is = get_or-map string_bytes words place x ∙ ap string_bytes (sym is)
 
 -- the slot at a place, its word, and the others

@@ -1,15 +1,16 @@
 -- A word that a slot takes is short, and so is a schema.
-use Rattle.std.proofs.Common.{◌≡◌, ◌≤◌, refl, subst, zero, suc, arith, ℕ, Bool, true, false, List, [], ◌∷◌, length, ◌&&◌}
-use Rattle.std.specs.Prelude.{nat_lt, not}
+use Rattle.std.proofs.Common.{◌≡◌, ◌≤◌, ◌<◌, refl, subst, zero, suc, arith, ℕ, Bool, true, false, List, [], ◌∷◌, length, ◌&&◌}
+use Rattle.std.specs.Prelude.{nat_lt, not, if◌then◌else◌}
 use Rattle.tlb_edge.specs.Files.{Name}
 use Rattle.tlb_files.specs.Contents.{AreShort}
 use Rattle.cli_commands.specs.Command.{at}
-use Rattle.cli_commands.specs.Commands.{command_of}
+use Rattle.cli_commands.specs.Commands.{slots_of}
 use Rattle.cli_commands.specs.Forms.{are_taken, files_in}
 use Rattle.cli_commands.specs.Slots.{takes}
+use Rattle.cli_commands.specs.Views.{view_slots}
 use Rattle.cli_commands.specs.declared.commands.Verb.{Verb}
 use Rattle.cli_commands.specs.declared.slot.Slot.{Slot}
-use Rattle.cli_commands.specs.declared.slot.Slot.TheVariants.{Schema}
+use Rattle.cli_commands.specs.declared.slot.Slot.TheVariants.{Schema, TypeWord, Bag, RootHash}
 
 first-of : (a b : Bool) → (a && b) ≡ true → a ≡ true
 first-of true b is = cc
@@ -20,7 +21,7 @@ rest-of true b is = is
 rest-of false b is = cc
 
 taken-short : (slot : Slot) (word : Name) → takes slot word ≡ true → length word ≤ 1048576
-taken-short slot word is = cases (nat_lt 1048576 (length word)) refl is
+taken-short slot word is = cases (nat_lt 1048576 (length word)) refl (first-of _ _ is)
   where
     cases : (b : Bool) → nat_lt 1048576 (length word) ≡ b → not b ≡ true → length word ≤ 1048576
     cases true e h = cc
@@ -43,9 +44,39 @@ schema-short slots (word ∷ words) (bytes ∷ contents) short = short.0
 
 -- that of a command of which a first slot is a schema's
 pub schema-of : (verb same : Verb) (slots : List Slot) (words : List Name) (contents : List (List ℕ)) → verb ≡ same
-    → (command_of same).slots ≡ Schema ∷ slots → AreShort (files_in (command_of verb).slots words) contents
+    → slots_of same words ≡ Schema ∷ slots → AreShort (files_in (slots_of verb words) words) contents
     → length (at contents 0) ≤ 1048576
 schema-of verb same slots words contents is first short =
-    let P : Verb → Type 0 = λ v. AreShort (files_in (command_of v).slots words) contents in
+    let P : Verb → Type 0 = λ v. AreShort (files_in (slots_of v words) words) contents in
     let Q : List Slot → Type 0 = λ s. AreShort (files_in s words) contents in
     schema-short slots words contents (subst Q first (subst P is short))
+
+-- the first slot of `view` is a schema's, with a root hash and without
+pub view-first : (count : ℕ) → (slots : List Slot) × (view_slots count ≡ Schema ∷ slots)
+view-first count = go (nat_lt 3 count)
+  where
+    go : (more : Bool) → (slots : List Slot)
+        × ((if more then Schema ∷ TypeWord ∷ Bag ∷ RootHash ∷ [] else Schema ∷ TypeWord ∷ Bag ∷ []) ≡ Schema ∷ slots)
+    go true = (TypeWord ∷ Bag ∷ RootHash ∷ [], refl)
+    go false = (TypeWord ∷ Bag ∷ [], refl)
+
+-- the slots of `view` where there are more than three words, and where there are not
+abbrev with_root : List Slot
+with_root = Schema ∷ TypeWord ∷ Bag ∷ RootHash ∷ []
+
+abbrev without_root : List Slot
+without_root = Schema ∷ TypeWord ∷ Bag ∷ []
+
+pub view-long : (n m : ℕ) → m ≡ n → 3 < n → view_slots m ≡ with_root
+view-long n m same more = go (nat_lt 3 m) refl
+  where
+    go : (b : Bool) → nat_lt 3 m ≡ b → (if b then with_root else without_root) ≡ with_root
+    go true e = refl
+    go false e = absurd (grind (arith, e, same, more))
+
+pub view-short : (n m : ℕ) → m ≡ n → n ≤ 3 → view_slots m ≡ without_root
+view-short n m same few = go (nat_lt 3 m) refl
+  where
+    go : (b : Bool) → nat_lt 3 m ≡ b → (if b then with_root else without_root) ≡ without_root
+    go true e = absurd (grind (arith, e, same, few))
+    go false e = refl

@@ -35,7 +35,7 @@ ChecksAccepted =
 abbrev pub check : Command
 check = record {
   word = codes "check";
-  slots = SchemaSlot ∷ [];
+  slots = λ count. SchemaSlot ∷ [];
   Answers = λ words contents. Checks (at contents 0);
   answers_once = λ stages words contents. checks_once stages (at contents 0);
 }

@@ -6,11 +6,11 @@ use Rattle.cli_stages.specs.Stage.{IsStage}
 use Rattle.cli_stages.specs.Stages.{Stages}
 use Rattle.cli_commands.specs.declared.slot.Slot.{Slot}
 
--- its first word, the slots of the words after it, what it answers for those words and the bytes of its files, and that
--- it comes to exactly one answer, since its stages do
+-- its first word, the slots of the words after it by how many there are, what it answers for those words and the bytes of
+-- its files, and that it comes to exactly one answer, since its stages do
 pub record Command : Type 1 where
   pub word : Name
-  pub slots : List Slot
+  pub slots : ℕ → List Slot
   pub Answers : List Name → List (List ℕ) → Answer → Type 0
   pub answers_once : Stages → (words contents : List (List ℕ)) → IsStage (Answers words contents)
 

@@ -1,5 +1,5 @@
 -- The table of commands. This project's own.
-use Rattle.std.specs.Prelude.{ℕ, List, [], ◌∷◌, Option, None, Some, if◌then◌else◌}
+use Rattle.std.specs.Prelude.{ℕ, List, [], ◌∷◌, length, Option, None, Some, if◌then◌else◌}
 use Rattle.std.specs.Str.{bytes_eq}
 use Rattle.tlb_edge.specs.Files.{Name}
 use Rattle.cli_refusals.specs.Refusal.{Answer}
@@ -7,17 +7,20 @@ use Rattle.cli_commands.specs.Check.{check}
 use Rattle.cli_commands.specs.Command.{Command}
 use Rattle.cli_commands.specs.Hash.{hash}
 use Rattle.cli_commands.specs.Read.{lax, read}
+use Rattle.cli_commands.specs.Views.{view}
+use Rattle.cli_commands.specs.declared.slot.Slot.{Slot}
 use Rattle.cli_commands.specs.declared.commands.Verb.{Verb}
-use Rattle.cli_commands.specs.declared.commands.Verb.TheVariants.{Read, Lax, Hash, Check}
+use Rattle.cli_commands.specs.declared.commands.Verb.TheVariants.{Read, Lax, View, Hash, Check}
 
 abbrev pub command_of : Verb → Command
 command_of Read = read
 command_of Lax = lax
+command_of View = view
 command_of Hash = hash
 command_of Check = check
 
 abbrev pub verbs : List Verb
-verbs = Read ∷ Lax ∷ Hash ∷ Check ∷ []
+verbs = Read ∷ Lax ∷ View ∷ Hash ∷ Check ∷ []
 
 -- ---- what holds of the whole table
 
@@ -28,6 +31,10 @@ verb_among (verb ∷ verbs) word = if bytes_eq word (command_of verb).word then 
 
 abbrev pub verb_of : Name → Option Verb
 verb_of word = verb_among verbs word
+
+-- the slots of the words after a verb
+abbrev pub slots_of : Verb → List Name → List Slot
+slots_of verb words = (command_of verb).slots (length words)
 
 -- what a command answers for the words in its slots and the bytes of its files
 abbrev pub CommandAnswers : Verb → List Name → List (List ℕ) → Answer → Type 0

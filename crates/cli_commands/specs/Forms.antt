@@ -2,7 +2,7 @@
 use Rattle.std.specs.Prelude.{◌&&◌, Bool, true, false, ℕ, List, [], ◌∷◌, Option, None, Some, if◌then◌else◌, All, IsSome}
 use Rattle.tlb_edge.specs.Files.{Name, Files, file_at}
 use Rattle.tlb_files.specs.Counts.{FileName}
-use Rattle.cli_commands.specs.Commands.{command_of, verb_of}
+use Rattle.cli_commands.specs.Commands.{slots_of, verb_of}
 use Rattle.cli_commands.specs.Slots.{limit_of, takes}
 use Rattle.cli_commands.specs.declared.commands.Verb.{Verb}
 use Rattle.cli_commands.specs.declared.slot.Slot.{Slot}
@@ -22,7 +22,7 @@ are_taken (slot ∷ slots) (word ∷ words) = takes slot word && are_taken slots
 abbrev pub form_with : Option Verb → List Name → Option Form
 form_with None words = None
 form_with (Some verb) words =
-    if are_taken (command_of verb).slots words then Some (record { verb = verb; words = words }) else None
+    if are_taken (slots_of verb words) words then Some (record { verb = verb; words = words }) else None
 
 -- the command form that the words of a command line are, if they are one
 abbrev pub form_of : List Name → Option Form
@@ -43,7 +43,7 @@ files_in (slot ∷ slots) (word ∷ words) = named (limit_of slot) word (files_i
 -- the files of a command, in the order in which they are loaded
 abbrev pub files_of : Option Form → List FileName
 files_of None = []
-files_of (Some form) = files_in (command_of form.verb).slots form.words
+files_of (Some form) = files_in (slots_of form.verb form.words) form.words
 
 -- each file of a command is held
 abbrev pub HoldsAll : Files → List FileName → Type 0

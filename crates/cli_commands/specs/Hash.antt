@@ -32,7 +32,7 @@ hashes_once stages bag = next-stage (stages.bag bag) (λ root given. last-stage 
 abbrev pub hash : Command
 hash = record {
   word = codes "hash";
-  slots = Bag ∷ [];
+  slots = λ count. Bag ∷ [];
   Answers = λ words contents. Hashes (at contents 0);
   answers_once = λ stages words contents. hashes_once stages (at contents 0);
 }

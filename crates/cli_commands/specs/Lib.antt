@@ -7,3 +7,4 @@ pub mod Laws
 pub mod Read
 pub mod Slots
 pub mod View
+pub mod Views

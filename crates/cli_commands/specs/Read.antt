@@ -49,7 +49,7 @@ read_slots = SchemaSlot ∷ TypeWord ∷ Bag ∷ []
 abbrev pub read : Command
 read = record {
   word = codes "read";
-  slots = read_slots;
+  slots = λ count. read_slots;
   Answers = λ words contents. Reads Whole (at words 1) (at contents 0) (at contents 1);
   answers_once = λ stages words contents. reads_once stages Whole (at words 1) (at contents 0) (at contents 1);
 }
@@ -58,7 +58,7 @@ read = record {
 abbrev pub lax : Command
 lax = record {
   word = codes "lax";
-  slots = read_slots;
+  slots = λ count. read_slots;
   Answers = λ words contents. Reads Lax (at words 1) (at contents 0) (at contents 1);
   answers_once = λ stages words contents. reads_once stages Lax (at words 1) (at contents 0) (at contents 1);
 }

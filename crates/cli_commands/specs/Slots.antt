@@ -1,15 +1,34 @@
 -- The slots of a command: what the words after its verb are. This project's own.
-use Rattle.std.specs.Prelude.{ℕ, Bool, Option, None, Some, length, nat_lt, not}
+use Rattle.std.specs.Prelude.{ℕ, Bool, true, ◌&&◌, List, Option, None, Some, Result, Ok, Err, is_some, length, nat_lt, not}
+use Rattle.hex.specs.Hex.{decode_sized}
+use Rattle.hex.specs.declared.error.FromHexError.{FromHexError}
 use Rattle.tlb_edge.specs.Files.{Name}
 use Rattle.cli_commands.specs.declared.slot.Slot.{Slot}
-use Rattle.cli_commands.specs.declared.slot.Slot.TheVariants.{Schema, TypeWord, Bag}
+use Rattle.cli_commands.specs.declared.slot.Slot.TheVariants.{Schema, TypeWord, Bag, RootHash}
 
 -- the most bytes of the file that a slot's word names, where it names one
 abbrev pub limit_of : Slot → Option ℕ
 limit_of Schema = Some 1048576
 limit_of TypeWord = None
 limit_of Bag = Some 134217728
+limit_of RootHash = None
 
--- a slot takes a word: one of at most 1,048,576 bytes
+-- what was decoded, where it was
+abbrev pub decoded : Result (List ℕ) FromHexError → Option (List ℕ)
+decoded (Ok bytes) = Some bytes
+decoded (Err error) = None
+
+-- the hash that a word of 64 hexadecimal digits of either case writes
+abbrev pub root_hash : Name → Option (List ℕ)
+root_hash word = decoded (decode_sized word 32)
+
+-- the word has the form that the slot asks of it
+abbrev pub is_formed : Slot → Name → Bool
+is_formed RootHash word = is_some (root_hash word)
+is_formed Schema word = true
+is_formed TypeWord word = true
+is_formed Bag word = true
+
+-- a slot takes a word: one of at most 1,048,576 bytes, in its form
 abbrev pub takes : Slot → Name → Bool
-takes slot word = not (nat_lt 1048576 (length word))
+takes slot word = not (nat_lt 1048576 (length word)) && is_formed slot word

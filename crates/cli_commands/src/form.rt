@@ -1,8 +1,9 @@
 //! The command forms.
-ghost use Rattle.std.specs.Prelude.{◌≡◌, IfOk, IfSome, Some, map, string_bytes};
+ghost use Rattle.std.specs.Prelude.{◌≡◌, ◌++◌, [], IfOk, IfSome, Some, map, string_bytes};
 ghost use Rattle.std.specs.Option.{option_map};
 ghost use Rattle.tlb_files.specs.View.{files_by};
-ghost use Rattle.cli_commands.specs.Forms.{are_taken as taken, files_of, form_of};
+ghost use Rattle.cli_commands.specs.Forms.{are_taken as taken, files_of, form_of, named};
+ghost use Rattle.cli_commands.specs.Slots.{limit_of};
 ghost use Rattle.cli_commands.specs.View.{IsTaken, form_by};
 
 use crate::commands::Verb;
@@ -26,6 +27,18 @@ fn are_taken(slots: &[Slot], words: &[String]) -> bool
     true
 }
 
+// Puts the file that the slot's word names, where it names one.
+fn push_named<'a>(files: &mut Vec<File<'a>>, slot: Slot, word: &'a str) -> Result<(), NoMemory>
+    ensures { IfOk result (λ u. files_by files.new.items ≡ files_by files.old.items ++ named (limit_of slot) word.now []) }
+{
+    if let Some(limit) = slot.limit() {
+        files
+            .push(File { name: word, limit })
+            .map_err(AllocError::from)?;
+    }
+    Ok(())
+}
+
 /// A command, and the words in its slots.
 #[derive(Clone, Copy)]
 pub struct Form<'a> {
@@ -44,7 +57,7 @@ impl<'a> Form<'a> {
             return None;
         };
         let verb = Verb::of(first.as_str())?;
-        if are_taken(verb.slots(), words) {
+        if are_taken(verb.slots(words), words) {
             Some(Form { verb, words })
         } else {
             None
@@ -56,14 +69,9 @@ impl<'a> Form<'a> {
         ensures { IfOk result (λ files. files_by files.items ≡ files_of (Some (form_by self.now))) }
     {
         let mut files = Vec::new(alloc);
-        'slots: for (place, slot) in self.verb.slots().iter().enumerate() {
-            if let (Some(limit), Some(word)) = (slot.limit(), self.words.get(place)) {
-                files
-                    .push(File {
-                        name: word.as_str(),
-                        limit,
-                    })
-                    .map_err(AllocError::from)?;
+        'slots: for (place, slot) in self.verb.slots(self.words).iter().enumerate() {
+            if let Some(word) = self.words.get(place) {
+                push_named(&mut files, *slot, word.as_str())?;
             }
         }
         Ok(files)

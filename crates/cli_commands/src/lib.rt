@@ -8,6 +8,7 @@ mod hash;
 pub mod laws;
 mod read;
 mod slot;
+mod view;
 
 pub use commands::Verb;
 pub use form::Form;

@@ -22,7 +22,7 @@ use typed_value::Value;
 use value_text::print;
 
 // The value's text and a line feed.
-fn value_line(alloc: Global, shown: &Value) -> Result<Vec<u8>, NoMemory>
+pub(crate) fn value_line(alloc: Global, shown: &Value) -> Result<Vec<u8>, NoMemory>
     ensures { IfOk result (λ text. text.items ≡ line_of (text_of (value shown.now))) }
 {
     let mut text = print(alloc, shown)?;

@@ -1,6 +1,8 @@
 //! The slots of a command.
 ghost use Rattle.std.specs.Prelude.{◌≡◌};
-ghost use Rattle.cli_commands.specs.Slots.{limit_of, takes};
+ghost use Rattle.cli_commands.specs.Slots.{is_formed, limit_of, root_hash as hash_of_word, takes};
+
+use hex::FromHex;
 
 /// What a word after the verb is.
 #[derive(Clone, Copy, Debug, PartialEq, Eq)]
@@ -8,6 +10,7 @@ pub enum Slot {
     Schema,
     TypeWord,
     Bag,
+    RootHash,
 }
 
 const WORD_LIMIT: usize = 1_048_576;
@@ -21,6 +24,7 @@ impl Slot {
             Slot::Schema => Some(1_048_576),
             Slot::TypeWord => None,
             Slot::Bag => Some(134_217_728),
+            Slot::RootHash => None,
         }
     }
 
@@ -28,6 +32,25 @@ impl Slot {
     pub fn takes(self, word: &str) -> bool
         ensures { result ≡ takes self word.now }
     {
-        word.len() <= WORD_LIMIT
+        word.len() <= WORD_LIMIT && self.is_formed(word)
+    }
+
+    fn is_formed(self, word: &str) -> bool
+        ensures { result ≡ is_formed self word.now }
+    {
+        match self {
+            Slot::RootHash => root_hash(word).is_some(),
+            Slot::Schema | Slot::TypeWord | Slot::Bag => true,
+        }
+    }
+}
+
+/// The hash that a word of 64 hexadecimal digits writes.
+pub fn root_hash(word: &str) -> Option<[u8; 32]>
+    ensures { result ≡ hash_of_word word.now }
+{
+    match <[u8; 32]>::from_hex(word) {
+        Ok(hash) => Some(hash),
+        Err(_) => None,
     }
 }

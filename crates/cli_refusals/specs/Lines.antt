@@ -26,6 +26,8 @@ use Rattle.spelling.specs.Places.{Holder, Spot, root, constructor_of}
 use Rattle.spelling.specs.declared.Cause.{Cause}
 use Rattle.spelling.specs.declared.Cause.TheVariants as why
 use Rattle.cli_refusals.specs.Shown.{shown_at}
+use Rattle.cli_refusals.specs.declared.proof_lines.ProofCause.{ProofCause}
+use Rattle.cli_refusals.specs.declared.proof_lines.ProofCause.TheVariants.{NotProof, NotWhole, HashDiffers, DepthDiffers, WrongRoot}
 use Rattle.cli_refusals.specs.declared.refusal.SchemaCause.{SchemaCause}
 use Rattle.cli_refusals.specs.declared.refusal.SchemaCause.TheVariants as schemas
 
@@ -170,6 +172,20 @@ cause_text why.AfterRest = codes "AfterRest"
 cause_text why.Full = codes "Full"
 cause_text why.TooDeep = codes "TooDeep"
 cause_text why.Sprawl = codes "Sprawl"
+
+-- ---- proofs
+
+-- a hash: 64 digits, lower case
+abbrev pub hash_text : List ℕ → List ℕ
+hash_text hash = encode_lower hash
+
+-- the cause of a proof's refusal: the hashes or depths that it stores, and those that its child has
+abbrev pub proof_cause : ProofCause → List ℕ
+proof_cause NotProof = codes "NotProof"
+proof_cause NotWhole = codes "NotWhole"
+proof_cause (HashDiffers kept found) = spaced (spaced (codes "HashDiffers") (hash_text kept)) (hash_text found)
+proof_cause (DepthDiffers kept found) = numbered (numbered (codes "DepthDiffers") kept) found
+proof_cause (WrongRoot found) = spaced (codes "WrongRoot") (hash_text found)
 
 -- ---- schemas
 

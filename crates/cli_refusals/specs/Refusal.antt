@@ -4,10 +4,11 @@ use Rattle.bag_cells.specs.declared.error.BagError.{BagError}
 use Rattle.tlb_edge.specs.Files.{Name}
 use Rattle.spelling.specs.declared.Cause.{Cause}
 use Rattle.type_word.specs.declared.error.TypeError.{TypeError}
-use Rattle.cli_refusals.specs.Lines.{line_of, spaced, bag_cause, cause_text, schema_cause, type_cause}
+use Rattle.cli_refusals.specs.Lines.{line_of, spaced, bag_cause, cause_text, proof_cause, schema_cause, type_cause}
+use Rattle.cli_refusals.specs.declared.proof_lines.ProofCause.{ProofCause}
 use Rattle.cli_refusals.specs.declared.refusal.SchemaCause.{SchemaCause}
 use Rattle.cli_refusals.specs.declared.status.Status.{Status}
-use Rattle.cli_refusals.specs.declared.status.Status.TheVariants.{Done, Usage, ReadFault, TooLong, SchemaRefused, BagRefused, TypeRefused, CellRefused}
+use Rattle.cli_refusals.specs.declared.status.Status.TheVariants.{Done, Usage, ReadFault, TooLong, SchemaRefused, BagRefused, TypeRefused, CellRefused, ProofRefused}
 
 pub data Refusal : Type 0 where
   usage : Refusal
@@ -16,6 +17,7 @@ pub data Refusal : Type 0 where
   schema : SchemaCause → Refusal
   type_word : TypeError → Refusal
   bag : BagError → Refusal
+  proof : ProofCause → Refusal
   cell : List ℕ → Cause → Refusal
 
 abbrev pub status_of : Refusal → Status
@@ -25,6 +27,7 @@ status_of (too_long name) = TooLong
 status_of (schema cause) = SchemaRefused
 status_of (type_word cause) = TypeRefused
 status_of (bag cause) = BagRefused
+status_of (proof cause) = ProofRefused
 status_of (cell place cause) = CellRefused
 
 -- a refusal in words
@@ -35,6 +38,7 @@ words_of (too_long name) = spaced (codes "long") name
 words_of (schema cause) = spaced (codes "schema") (schema_cause cause)
 words_of (type_word cause) = spaced (codes "type") (type_cause cause)
 words_of (bag cause) = spaced (codes "bag") (bag_cause cause)
+words_of (proof cause) = spaced (codes "proof") (proof_cause cause)
 words_of (cell place cause) = spaced (codes "cell") (spaced place (cause_text cause))
 
 abbrev pub refusal_line : Refusal → List ℕ

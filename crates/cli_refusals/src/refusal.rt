@@ -7,6 +7,7 @@ ghost use Rattle.cli_refusals.specs.View.{refusal_by};
 use crate::kind_lines::kind_words;
 use crate::lines::{bag_words, grammar_words, spaced};
 use crate::place_lines::cause_words;
+use crate::proof_lines::{ProofCause, proof_words};
 use crate::status::Status;
 use crate::tag_lines::tag_words;
 use crate::type_lines::type_words;
@@ -36,6 +37,7 @@ pub enum Refusal {
     Schema(SchemaCause),
     TypeWord(TypeError),
     Bag(BagError),
+    Proof(ProofCause),
     Cell(Vec<u8>, Cause),
 }
 
@@ -60,6 +62,7 @@ impl Refusal {
             Refusal::Schema(_) => Status::SchemaRefused,
             Refusal::TypeWord(_) => Status::TypeRefused,
             Refusal::Bag(_) => Status::BagRefused,
+            Refusal::Proof(_) => Status::ProofRefused,
             Refusal::Cell(_, _) => Status::CellRefused,
         }
     }
@@ -77,6 +80,7 @@ impl Refusal {
             Refusal::Schema(cause) => spaced(alloc, b"schema", &schema_words(alloc, cause)?),
             Refusal::TypeWord(cause) => spaced(alloc, b"type", &type_words(alloc, cause)?),
             Refusal::Bag(error) => spaced(alloc, b"bag", &bag_words(alloc, *error)?),
+            Refusal::Proof(cause) => spaced(alloc, b"proof", &proof_words(alloc, cause)?),
             Refusal::Cell(place, cause) => spaced(
                 alloc,
                 b"cell",

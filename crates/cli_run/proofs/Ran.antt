@@ -13,7 +13,7 @@ use Rattle.cli_commands.specs.Forms.{Form, files_of, form_of}
 use Rattle.cli_commands.specs.Laws.{EachCommandAnswersOnce}
 use Rattle.cli_run.specs.Outcome.{FormAnswers, IsOutcome, LoadingAnswers}
 use Rattle.cli_run.specs.Ran.{Answered, failed, longer, judged, Faults, Ran, put, unput, out_of_memory, PutsOutcome, IsJudged, IsLoaded, IsPut, IsRefusal, IsRefusalLine, OpensSome}
-use Rattle.cli_refusals.specs.Refusal.{Answer, Verdict, usage, unread, schema, type_word, bag, cell, too_long as long_refusal, refusal_line, verdict_of, words_of}
+use Rattle.cli_refusals.specs.Refusal.{Answer, Verdict, usage, unread, schema, type_word, bag, proof, cell, too_long as long_refusal, refusal_line, verdict_of, words_of}
 use Rattle.cli_refusals.specs.declared.status.Status.{Status}
 use Rattle.cli_refusals.specs.declared.status.Status.TheVariants.{Usage, ReadFault, WriteFault, TooLong, NoMemory}
 
@@ -27,6 +27,7 @@ answer-put (Err (long_refusal name)) = tt
 answer-put (Err (schema cause)) = tt
 answer-put (Err (type_word cause)) = tt
 answer-put (Err (bag cause)) = tt
+answer-put (Err (proof cause)) = tt
 answer-put (Err (cell place cause)) = tt
 
 answer-line : (a : Answer) → IsRefusal (verdict_of a).status → IsRefusalLine (verdict_of a).text

@@ -1,6 +1,7 @@
 pub mod Bag
 pub mod Cell
 pub mod Kinds
+pub mod Proof
 pub mod Schema
 pub mod SchemaText
 pub mod Stage

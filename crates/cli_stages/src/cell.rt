@@ -20,7 +20,7 @@ use typed_reader::{ReadError, read};
 use typed_value::Value;
 
 // The refusal at a place.
-fn refused(alloc: Global, plan: &Plan, ty: &ShownType, place: &Place) -> Stop
+pub(crate) fn refused(alloc: Global, plan: &Plan, ty: &ShownType, place: &Place) -> Stop
     ensures { IfRefused (λ r. r ≡ cell (spot_text (cores (schema_view plan.now.0)) (type_by ty.now).text
         (place_view place.now).spot) (place_view place.now).cause) result }
 {

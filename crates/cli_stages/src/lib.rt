@@ -6,6 +6,7 @@ pub mod cell;
 mod kinds;
 pub mod laws;
 pub mod named_type;
+pub mod proof;
 pub mod schema;
 mod schema_text;
 mod stop;

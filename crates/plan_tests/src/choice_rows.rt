@@ -2,7 +2,7 @@
 //! worked out by hand; constructors are numbered from 0 in the order of the text.
 use crate::texts::plan;
 use bit_slice::{BitString, Name, is_name};
-use field_plan::{ClosedArg, ClosedType, Plan, TypeError, resolve};
+use field_plan::{ClosedArg, ClosedType, Plan, resolve};
 use sqlite_items::Items;
 use std::alloc::Global;
 use std::process::Abort;
@@ -121,14 +121,5 @@ fn an_unnamed_constructor_is_shown_by_its_place(rt: HostRuntime) {
         let of = name(&rt, rt.alloc(), of);
         let found = plan.shown(&of, *number).map(|name| name.text());
         assert!(rt; found == wanted.map(|text| text.as_bytes()), "at {number}");
-    }
-}
-
-#[test]
-fn a_word_without_a_type_is_refused_by_its_name(rt: HostRuntime) {
-    let plan = plan(&rt, rt.alloc(), "unit$_ = Unit;");
-    match resolve(rt.alloc(), &plan, "Nope") {
-        Err(TypeError::UnknownType(name)) => assert!(rt; name.text() == b"Nope".as_slice()),
-        _ => assert!(rt; false),
     }
 }

@@ -1,4 +1,4 @@
-//! Tests of the plan and of words for types.
+//! Tests of the plan.
 #![tactic(auto)]
 
 #[cfg(test)]
@@ -9,5 +9,3 @@ mod closing_rows;
 mod plan_rows;
 #[cfg(test)]
 mod texts;
-#[cfg(test)]
-mod type_words;

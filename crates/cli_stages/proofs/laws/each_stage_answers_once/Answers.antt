@@ -1,4 +1,5 @@
 use Rattle.cli_stages.proofs.Layers.{Bags, Schemas, Texts, Words}
+use Rattle.cli_stages.proofs.ProofFacts.{proof-stage}
 use Rattle.cli_stages.proofs.StageFacts.{bag-stage, cell-stage, schema-stage, word-stage}
 use Rattle.cli_stages.proofs.Whole.{is-whole}
 use Rattle.cli_stages.proofs.laws.each_stage_answers_once.Goals as goal
@@ -37,4 +38,5 @@ returns c =
       type_word = word-stage words;
       bag = bag-stage bags;
       cell = cell-stage c.read_or_stuck.ensures;
+      proof = proof-stage c.read_or_stuck.ensures;
     }

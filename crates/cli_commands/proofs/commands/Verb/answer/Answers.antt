@@ -1,7 +1,7 @@
-use Rattle.std.proofs.Common.{refl, map, string_bytes}
+use Rattle.std.proofs.Common.{refl, length, map, string_bytes}
 use Rattle.tlb_files.specs.View.{contents_of}
-use Rattle.cli_commands.specs.Commands.{command_of}
-use Rattle.cli_commands.proofs.Words.{schema-of, short-at}
+use Rattle.cli_commands.specs.Commands.{slots_of}
+use Rattle.cli_commands.proofs.Words.{schema-of, short-at, view-first}
 use Rattle.cli_commands.proofs.commands.Verb.answer.Goals as goal
 
 pub read_in-requires-clause-schema : goal.read_in-requires-clause-schema
@@ -9,14 +9,14 @@ read_in-requires-clause-schema c =
     schema-of c.args.self _ _ (map string_bytes c.args.words.now) (contents_of c.args.contents.now) c.in-Read.is refl c.requires.files
 
 pub read_in-requires-clause-word : goal.read_in-requires-clause-word
-read_in-requires-clause-word c = short-at (command_of c.args.self).slots (map string_bytes c.args.words.now) 1 c.requires.words
+read_in-requires-clause-word c = short-at (slots_of c.args.self (map string_bytes c.args.words.now)) (map string_bytes c.args.words.now) 1 c.requires.words
 
 pub read_in-requires-in-Lax-clause-schema : goal.read_in-requires-in-Lax-clause-schema
 read_in-requires-in-Lax-clause-schema c =
     schema-of c.args.self _ _ (map string_bytes c.args.words.now) (contents_of c.args.contents.now) c.in-Lax.is refl c.requires.files
 
 pub read_in-requires-in-Lax-clause-word : goal.read_in-requires-in-Lax-clause-word
-read_in-requires-in-Lax-clause-word c = short-at (command_of c.args.self).slots (map string_bytes c.args.words.now) 1 c.requires.words
+read_in-requires-in-Lax-clause-word c = short-at (slots_of c.args.self (map string_bytes c.args.words.now)) (map string_bytes c.args.words.now) 1 c.requires.words
 
 pub returns-in-Read : goal.returns-in-Read
 returns-in-Read c = rw (c.in-Read.is) c.read_in.ensures
@@ -29,3 +29,15 @@ returns-in-Hash c = rw (c.in-Hash.is, ← c.bytes_at.ensures) c.hash.ensures
 
 pub returns-in-Check : goal.returns-in-Check
 returns-in-Check c = rw (c.in-Check.is, ← c.bytes_at-in-Check.ensures) c.check.ensures
+
+pub view_in-requires-clause-schema : goal.view_in-requires-clause-schema
+view_in-requires-clause-schema c =
+    schema-of c.args.self _ _ (map string_bytes c.args.words.now) (contents_of c.args.contents.now) c.in-View.is
+    (view-first (length (map string_bytes c.args.words.now))).1 c.requires.files
+
+pub view_in-requires-clause-word : goal.view_in-requires-clause-word
+view_in-requires-clause-word c =
+    short-at (slots_of c.args.self (map string_bytes c.args.words.now)) (map string_bytes c.args.words.now) 1 c.requires.words
+
+pub returns-in-View : goal.returns-in-View
+returns-in-View c = rw (c.in-View.is) c.view_in.ensures

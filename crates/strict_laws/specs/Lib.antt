@@ -1,0 +1,3 @@
+pub mod NoLonger
+pub mod Laws
+pub mod Examples
