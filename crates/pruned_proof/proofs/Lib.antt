@@ -5,6 +5,7 @@ mod CutLaws
 mod Edges
 mod Fielded
 mod Filling
+mod Forms
 mod Led
 mod Naming
 mod Numbers

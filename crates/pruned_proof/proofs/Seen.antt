@@ -1,6 +1,8 @@
 -- What values of some forms stand for.
 use Rattle.std.proofs.Common.{◌≡◌, ℕ, List, [], ◌∷◌, map, rules, sym, ap, ◌∙◌, subst, Option, arith, suc, ◌+◌, ◌<◌, drop, drop-cons, get_or, length}
-use Rattle.typed_value.specs.Values.{PlainPairs, bit_string, list_of, map_of, number, record_of, ref_to, rest}
+use Rattle.cell_nodes.specs.declared.tree.Hidden.{Hidden}
+use Rattle.cell_nodes.specs.declared.tree.Tree.{Tree}
+use Rattle.typed_value.specs.Values.{PlainPairs, absent, bit_string, list_of, map_of, number, raw, record_of, ref_to, rest, unknown}
 use Rattle.typed_value.specs.View.{names_in, pair_of, pairs_of, record_parts, RecordParts, slice_of, vals_in, vals_of, value}
 use Rattle.typed_value.specs.declared.value.Dict.{Dict}
 use Rattle.typed_value.specs.declared.value.Number.{Number as TheNumber}
@@ -8,7 +10,7 @@ use Rattle.typed_value.specs.declared.value.Record.{Record as TheRecord}
 use Rattle.typed_value.specs.declared.value.RestPart.{RestPart}
 use Rattle.typed_value.specs.declared.value.Value.{Value}
 use Rattle.typed_value.specs.declared.value.Value.TheFolds.{the_lemmas}
-use Rattle.typed_value.specs.declared.value.Value.TheVariants.{Bits, List as Series, Map, Number, Record, Ref, Rest}
+use Rattle.typed_value.specs.declared.value.Value.TheVariants.{Absent, Bits, List as Series, Map, Number, Raw, Record, Ref, Rest, Unknown}
 use Rattle.pruning.specs.Laid.{Laid}
 use Rattle.pruned_proof.specs.Walks.{Is}
 
@@ -30,9 +32,18 @@ ref_seen v = search (rules, the_lemmas)
 pub map_seen : (d : Dict) → value (Map d) ≡ map_of tt (pairs_of (map pair_of d.pairs)) d.unknown
 map_seen d = search (rules, the_lemmas)
 
-record_seen : (r : TheRecord) → value (Record r) ≡ record_of (record_parts r).0 (names_in (record_parts r).1)
+pub record_seen : (r : TheRecord) → value (Record r) ≡ record_of (record_parts r).0 (names_in (record_parts r).1)
     (vals_in (record_parts r).1)
 record_seen r = search (rules, the_lemmas)
+
+absent_seen : value Absent ≡ absent
+absent_seen = search (rules, the_lemmas)
+
+unknown_seen : (h : Hidden) → value (Unknown h) ≡ unknown h
+unknown_seen h = search (rules, the_lemmas)
+
+raw_seen : (c : Tree) → value (Raw c) ≡ raw c
+raw_seen c = search (rules, the_lemmas)
 
 parts_seen : (r : TheRecord) → record_parts r ≡ (r.name, map pair_of r.fields)
 parts_seen r = search (rules, the_lemmas)
@@ -47,6 +58,19 @@ module _ (d : Laid) (v : Value) (most : ℕ) where
 
   pub is_rest : (r : RestPart) → v ≡ Rest r → Is d (value v) most → Is d (rest (slice_of r)) most
   is_rest r e is = subst (λ z. Is d z most) (ap value e ∙ rest_seen r) is
+
+  pub is_absent : v ≡ Absent → Is d (value v) most → Is d absent most
+  is_absent e is = subst (λ z. Is d z most) (ap value e ∙ absent_seen) is
+
+  pub is_unknown : (h : Hidden) → v ≡ Unknown h → Is d (value v) most → Is d (unknown h) most
+  is_unknown h e is = subst (λ z. Is d z most) (ap value e ∙ unknown_seen h) is
+
+  pub is_raw : (c : Tree) → v ≡ Raw c → Is d (value v) most → Is d (raw c) most
+  is_raw c e is = subst (λ z. Is d z most) (ap value e ∙ raw_seen c) is
+
+  pub is_shown : (r : TheRecord) → v ≡ Record r → Is d (value v) most
+      → Is d (record_of (record_parts r).0 (names_in (record_parts r).1) (vals_in (record_parts r).1)) most
+  is_shown r e is = subst (λ z. Is d z most) (ap value e ∙ record_seen r) is
 
   pub is_list : (vs : List Value) → v ≡ Series vs → Is d (value v) most → Is d (list_of (vals_of (map value vs))) most
   is_list vs e is = subst (λ z. Is d z most) (ap value e ∙ list_seen vs) is

@@ -363,49 +363,13 @@ some_map schema most n t left outs after key x xs ys (map_under c e) some is l =
 some_map schema most n t left outs after key x xs ys (map_here e) some is l = absurd l.spelled
 some_map schema most n t left outs after key x xs ys (rest s) some is l = let e = is.value in absurd (cc)
 
--- ---- types by their forms
-
-ref_type : (t : ClosedType) → closed_type (Ref t) ≡ closed.ref (closed_type t)
-ref_type t = search (rules, the_lemmas)
-
-repeat_type : (n : ℕ) (t : ClosedType) → closed_type (Repeat n t) ≡ closed.repeat n (closed_type t)
-repeat_type n t = search (rules, the_lemmas)
-
-dict_type : (n : ℕ) (t : ClosedType) → closed_type (Dict n t) ≡ closed.dict n (closed_type t)
-dict_type n t = search (rules, the_lemmas)
-
-dict_e_type : (n : ℕ) (t : ClosedType) → closed_type (DictE n t) ≡ closed.dict_e n (closed_type t)
-dict_e_type n t = search (rules, the_lemmas)
-
-module _ (schema : CoreSchema) (d : Laid) (t inner seen : ClosedType) (left : List Tree) (outs : List ℕ) (after : Slice)
-    (same : seen ≡ inner) (l : Lies (SpellsLaid schema d (at_type (closed_type t))) left outs after) where
-  at_form : (form : Closed → Closed) → closed_type t ≡ form (closed_type inner)
-      → AtType schema d (form (closed_type seen)) left outs after
-  at_form form is =
-      let T : Closed → Type 0 = λ z. Lies (SpellsLaid schema d (at_type z)) left outs after in
-      type_lies schema d (form (closed_type seen)) left outs after
-      (subst T (is ∙ ap (λ (z : ClosedType). form (closed_type z)) (sym same)) l)
-
-  pub at_ref : t ≡ Ref inner → AtType schema d (closed.ref (closed_type seen)) left outs after
-  at_ref is = at_form closed.ref (ap closed_type is ∙ ref_type inner)
-
-  pub at_repeat : (n : ℕ) → t ≡ Repeat n inner → AtType schema d (closed.repeat n (closed_type seen)) left outs after
-  at_repeat n is = at_form (closed.repeat n) (ap closed_type is ∙ repeat_type n inner)
-
-  pub at_dict : (n : ℕ) → t ≡ Dict n inner → AtType schema d (closed.dict n (closed_type seen)) left outs after
-  at_dict n is = at_form (closed.dict n) (ap closed_type is ∙ dict_type n inner)
-
-  pub at_dict_e : (n : ℕ) → t ≡ DictE n inner → AtType schema d (closed.dict_e n (closed_type seen)) left outs after
-  at_dict_e n is = at_form (closed.dict_e n) (ap closed_type is ∙ dict_e_type n inner)
-
 -- so many bits a key
 pub few_bits : (n : ℕ) → nat_le n 1023 ≡ true → n ≤ 1023
 few_bits n wide = leb-true n 1023 wide
 
 -- one level less
-pub inside : (d : Laid) (v w : Plain) (n : ℕ) → v ≡ w → (n ≡ 0 → ⊥) → Is d v n → Is d w (n - 1 + 1)
-inside d v w n same some is =
+pub inside : (d : Laid) (w : Plain) (n : ℕ) → (n ≡ 0 → ⊥) → Is d w n → Is d w (n - 1 + 1)
+inside d w n some is =
     let more : n ≡ n - 1 + 1 = omega (arith, some) in
-    let P : Plain → Type 0 = λ z. Is d z n in
     let Q : ℕ → Type 0 = λ z. Is d w z in
-    subst Q more (subst P same is)
+    subst Q more is

@@ -2,9 +2,9 @@
 use Rattle.std.specs.Prelude.{Bool, true, false, ◌≡◌, ℕ, ◌+◌, ◌≤◌, List, [], ◌∷◌, ◌++◌, Option, Some, None, Result, Ok, Err, slice_get}
 use Rattle.cell_nodes.specs.declared.tree.Mode.TheVariants.{Whole}
 use Rattle.cell_nodes.specs.declared.tree.Tree.{Tree}
-use Rattle.core_form.specs.Closed.{Closed}
+use Rattle.core_form.specs.Closed.{Closed, ClosedArgs}
 use Rattle.core_form.specs.Closed as closed
-use Rattle.core_form.specs.Core.{CoreSchema, Items}
+use Rattle.core_form.specs.Core.{CoreSchema, Items, Word}
 use Rattle.core_form.specs.Scope.{Scope}
 use Rattle.hashmap_tree.specs.Entries.{Slice}
 use Rattle.spelling.specs.Goals.{Goal}
@@ -34,6 +34,29 @@ most_own (closed.bits n) = Some 4294967295
 most_own (closed.below n) = Some n
 most_own (closed.up_to n) = Some n
 most_own _ = None
+
+-- what a type of references leads to, and how many of which type a repetition has
+abbrev pub referred : Closed → Option Closed
+referred (closed.ref t) = Some t
+referred _ = None
+
+abbrev pub repeated : Closed → Option (ℕ × Closed)
+repeated (closed.repeat n t) = Some (n, t)
+repeated _ = None
+
+-- the width of the keys and the type of the values of a dictionary, its first edge in place or in a cell of its own
+abbrev pub mapped_here : Closed → Option (ℕ × Closed)
+mapped_here (closed.dict n t) = Some (n, t)
+mapped_here _ = None
+
+abbrev pub mapped_under : Closed → Option (ℕ × Closed)
+mapped_under (closed.dict_e n t) = Some (n, t)
+mapped_under _ = None
+
+-- the name of a declared type and what it is given
+abbrev pub named_as : Closed → Option (Word × ClosedArgs)
+named_as (closed.named name args) = Some (name, args)
+named_as _ = None
 
 -- the cell of a reference, as it is
 abbrev pub is_raw : Plain → Bool

@@ -3,6 +3,7 @@
 
 mod cutting;
 mod error;
+mod holding;
 mod proving;
 mod walking;
 mod wanted;

@@ -13,7 +13,8 @@ ghost use Rattle.pruned_proof.specs.Proved.{Answers, CutsTo, Named, ProvesOver, 
 
 use crate::cutting::CutError;
 use crate::error::ProveError;
-use crate::walking::{cut_cell, is_raw};
+use crate::holding::is_raw;
+use crate::walking::cut_cell;
 use crate::wanted::Wanted;
 use accepted_pruning::laws::{one_prove_answer, prove_then_view, pruning_commutes};
 use accepted_spelling::laws::read_or_stuck;

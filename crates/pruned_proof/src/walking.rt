@@ -2,6 +2,7 @@
 //!
 //! `levels` is how many levels of values are left.
 ghost use Rattle.std.specs.Prelude.{◌≡◌, ◌+◌, ◌<◌, ◌≤◌, ◌∷◌, ◌++◌, ℕ, Bool, [], List, None, Option, IfOk, length, map, option_map, true};
+ghost use Rattle.cell_nodes.specs.declared.tree.Hidden.{Hidden as HiddenPart};
 ghost use Rattle.cell_nodes.specs.declared.tree.Tree.{Tree};
 ghost use Rattle.closed_type.specs.View.{closed_args, closed_type as type_view};
 ghost use Rattle.closed_type.specs.declared.tree.ClosedType.{ClosedType as TheClosedType};
@@ -22,12 +23,15 @@ ghost use Rattle.spelling.specs.Goals as goals;
 ghost use Rattle.spelling.specs.Spells.{SpellsNumber};
 ghost use Rattle.tlb_syntax.specs.View.{schema as schema_view};
 ghost use Rattle.typed_value.specs.Values as forms;
-ghost use Rattle.typed_value.specs.View.{pair_of, pairs_of, value as value_view, record_parts, names_in, vals_in};
+ghost use Rattle.typed_value.specs.View.{pair_of, pairs_of, value as value_view, record_parts, names_in, vals_in, vals_of};
 ghost use Rattle.pruned_proof.specs.View.{rests_of};
-ghost use Rattle.pruned_proof.specs.Walks.{Due, DueItems, Fills, Gives, HasBit, Is, IsBranch, IsEdge, Lies, Moves, fields_of, held_in, is_raw, most_own, outputs_of};
+ghost use Rattle.pruned_proof.specs.Walks.{Due, DueItems, Fills, Gives, HasBit, Is, IsBranch, IsEdge, Lies, Moves, mapped_here, outputs_of};
 ghost use Rattle.pruned_proof.specs.Wanted.{below, cut_at, cut_edge_for, cut_for};
 
 use crate::cutting::{CutError, Cutting, Outputs};
+use crate::holding::{
+    count_of, fields_of, held, is_raw, mapped_here, mapped_under, most_own, named_as, referred, repeated,
+};
 use crate::wanted::{Reached, Wanted};
 use bit_slice::{BitString, Name};
 use cell_nodes::Cell;
@@ -58,71 +62,141 @@ fn cut_value(
         return Err(CutError::Unread);
     }
     let levels = levels - 1;
-    match (ty, value) {
-        (_, Value::Number(number)) => own_output(ty, number.size),
-        (_, Value::Bits(_)) => Ok(Outputs::Empty),
-        (_, Value::Rest(_)) => {
+    match value {
+        Value::Number(number) => own_output(ty, number.size),
+        Value::Bits(_) => Ok(Outputs::Empty),
+        Value::Rest(_) => {
             cell.keep_all()?;
             Ok(Outputs::Empty)
         }
-        (ClosedType::Ref(inner), Value::Ref(held)) => {
-            cut_ref(alloc, plan, levels, inner.get(), held.get(), wanted, cell)?;
-            Ok(Outputs::Empty)
+        Value::Ref(inner) => cut_held(alloc, plan, levels, ty, inner.get(), wanted, cell),
+        Value::List(items) => {
+            let items = items.as_slice();
+            cut_list(alloc, plan, levels, ty, items, wanted, cell)
         }
-        (ClosedType::Repeat(count, inner), Value::List(items)) => {
-            let _count = count_of(count);
-            cut_items(
-                alloc,
-                plan,
-                levels,
-                inner.get(),
-                items.as_slice(),
-                wanted,
-                cell,
-            )?;
-            Ok(Outputs::Empty)
-        }
-        (ClosedType::Dict(_, inner), Value::Map(dict)) => {
+        Value::Map(dict) => {
             let pairs = dict.pairs.as_slice();
-            cut_edge(alloc, plan, levels, 1023, inner.get(), pairs, wanted, cell)?;
-            Ok(Outputs::Empty)
+            cut_map(alloc, plan, levels, ty, pairs, wanted, cell)
         }
-        (ClosedType::DictE(_, inner), Value::Map(dict)) => {
-            let pairs = dict.pairs.as_slice();
-            cut_root_edge(alloc, plan, levels, inner.get(), pairs, wanted, cell)?;
-            Ok(Outputs::Empty)
-        }
-        (ClosedType::Named(name, args), Value::Record(record)) => cut_declared(
-            alloc,
-            plan,
-            levels,
-            name,
-            args.as_slice(),
-            record,
-            wanted,
-            cell,
-        ),
-        _ => Err(CutError::Unread),
+        Value::Record(record) => cut_record(alloc, plan, levels, ty, record, wanted, cell),
+        Value::Absent | Value::Unknown(_) | Value::Raw(_) => Err(CutError::Unread),
     }
 }
 
-// A count, which is a number of 32 bits.
-fn count_of(count: &u32) -> u32
-    ensures same { result ≡ count.now }
-    ensures small { result ≤ 4294967295 }
+/// A reference to this value.
+#[cycle(cut)]
+fn cut_held(
+    alloc: Global,
+    plan: &Plan,
+    levels: u32,
+    ty: &ClosedType,
+    held: &Value,
+    wanted: &Wanted<'_>,
+    cell: &mut Cutting<'_>,
+) -> Result<Outputs, CutError>
+    ensures { (d : Laid) (outs : List ℕ) (after : Slice) → Is d (forms.ref_to tt (value_view held.now)) (levels + 1)
+        → Lies (SpellsLaid (cores (schema_view plan.now.0)) d (goals.at_type (type_view ty.now))) cell.old.left outs after
+        → Gives (λ x. (outputs_of x ≡ outs) × Moves (cut_for (rests_of wanted.now) d) after.refs cell.old cell.new) result }
 {
-    *count
+    let Some(inner) = referred(ty) else {
+        return Err(CutError::Unread);
+    };
+    cut_ref(alloc, plan, levels, inner, held, wanted, cell)?;
+    Ok(Outputs::Empty)
 }
 
-// The most that a number of the type is, where it is its own output.
-fn most_own(ty: &ClosedType) -> Option<u32>
-    ensures { result ≡ most_own (type_view ty.now) }
+/// A repetition of these values.
+#[cycle(cut)]
+fn cut_list(
+    alloc: Global,
+    plan: &Plan,
+    levels: u32,
+    ty: &ClosedType,
+    items: &[Value],
+    wanted: &Wanted<'_>,
+    cell: &mut Cutting<'_>,
+) -> Result<Outputs, CutError>
+    ensures { (d : Laid) (outs : List ℕ) (after : Slice)
+        → Is d (forms.list_of (vals_of (map value_view items.now))) (levels + 1)
+        → Lies (SpellsLaid (cores (schema_view plan.now.0)) d (goals.at_type (type_view ty.now))) cell.old.left outs after
+        → Gives (λ x. (outputs_of x ≡ outs) × Moves (cut_for (rests_of wanted.now) d) after.refs cell.old cell.new) result }
 {
-    match ty {
-        ClosedType::Nat32 | ClosedType::Bits(_) => Some(4_294_967_295),
-        ClosedType::Below(n) | ClosedType::UpTo(n) => Some(*n),
-        _ => None,
-    }
+    let Some((count, inner)) = repeated(ty) else {
+        return Err(CutError::Unread);
+    };
+    let _count = count_of(count);
+    cut_items(alloc, plan, levels, inner, items, wanted, cell)?;
+    Ok(Outputs::Empty)
+}
+
+/// A dictionary of these values.
+#[cycle(cut)]
+fn cut_map(
+    alloc: Global,
+    plan: &Plan,
+    levels: u32,
+    ty: &ClosedType,
+    pairs: &[(BitString, Value)],
+    wanted: &Wanted<'_>,
+    cell: &mut Cutting<'_>,
+) -> Result<Outputs, CutError>
+    ensures { (d : Laid) (hidden : List (List ℕ × HiddenPart)) (outs : List ℕ) (after : Slice)
+        → Is d (forms.map_of tt (pairs_of (map pair_of pairs.now)) hidden) (levels + 1)
+        → Lies (SpellsLaid (cores (schema_view plan.now.0)) d (goals.at_type (type_view ty.now))) cell.old.left outs after
+        → Gives (λ x. (outputs_of x ≡ outs) × Moves (cut_for (rests_of wanted.now) d) after.refs cell.old cell.new) result }
+{
+    let Some((_, inner)) = mapped_here(ty) else {
+        return cut_map_under(alloc, plan, levels, ty, pairs, wanted, cell);
+    };
+    cut_edge(alloc, plan, levels, 1023, inner, pairs, wanted, cell)?;
+    Ok(Outputs::Empty)
+}
+
+/// The same where the first edge has no place in the cell.
+#[cycle(cut)]
+fn cut_map_under(
+    alloc: Global,
+    plan: &Plan,
+    levels: u32,
+    ty: &ClosedType,
+    pairs: &[(BitString, Value)],
+    wanted: &Wanted<'_>,
+    cell: &mut Cutting<'_>,
+) -> Result<Outputs, CutError>
+    ensures { (d : Laid) (hidden : List (List ℕ × HiddenPart)) (outs : List ℕ) (after : Slice)
+        → Is d (forms.map_of tt (pairs_of (map pair_of pairs.now)) hidden) (levels + 1)
+        → mapped_here (type_view ty.now) ≡ None
+        → Lies (SpellsLaid (cores (schema_view plan.now.0)) d (goals.at_type (type_view ty.now))) cell.old.left outs after
+        → Gives (λ x. (outputs_of x ≡ outs) × Moves (cut_for (rests_of wanted.now) d) after.refs cell.old cell.new) result }
+{
+    let Some((_, inner)) = mapped_under(ty) else {
+        return Err(CutError::Unread);
+    };
+    cut_root_edge(alloc, plan, levels, inner, pairs, wanted, cell)?;
+    Ok(Outputs::Empty)
+}
+
+/// A record of a declared type.
+#[cycle(cut)]
+fn cut_record(
+    alloc: Global,
+    plan: &Plan,
+    levels: u32,
+    ty: &ClosedType,
+    record: &Record,
+    wanted: &Wanted<'_>,
+    cell: &mut Cutting<'_>,
+) -> Result<Outputs, CutError>
+    ensures { (d : Laid) (outs : List ℕ) (after : Slice)
+        → Is d (forms.record_of (record_parts record.now).0 (names_in (record_parts record.now).1)
+        (vals_in (record_parts record.now).1)) (levels + 1)
+        → Lies (SpellsLaid (cores (schema_view plan.now.0)) d (goals.at_type (type_view ty.now))) cell.old.left outs after
+        → Gives (λ x. (outputs_of x ≡ outs) × Moves (cut_for (rests_of wanted.now) d) after.refs cell.old cell.new) result }
+{
+    let Some((name, args)) = named_as(ty) else {
+        return Err(CutError::Unread);
+    };
+    cut_declared(alloc, plan, levels, name, args, record, wanted, cell)
 }
 
 // The output of a number, which is the number itself at the types of naturals.
@@ -140,38 +214,6 @@ fn own_output(ty: &ClosedType, size: u128) -> Result<Outputs, CutError>
             }
             Ok(Outputs::One(size as u32))
         }
-    }
-}
-
-// Whether it is a cell as it is.
-pub(crate) fn is_raw(value: &Value) -> bool
-    ensures { result ≡ is_raw (value_view value.now) }
-{
-    match value {
-        Value::Raw(_) => true,
-        Value::Number(_) | Value::Bits(_) | Value::Record(_) | Value::Absent | Value::List(_) => false,
-        Value::Ref(_) | Value::Unknown(_) | Value::Map(_) | Value::Rest(_) => false,
-    }
-}
-
-// The value that a reference holds.
-fn held<'a>(value: &'a Value) -> Option<&'a Value>
-    ensures { option_map (λ v. value_view v.now) result ≡ held_in (value_view value.entry.now) }
-{
-    match value {
-        Value::Ref(inner) => Some(inner.get()),
-        _ => None,
-    }
-}
-
-// The fields of a record.
-fn fields_of<'a>(value: &'a Value) -> Option<&'a [(Name, Value)]>
-    ensures { option_map (λ fs. (names_in (map pair_of fs.now), vals_in (map pair_of fs.now))) result
-        ≡ fields_of (value_view value.entry.now) }
-{
-    match value {
-        Value::Record(record) => Some(record.fields.as_slice()),
-        _ => None,
     }
 }
 

@@ -966,175 +966,26 @@ cut_root_edge-returns t c = λ d n outs after few is l.
 
 -- ---- values
 
-pub cut_value-returns-in_default-Number : goal.cut_value-returns-in_default-Number
-cut_value-returns-in_default-Number t c = λ d outs after is l.
+pub cut_value-returns-in-Number : goal.cut_value-returns-in-Number
+cut_value-returns-in-Number t c = λ d outs after is l.
     let S = cores (schema_view c.args.plan.now.0) in
-    let number = c.in_default-Number.number in
+    let number = c.in-Number.number in
     number_gives S (type_view c.args.ty.now) (rests_of c.args.wanted.now) c.args.levels c.args.cell.now outs after d
     number.negative number.size c.own_output.result
-    (is_number d c.args.value.now c.args.levels number c.in_default-Number.is-1 is) l c.own_output.ensures
+    (is_number d c.args.value.now c.args.levels number c.in-Number.is is) l c.own_output.ensures
 
-pub cut_value-returns-in_default-Bits : goal.cut_value-returns-in_default-Bits
-cut_value-returns-in_default-Bits t c = λ d outs after is l.
+pub cut_value-returns-in-Bits : goal.cut_value-returns-in-Bits
+cut_value-returns-in-Bits t c = λ d outs after is l.
     bits_give (cores (schema_view c.args.plan.now.0)) (type_view c.args.ty.now) (rests_of c.args.wanted.now) c.args.levels
-    c.args.cell.now outs after d c.in_default-Bits.field-0-1
-    (is_bits d c.args.value.now c.args.levels c.in_default-Bits.field-0-1 c.in_default-Bits.is-1 is) l
+    c.args.cell.now outs after d c.in-Bits.field-0
+    (is_bits d c.args.value.now c.args.levels c.in-Bits.field-0 c.in-Bits.is is) l
 
-pub cut_value-returns-in_ok-keep_all-in_default-Rest : goal.cut_value-returns-in_ok-keep_all-in_default-Rest
-cut_value-returns-in_ok-keep_all-in_default-Rest t c = λ d outs after is l.
+pub cut_value-returns-in_ok-keep_all-in-Rest : goal.cut_value-returns-in_ok-keep_all-in-Rest
+cut_value-returns-in_ok-keep_all-in-Rest t c = λ d outs after is l.
     rest_gives (cores (schema_view c.args.plan.now.0)) (type_view c.args.ty.now) (rests_of c.args.wanted.now) c.args.levels
-    c.args.cell.now c.keep_all.new.self outs after d (slice_of c.in_default-Rest.field-0-1)
-    (is_rest d c.args.value.now c.args.levels c.in_default-Rest.field-0-1 c.in_default-Rest.is-1 is) l
-    c.in_ok-keep_all-in_default-Rest.ensures.ok.0 c.in_ok-keep_all-in_default-Rest.ensures.ok.1
-
-pub cut_value-returns-in_err-cut_ref-in-Ref-Ref : goal.cut_value-returns-in_err-cut_ref-in-Ref-Ref
-cut_value-returns-in_err-cut_ref-in-Ref-Ref t c = λ d outs after is l.
-    let w = c.from_residual-in_err-cut_ref-in-Ref-Ref in
-    let r = err_from_is_err_and w.result w.ensures.1 in
-    let S = cores (schema_view c.args.plan.now.0) in
-    let it = c.in-Ref-Ref in
-    let x = at_ref S d c.args.ty.now it.inner c.get.result.now c.args.cell.now.left outs after c.get.ensures l it.is-0 in
-    let held = c.get-in-Ref-Ref.result.now in
-    let in_it = inside d (value_view c.args.value.now) (forms.ref_to tt (value_view held)) c.args.levels
-    (ap value_view it.is-1 ∙ ref_seen it.held ∙ ap (λ z. forms.ref_to tt (value_view z)) (sym c.get-in-Ref-Ref.ensures))
-    c.if-levels-eq0.false is in
-    still _ w.result c.in_err-cut_ref-in-Ref-Ref.field-0.0 (r.1 ∙ ap Err r.2)
-    (c.in_err-cut_ref-in-Ref-Ref.ensures d outs after in_it x.lies)
-
-pub cut_value-returns-in_ok-cut_ref-in-Ref-Ref : goal.cut_value-returns-in_ok-cut_ref-in-Ref-Ref
-cut_value-returns-in_ok-cut_ref-in-Ref-Ref t c = λ d outs after is l.
-    let S = cores (schema_view c.args.plan.now.0) in
-    let it = c.in-Ref-Ref in
-    let x = at_ref S d c.args.ty.now it.inner c.get.result.now c.args.cell.now.left outs after c.get.ensures l it.is-0 in
-    let held = c.get-in-Ref-Ref.result.now in
-    let in_it = inside d (value_view c.args.value.now) (forms.ref_to tt (value_view held)) c.args.levels
-    (ap value_view it.is-1 ∙ ref_seen it.held ∙ ap (λ z. forms.ref_to tt (value_view z)) (sym c.get-in-Ref-Ref.ensures))
-    c.if-levels-eq0.false is in
-    (ref_outs S d (type_view c.get.result.now) c.args.cell.now.left outs after x.lies,
-    c.in_ok-cut_ref-in-Ref-Ref.ensures d outs after in_it x.lies)
-
-pub cut_value-returns-in_err-cut_items-in-Repeat-List : goal.cut_value-returns-in_err-cut_items-in-Repeat-List
-cut_value-returns-in_err-cut_items-in-Repeat-List t c = λ d outs after is l.
-    let w = c.from_residual-in_err-cut_items-in-Repeat-List in
-    let r = err_from_is_err_and w.result w.ensures.1 in
-    let S = cores (schema_view c.args.plan.now.0) in
-    let k = rests_of c.args.wanted.now in
-    let it = c.in-Repeat-List in
-    let inner = c.get-in-Repeat-List.result.now in
-    let x = at_repeat S d c.args.ty.now it.inner inner c.args.cell.now.left outs after c.get-in-Repeat-List.ensures l it.count
-    it.is-0 in
-    let items = c.as_slice.result.now in
-    let in_it = inside d (value_view c.args.value.now) (forms.list_of (vals_of (map value_view items))) c.args.levels
-    (ap value_view it.is-1 ∙ list_seen it.items ∙ ap (λ z. forms.list_of (vals_of (map value_view z))) (sym c.as_slice.ensures))
-    c.if-levels-eq0.false is in
-    let y = list_due S k (c.args.levels - 1) it.count (type_view inner) outs after (map value_view items) c.args.cell.now d
-    (omega (arith, c.count_of-count.ensures.same, c.count_of-count.ensures.small)) in_it x.lies in
-    still _ w.result c.in_err-cut_items-in-Repeat-List.field-0.0 (r.1 ∙ ap Err r.2)
-    (c.in_err-cut_items-in-Repeat-List.ensures after (c.args.cell.now.made.items ++ cut_for k d) y.due)
-
-pub cut_value-returns-in_ok-cut_items-in-Repeat-List : goal.cut_value-returns-in_ok-cut_items-in-Repeat-List
-cut_value-returns-in_ok-cut_items-in-Repeat-List t c = λ d outs after is l.
-    let S = cores (schema_view c.args.plan.now.0) in
-    let k = rests_of c.args.wanted.now in
-    let it = c.in-Repeat-List in
-    let inner = c.get-in-Repeat-List.result.now in
-    let x = at_repeat S d c.args.ty.now it.inner inner c.args.cell.now.left outs after c.get-in-Repeat-List.ensures l it.count
-    it.is-0 in
-    let items = c.as_slice.result.now in
-    let in_it = inside d (value_view c.args.value.now) (forms.list_of (vals_of (map value_view items))) c.args.levels
-    (ap value_view it.is-1 ∙ list_seen it.items ∙ ap (λ z. forms.list_of (vals_of (map value_view z))) (sym c.as_slice.ensures))
-    c.if-levels-eq0.false is in
-    let y = list_due S k (c.args.levels - 1) it.count (type_view inner) outs after (map value_view items) c.args.cell.now d
-    (omega (arith, c.count_of-count.ensures.same, c.count_of-count.ensures.small)) in_it x.lies in
-    (y.none, c.in_ok-cut_items-in-Repeat-List.ensures after (c.args.cell.now.made.items ++ cut_for k d) y.due)
-
-pub cut_value-returns-in_err-cut_edge-in-Dict-Map : goal.cut_value-returns-in_err-cut_edge-in-Dict-Map
-cut_value-returns-in_err-cut_edge-in-Dict-Map t c = λ d outs after is l.
-    let w = c.from_residual-in_err-cut_edge-in-Dict-Map in
-    let r = err_from_is_err_and w.result w.ensures.1 in
-    let S = cores (schema_view c.args.plan.now.0) in
-    let k = rests_of c.args.wanted.now in
-    let it = c.in-Dict-Map in
-    let inner = c.get-in-Dict-Map.result.now in
-    let x = at_dict S d c.args.ty.now it.inner inner c.args.cell.now.left outs after c.get-in-Dict-Map.ensures l it.field-0-0
-    it.is-0 in
-    let pairs = c.as_slice-pairs.result.now in
-    let ps = pairs_of (map pair_of pairs) in
-    let us = it.dict.unknown in
-    let in_it = inside d (value_view c.args.value.now) (forms.map_of tt ps us) c.args.levels
-    (ap value_view it.is-1 ∙ map_seen it.dict ∙ ap (λ z. forms.map_of tt (pairs_of (map pair_of z)) us) (sym c.as_slice-pairs.ensures))
-    c.if-levels-eq0.false is in
-    let y = dict_lies S (c.args.levels - 1) it.field-0-0 (type_view inner) c.args.cell.now.left outs after ps us d in_it x.lies in
-    still _ w.result c.in_err-cut_edge-in-Dict-Map.field-0.0 (r.1 ∙ ap Err r.2)
-    (c.in_err-cut_edge-in-Dict-Map.ensures [] y.edge it.field-0-0 [] after (few_bits it.field-0-0 x.wide) y.is_edge y.lies)
-
-pub cut_value-returns-in_ok-cut_edge-in-Dict-Map : goal.cut_value-returns-in_ok-cut_edge-in-Dict-Map
-cut_value-returns-in_ok-cut_edge-in-Dict-Map t c = λ d outs after is l.
-    let S = cores (schema_view c.args.plan.now.0) in
-    let k = rests_of c.args.wanted.now in
-    let it = c.in-Dict-Map in
-    let inner = c.get-in-Dict-Map.result.now in
-    let x = at_dict S d c.args.ty.now it.inner inner c.args.cell.now.left outs after c.get-in-Dict-Map.ensures l it.field-0-0
-    it.is-0 in
-    let pairs = c.as_slice-pairs.result.now in
-    let ps = pairs_of (map pair_of pairs) in
-    let us = it.dict.unknown in
-    let in_it = inside d (value_view c.args.value.now) (forms.map_of tt ps us) c.args.levels
-    (ap value_view it.is-1 ∙ map_seen it.dict ∙ ap (λ z. forms.map_of tt (pairs_of (map pair_of z)) us) (sym c.as_slice-pairs.ensures))
-    c.if-levels-eq0.false is in
-    let y = dict_lies S (c.args.levels - 1) it.field-0-0 (type_view inner) c.args.cell.now.left outs after ps us d in_it x.lies in
-    (y.none, moves_as _ (cut_for k d) after.refs c.args.cell.now c.cut_edge.new.cell (y.made k)
-    (c.in_ok-cut_edge-in-Dict-Map.ensures [] y.edge it.field-0-0 [] after (few_bits it.field-0-0 x.wide) y.is_edge y.lies))
-
-pub cut_value-returns-in_err-cut_root_edge-in-DictE-Map : goal.cut_value-returns-in_err-cut_root_edge-in-DictE-Map
-cut_value-returns-in_err-cut_root_edge-in-DictE-Map t c = λ d outs after is l.
-    let w = c.from_residual-in_err-cut_root_edge-in-DictE-Map in
-    let r = err_from_is_err_and w.result w.ensures.1 in
-    let S = cores (schema_view c.args.plan.now.0) in
-    let k = rests_of c.args.wanted.now in
-    let it = c.in-DictE-Map in
-    let inner = c.get-in-DictE-Map.result.now in
-    let x = at_dict_e S d c.args.ty.now it.inner inner c.args.cell.now.left outs after c.get-in-DictE-Map.ensures l it.field-0-0
-    it.is-0 in
-    let pairs = c.as_slice-pairs-in-DictE-Map.result.now in
-    let ps = pairs_of (map pair_of pairs) in
-    let us = it.dict.unknown in
-    let in_it = inside d (value_view c.args.value.now) (forms.map_of tt ps us) c.args.levels
-    (ap value_view it.is-1 ∙ map_seen it.dict ∙ ap (λ z. forms.map_of tt (pairs_of (map pair_of z)) us) (sym c.as_slice-pairs-in-DictE-Map.ensures))
-    c.if-levels-eq0.false is in
-    let y = map_lies S (c.args.levels - 1 + 1) it.field-0-0 (type_view inner) c.args.cell.now.left outs after ps us d in_it
-    x.lies in
-    still _ w.result c.in_err-cut_root_edge-in-DictE-Map.field-0.0 (r.1 ∙ ap Err r.2)
-    (c.in_err-cut_root_edge-in-DictE-Map.ensures d it.field-0-0 outs after (few_bits it.field-0-0 x.wide) y.is x.lies)
-
-pub cut_value-returns-in_ok-cut_root_edge-in-DictE-Map : goal.cut_value-returns-in_ok-cut_root_edge-in-DictE-Map
-cut_value-returns-in_ok-cut_root_edge-in-DictE-Map t c = λ d outs after is l.
-    let S = cores (schema_view c.args.plan.now.0) in
-    let k = rests_of c.args.wanted.now in
-    let it = c.in-DictE-Map in
-    let inner = c.get-in-DictE-Map.result.now in
-    let x = at_dict_e S d c.args.ty.now it.inner inner c.args.cell.now.left outs after c.get-in-DictE-Map.ensures l it.field-0-0
-    it.is-0 in
-    let pairs = c.as_slice-pairs-in-DictE-Map.result.now in
-    let ps = pairs_of (map pair_of pairs) in
-    let us = it.dict.unknown in
-    let in_it = inside d (value_view c.args.value.now) (forms.map_of tt ps us) c.args.levels
-    (ap value_view it.is-1 ∙ map_seen it.dict ∙ ap (λ z. forms.map_of tt (pairs_of (map pair_of z)) us) (sym c.as_slice-pairs-in-DictE-Map.ensures))
-    c.if-levels-eq0.false is in
-    let y = map_lies S (c.args.levels - 1 + 1) it.field-0-0 (type_view inner) c.args.cell.now.left outs after ps us d in_it
-    x.lies in
-    (y.none,
-    c.in_ok-cut_root_edge-in-DictE-Map.ensures d it.field-0-0 outs after (few_bits it.field-0-0 x.wide) y.is x.lies)
-
-pub cut_value-returns-in_default : goal.cut_value-returns-in_default
-cut_value-returns-in_default t c = λ d outs after is l.
-    elim c.in_default.branch [
-      | cut_value-in_default-via-in-Ref+in_default w ↦ w.in_default.zzz
-      | cut_value-in_default-via-in-List+in_default w ↦ w.in_default.zzz
-      | cut_value-in_default-via-in-Map+in_default w ↦ w.in_default.zzz
-      | cut_value-in_default-via-in-Record+in_default w ↦ w.in_default.zzz
-      | cut_value-in_default-via-in_default w ↦ w.in_default.zzz
-    ]
+    c.args.cell.now c.keep_all.new.self outs after d (slice_of c.in-Rest.field-0)
+    (is_rest d c.args.value.now c.args.levels c.in-Rest.field-0 c.in-Rest.is is) l
+    c.in_ok-keep_all-in-Rest.ensures.ok.0 c.in_ok-keep_all-in-Rest.ensures.ok.1
 
 -- ---- items
 
