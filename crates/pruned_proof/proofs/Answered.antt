@@ -24,7 +24,9 @@ use Rattle.proof_laws.specs.Laws.{LaidIsRead}
 use Rattle.proof_laws.specs.Proving.{ProveAnswer, ProveAnswers, AnswersFor, CanProve, AllName, IsFirstNameless, pruned_for}
 use Rattle.proof_laws.specs.Proving.{shown_for, proof_for, most_cells, proved, stuck_at, no_such_path, not_whole, proof_too_deep}
 use Rattle.proof_laws.specs.Proving.{proof_too_large}
-use Rattle.pruned_proof.specs.Proved.{Answers, IsTheAnswer, ProvesOver}
+use Rattle.pruned_proof.specs.Proved.{Answers, CutsTo, IsTheAnswer, ProvesOver}
+use Rattle.pruned_proof.specs.declared.cutting.CutError.{CutError}
+use Rattle.pruned_proof.specs.declared.cutting.CutError.TheVariants.{Unread}
 use Rattle.std.specs.Prelude.{Result}
 use Rattle.pruned_proof.specs.declared.proving.Proved.{Proved}
 use Rattle.pruned_proof.specs.declared.error.ProveError.{ProveError}
@@ -55,6 +57,11 @@ module _ (one : OneProveAnswer) (then : ProveThenView) (commutes : PruningCommut
     nameless_answer n h =
         let P : Plain → Type 0 = λ z. IsFirstNameless z paths n in
         the (no_such_path n) (root, root_reads, subst P (sym root_is) h)
+
+    -- the walk never stops at a value that is read
+    pub never_unread : (a : Result Tree CutError) → a ≡ Err Unread
+        → ((r : LaidRoot) → plain_root r ≡ v → LaidReading (kept_cores s) t c r → CutsTo paths r c a) → ⊥
+    never_unread a is cuts = subst (CutsTo paths root c) is (cuts root root_is root_reads)
 
     module _ (named : AllName v paths) where
       all_named : AllName (plain_root root) paths

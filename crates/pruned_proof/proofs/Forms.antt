@@ -1,5 +1,5 @@
 -- A value of some form lies at a type of that form alone.
-use Rattle.std.proofs.Common.{◌≡◌, ℕ, Bool, true, false, ◌||◌, List, [], Option, Some, None, refl, sym, ap, ◌∙◌, subst, is_some}
+use Rattle.std.proofs.Common.{◌≡◌, ℕ, Bool, true, false, ◌||◌, ◌⊎◌, inl, inr, List, [], Option, Some, None, refl, sym, ap, ◌∙◌, subst, is_some}
 use Rattle.std.proofs.lemmas.Option.{none-some, same_Some}
 use Rattle.cell_nodes.specs.declared.tree.Hidden.{Hidden}
 use Rattle.cell_nodes.specs.declared.tree.Tree.{Tree}
@@ -14,6 +14,10 @@ use Rattle.pruning.specs.Laid.{Laid, number, bit_string, record_of, absent, list
 use Rattle.pruning.specs.Laid.{map_under, map_here, rest}
 use Rattle.pruning.specs.SpellsLaid.{SpellsLaid, SpellsLaidShape}
 use Rattle.pruned_proof.specs.Walks.{Is, Lies, mapped_here, mapped_under, named_as, referred, repeated}
+use Rattle.typed_value.specs.View.{value}
+use Rattle.typed_value.specs.declared.value.Value.{Value}
+use Rattle.typed_value.specs.declared.value.Value.TheVariants.{Absent, Raw, Unknown}
+use Rattle.pruned_proof.proofs.Seen.{is_absent, is_raw, is_unknown}
 use Rattle.pruned_proof.proofs.Typed.{AtType, type_lies}
 
 -- whether a type is of the value's form
@@ -57,14 +61,20 @@ module _ (schema : CoreSchema) (d : Laid) (t : Closed) (most : ℕ) (left : List
   fits v is = subst (λ z. stands z t ≡ true) is.value (together schema d t left outs after (type_lies schema d t left outs after l).lies)
 
   -- these forms stand at no type
-  pub no_absent : Is d values.absent most → ⊥
+  no_absent : Is d values.absent most → ⊥
   no_absent is = let e = fits values.absent is in absurd (cc)
 
-  pub no_unknown : (h : Hidden) → Is d (values.unknown h) most → ⊥
+  no_unknown : (h : Hidden) → Is d (values.unknown h) most → ⊥
   no_unknown h is = let e = fits (values.unknown h) is in absurd (cc)
 
-  pub no_raw : (c : Tree) → Is d (values.raw c) most → ⊥
+  no_raw : (c : Tree) → Is d (values.raw c) most → ⊥
   no_raw c is = let e = fits (values.raw c) is in absurd (cc)
+
+  pub no_bare : (v : Value) → (v ≡ Absent) ⊎ (((h : Hidden) × (v ≡ Unknown h)) ⊎ ((c : Tree) × (v ≡ Raw c)))
+      → Is d (value v) most → ⊥
+  no_bare v (inl e) is = no_absent (is_absent d v most e is)
+  no_bare v (inr (inl x)) is = no_unknown x.0 (is_unknown d v most x.0 x.1 is)
+  no_bare v (inr (inr x)) is = no_raw x.0 (is_raw d v most x.0 x.1 is)
 
   -- and these at a type of their own form
   pub no_reference : (v : Plain) → Is d (values.ref_to tt v) most → None ≡ referred t → ⊥
@@ -73,10 +83,13 @@ module _ (schema : CoreSchema) (d : Laid) (t : Closed) (most : ℕ) (left : List
   pub no_repetition : (vs : Plains) → Is d (values.list_of vs) most → None ≡ repeated t → ⊥
   no_repetition vs is none = let e = ap is_some none ∙ fits (values.list_of vs) is in absurd (cc)
 
+  abbrev nothing : Option (ℕ × Closed)
+  nothing = None
+
   pub no_map_there : (ps : PlainPairs) (us : List (List ℕ × Hidden)) → Is d (values.map_of tt ps us) most → mapped_here t ≡ None
       → None ≡ mapped_under t → ⊥
   no_map_there ps us is none nor =
-      let e = ap (λ (z : Option (ℕ × Closed)). is_some z || is_some {A = ℕ × Closed} None) (sym none)
+      let e = ap (λ (z : Option (ℕ × Closed)). is_some z || is_some nothing) (sym none)
       ∙ ap (λ (z : Option (ℕ × Closed)). is_some (mapped_here t) || is_some z) nor ∙ fits (values.map_of tt ps us) is in
       absurd (cc)
 

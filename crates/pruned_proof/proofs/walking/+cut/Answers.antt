@@ -41,10 +41,12 @@ use Rattle.pruned_proof.proofs.Chosen.{outputs_are, outputs_plain, planned_there
 use Rattle.typed_value.specs.Values.{Plain}
 use Rattle.std.proofs.lemmas.List.{drop_all}
 use Rattle.pruned_proof.proofs.Edges.{no_edge}
-use Rattle.pruned_proof.proofs.Seen.{is_bits, is_number, is_record, is_rest, item_next, list_seen, map_seen, ref_seen}
+use Rattle.pruned_proof.proofs.Seen.{is_bits, is_list, is_map, is_number, is_record, is_ref, is_rest, is_shown, item_next}
+use Rattle.pruned_proof.proofs.Forms.{at_declared, at_map_here, at_map_under, at_reference, at_repetition, no_bare, no_declared, no_map_there, no_reference, no_repetition}
+use Rattle.pruned_proof.specs.Walks.{Is}
 use Rattle.typed_value.specs.Values as forms
 use Rattle.typed_value.specs.View.{vals_of}
-use Rattle.pruned_proof.proofs.Typed.{at_dict, at_dict_e, at_ref, at_repeat, few_bits, inside}
+use Rattle.pruned_proof.proofs.Typed.{few_bits, inside}
 use Rattle.pruned_proof.proofs.Branched.{no_first, one_first}
 use Rattle.pruned_proof.proofs.Typed.{bits_give, dict_lies, empty_map, list_due, map_lies, number_gives, ref_outs, rest_gives}
 use Rattle.pruned_proof.proofs.Typed.{some_map, type_lies}
@@ -62,10 +64,6 @@ use Rattle.pruned_proof.proofs.Shaped.{shaped, at_shape, here_outs, under_outs, 
 use Rattle.pruned_proof.proofs.Shaped.{op_next, ops_end}
 use Rattle.plan_reading.specs.declared.shapes.FlatShape.TheVariants.{Here, Under, LeftOut, Typed}
 use Rattle.pruned_proof.proofs.walking.+cut.Goals as goal
-use Rattle.pruned_proof.proofs.walking.+cut.Goals.{cut_value-in_default-via-in-Ref+in_default}
-use Rattle.pruned_proof.proofs.walking.+cut.Goals.{cut_value-in_default-via-in-List+in_default}
-use Rattle.pruned_proof.proofs.walking.+cut.Goals.{cut_value-in_default-via-in-Map+in_default}
-use Rattle.pruned_proof.proofs.walking.+cut.Goals.{cut_value-in_default-via-in-Record+in_default, cut_value-in_default-via-in_default}
 
 pub cut_ref-returns-in_err-child : goal.cut_ref-returns-in_err-child
 cut_ref-returns-in_err-child t c = λ d outs after is l.
@@ -986,6 +984,168 @@ cut_value-returns-in_ok-keep_all-in-Rest t c = λ d outs after is l.
     c.args.cell.now c.keep_all.new.self outs after d (slice_of c.in-Rest.field-0)
     (is_rest d c.args.value.now c.args.levels c.in-Rest.field-0 c.in-Rest.is is) l
     c.in_ok-keep_all-in-Rest.ensures.ok.0 c.in_ok-keep_all-in-Rest.ensures.ok.1
+
+pub cut_value-returns-in-Ref : goal.cut_value-returns-in-Ref
+cut_value-returns-in-Ref t c = λ d outs after is l.
+    let it = c.in-Ref in
+    let at = subst (λ z. Is d (forms.ref_to tt (value_view z)) c.args.levels) (sym c.get.ensures)
+    (is_ref d c.args.value.now c.args.levels it.inner it.is is) in
+    c.cut_held.ensures d outs after (inside d _ c.args.levels c.if-levels-eq0.false at) l
+
+pub cut_value-returns-in-List : goal.cut_value-returns-in-List
+cut_value-returns-in-List t c = λ d outs after is l.
+    let it = c.in-List in
+    let at = subst (λ z. Is d (forms.list_of (vals_of (map value_view z))) c.args.levels) (sym c.as_slice-items.ensures)
+    (is_list d c.args.value.now c.args.levels it.items it.is is) in
+    c.cut_list.ensures d outs after (inside d _ c.args.levels c.if-levels-eq0.false at) l
+
+pub cut_value-returns-in-Map : goal.cut_value-returns-in-Map
+cut_value-returns-in-Map t c = λ d outs after is l.
+    let it = c.in-Map in
+    let at = subst (λ z. Is d (forms.map_of tt (pairs_of (map pair_of z)) it.dict.unknown) c.args.levels) (sym c.as_slice-pairs.ensures)
+    (is_map d c.args.value.now c.args.levels it.dict it.is is) in
+    c.cut_map.ensures d it.dict.unknown outs after (inside d _ c.args.levels c.if-levels-eq0.false at) l
+
+pub cut_value-returns-in-Record : goal.cut_value-returns-in-Record
+cut_value-returns-in-Record t c = λ d outs after is l.
+    let it = c.in-Record in
+    let at = is_shown d c.args.value.now c.args.levels it.record it.is is in
+    c.cut_record.ensures d outs after (inside d _ c.args.levels c.if-levels-eq0.false at) l
+
+pub cut_value-returns-in-Absent : goal.cut_value-returns-in-Absent
+cut_value-returns-in-Absent t c = λ d outs after is l.
+    no_bare (cores (schema_view c.args.plan.now.0)) d (type_view c.args.ty.now) c.args.levels c.args.cell.now.left outs after l
+    c.args.value.now c.in-Absent.is is
+
+-- ---- values at types of their form
+
+pub cut_held-returns-in_default : goal.cut_held-returns-in_default
+cut_held-returns-in_default t c = λ d outs after is l.
+    absurd (no_reference (cores (schema_view c.args.plan.now.0)) d (type_view c.args.ty.now) (c.args.levels + 1)
+    c.args.cell.now.left outs after l (value_view c.args.held.now) is
+    (ap (option_map _) (sym c.in_default.is) ∙ c.referred.ensures))
+
+pub cut_held-returns-in_err-cut_ref : goal.cut_held-returns-in_err-cut_ref
+cut_held-returns-in_err-cut_ref t c = λ d outs after is l.
+    let r = err_from_is_err_and c.from_residual.result c.from_residual.ensures.1 in
+    let x = at_reference (cores (schema_view c.args.plan.now.0)) d (type_view c.args.ty.now) (c.args.levels + 1)
+    c.args.cell.now.left outs after l (type_view c.in-Some.inner.now)
+    (ap (option_map _) (sym c.in-Some.is) ∙ c.referred.ensures) in
+    still _ c.from_residual.result c.in_err-cut_ref.field-0.0 (r.1 ∙ ap Err r.2) (c.in_err-cut_ref.ensures d outs after is x.lies)
+
+pub cut_held-returns : goal.cut_held-returns
+cut_held-returns t c = λ d outs after is l.
+    let S = cores (schema_view c.args.plan.now.0) in
+    let inner = type_view c.in-Some.inner.now in
+    let x = at_reference S d (type_view c.args.ty.now) (c.args.levels + 1) c.args.cell.now.left outs after l inner
+    (ap (option_map _) (sym c.in-Some.is) ∙ c.referred.ensures) in
+    (ref_outs S d inner c.args.cell.now.left outs after x.lies, c.in_ok-cut_ref.ensures d outs after is x.lies)
+
+pub cut_list-returns-in_default : goal.cut_list-returns-in_default
+cut_list-returns-in_default t c = λ d outs after is l.
+    absurd (no_repetition (cores (schema_view c.args.plan.now.0)) d (type_view c.args.ty.now) (c.args.levels + 1)
+    c.args.cell.now.left outs after l (vals_of (map value_view c.args.items.now)) is
+    (ap (option_map _) (sym c.in_default.is) ∙ c.repeated.ensures))
+
+pub cut_list-returns-in_err-cut_items : goal.cut_list-returns-in_err-cut_items
+cut_list-returns-in_err-cut_items t c = λ d outs after is l.
+    let r = err_from_is_err_and c.from_residual.result c.from_residual.ensures.1 in
+    let S = cores (schema_view c.args.plan.now.0) in
+    let k = rests_of c.args.wanted.now in
+    let n = c.in-Some.count.now in
+    let inner = type_view c.in-Some.inner.now in
+    let x = at_repetition S d (type_view c.args.ty.now) (c.args.levels + 1) c.args.cell.now.left outs after l n inner
+    (ap (option_map _) (sym c.in-Some.is) ∙ c.repeated.ensures) in
+    let few : n ≤ 4294967295 = omega (arith, c.count_of-count.ensures.same, c.count_of-count.ensures.small) in
+    let y = list_due S k c.args.levels n inner outs after (map value_view c.args.items.now) c.args.cell.now d few is x.lies in
+    still _ c.from_residual.result c.in_err-cut_items.field-0.0 (r.1 ∙ ap Err r.2)
+    (c.in_err-cut_items.ensures after (c.args.cell.now.made.items ++ cut_for k d) y.due)
+
+pub cut_list-returns : goal.cut_list-returns
+cut_list-returns t c = λ d outs after is l.
+    let S = cores (schema_view c.args.plan.now.0) in
+    let k = rests_of c.args.wanted.now in
+    let n = c.in-Some.count.now in
+    let inner = type_view c.in-Some.inner.now in
+    let x = at_repetition S d (type_view c.args.ty.now) (c.args.levels + 1) c.args.cell.now.left outs after l n inner
+    (ap (option_map _) (sym c.in-Some.is) ∙ c.repeated.ensures) in
+    let few : n ≤ 4294967295 = omega (arith, c.count_of-count.ensures.same, c.count_of-count.ensures.small) in
+    let y = list_due S k c.args.levels n inner outs after (map value_view c.args.items.now) c.args.cell.now d few is x.lies in
+    (y.none, c.in_ok-cut_items.ensures after (c.args.cell.now.made.items ++ cut_for k d) y.due)
+
+pub cut_map-returns-in_default : goal.cut_map-returns-in_default
+cut_map-returns-in_default t c = λ d hidden outs after is l.
+    c.cut_map_under.ensures d hidden outs after is (sym (ap (option_map _) (sym c.in_default.is) ∙ c.mapped_here.ensures)) l
+
+pub cut_map-returns-in_err-cut_edge : goal.cut_map-returns-in_err-cut_edge
+cut_map-returns-in_err-cut_edge t c = λ d hidden outs after is l.
+    let r = err_from_is_err_and c.from_residual.result c.from_residual.ensures.1 in
+    let S = cores (schema_view c.args.plan.now.0) in
+    let n = c.in-Some.field-0-0.now in
+    let inner = type_view c.in-Some.inner.now in
+    let x = at_map_here S d (type_view c.args.ty.now) (c.args.levels + 1) c.args.cell.now.left outs after l n inner
+    (ap (option_map _) (sym c.in-Some.is) ∙ c.mapped_here.ensures) in
+    let y = dict_lies S c.args.levels n inner c.args.cell.now.left outs after (pairs_of (map pair_of c.args.pairs.now)) hidden d is
+    x.lies in
+    still _ c.from_residual.result c.in_err-cut_edge.field-0.0 (r.1 ∙ ap Err r.2)
+    (c.in_err-cut_edge.ensures [] y.edge n [] after (few_bits n x.wide) y.is_edge y.lies)
+
+pub cut_map-returns : goal.cut_map-returns
+cut_map-returns t c = λ d hidden outs after is l.
+    let S = cores (schema_view c.args.plan.now.0) in
+    let k = rests_of c.args.wanted.now in
+    let n = c.in-Some.field-0-0.now in
+    let inner = type_view c.in-Some.inner.now in
+    let x = at_map_here S d (type_view c.args.ty.now) (c.args.levels + 1) c.args.cell.now.left outs after l n inner
+    (ap (option_map _) (sym c.in-Some.is) ∙ c.mapped_here.ensures) in
+    let y = dict_lies S c.args.levels n inner c.args.cell.now.left outs after (pairs_of (map pair_of c.args.pairs.now)) hidden d is
+    x.lies in
+    (y.none, moves_as _ (cut_for k d) after.refs c.args.cell.now c.cut_edge.new.cell (y.made k)
+    (c.in_ok-cut_edge.ensures [] y.edge n [] after (few_bits n x.wide) y.is_edge y.lies))
+
+pub cut_map_under-returns-in_default : goal.cut_map_under-returns-in_default
+cut_map_under-returns-in_default t c = λ d hidden outs after is here l.
+    absurd (no_map_there (cores (schema_view c.args.plan.now.0)) d (type_view c.args.ty.now) (c.args.levels + 1)
+    c.args.cell.now.left outs after l (pairs_of (map pair_of c.args.pairs.now)) hidden is here
+    (ap (option_map _) (sym c.in_default.is) ∙ c.mapped_under.ensures))
+
+pub cut_map_under-returns-in_err-cut_root_edge : goal.cut_map_under-returns-in_err-cut_root_edge
+cut_map_under-returns-in_err-cut_root_edge t c = λ d hidden outs after is here l.
+    let r = err_from_is_err_and c.from_residual.result c.from_residual.ensures.1 in
+    let S = cores (schema_view c.args.plan.now.0) in
+    let n = c.in-Some.field-0-0.now in
+    let inner = type_view c.in-Some.inner.now in
+    let x = at_map_under S d (type_view c.args.ty.now) (c.args.levels + 1) c.args.cell.now.left outs after l n inner
+    (ap (option_map _) (sym c.in-Some.is) ∙ c.mapped_under.ensures) in
+    let y = map_lies S (c.args.levels + 1) n inner c.args.cell.now.left outs after (pairs_of (map pair_of c.args.pairs.now)) hidden
+    d is x.lies in
+    still _ c.from_residual.result c.in_err-cut_root_edge.field-0.0 (r.1 ∙ ap Err r.2)
+    (c.in_err-cut_root_edge.ensures d n outs after (few_bits n x.wide) y.is x.lies)
+
+pub cut_map_under-returns : goal.cut_map_under-returns
+cut_map_under-returns t c = λ d hidden outs after is here l.
+    let S = cores (schema_view c.args.plan.now.0) in
+    let n = c.in-Some.field-0-0.now in
+    let inner = type_view c.in-Some.inner.now in
+    let x = at_map_under S d (type_view c.args.ty.now) (c.args.levels + 1) c.args.cell.now.left outs after l n inner
+    (ap (option_map _) (sym c.in-Some.is) ∙ c.mapped_under.ensures) in
+    let y = map_lies S (c.args.levels + 1) n inner c.args.cell.now.left outs after (pairs_of (map pair_of c.args.pairs.now)) hidden
+    d is x.lies in
+    (y.none, c.in_ok-cut_root_edge.ensures d n outs after (few_bits n x.wide) y.is x.lies)
+
+pub cut_record-returns-in_default : goal.cut_record-returns-in_default
+cut_record-returns-in_default t c = λ d outs after is l.
+    let parts = record_parts c.args.record.now in
+    absurd (no_declared (cores (schema_view c.args.plan.now.0)) d (type_view c.args.ty.now) (c.args.levels + 1)
+    c.args.cell.now.left outs after l parts.0 (names_in parts.1) (vals_in parts.1) is
+    (ap (option_map _) (sym c.in_default.is) ∙ c.named_as.ensures))
+
+pub cut_record-returns : goal.cut_record-returns
+cut_record-returns t c = λ d outs after is l.
+    let x = at_declared (cores (schema_view c.args.plan.now.0)) d (type_view c.args.ty.now) (c.args.levels + 1)
+    c.args.cell.now.left outs after l c.in-Some.name.now (closed_args c.in-Some.args.now)
+    (ap (option_map _) (sym c.in-Some.is) ∙ c.named_as.ensures) in
+    c.cut_declared.ensures d outs after is x.lies
 
 -- ---- items
 

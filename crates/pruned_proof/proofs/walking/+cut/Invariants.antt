@@ -53,6 +53,21 @@ decreases-cut_branch l = 4096 * l.levels + 2 * l.left + 2
 abbrev pub decreases-cut_root_edge : goal.decreases-cut_root_edge
 decreases-cut_root_edge l = 4096 * l.levels + 2049
 
+abbrev pub decreases-cut_held : goal.decreases-cut_held
+decreases-cut_held l = 4096 * l.levels + 3
+
+abbrev pub decreases-cut_list : goal.decreases-cut_list
+decreases-cut_list l = 4096 * l.levels + 2
+
+abbrev pub decreases-cut_map : goal.decreases-cut_map
+decreases-cut_map l = 4096 * l.levels + 2051
+
+abbrev pub decreases-cut_map_under : goal.decreases-cut_map_under
+decreases-cut_map_under l = 4096 * l.levels + 2050
+
+abbrev pub decreases-cut_record : goal.decreases-cut_record
+decreases-cut_record l = 4096 * l.levels + 7
+
 abbrev pub invariant-cut_fields-loop-op : goal.invariant-cut_fields-loop-op
 invariant-cut_fields-loop-op l = record {
   sound : OpsAreSound l.plan.1 (length l.plan.1.types) (drop l.op-index l.ops);

@@ -1,4 +1,4 @@
-use Rattle.std.proofs.Common.{arith, ◌≡◌, ◌∙◌, sym, ap, ◌+◌, ◌-◌, ◌/◌, Some, true, List, ℕ}
+use Rattle.std.proofs.Common.{arith, ◌≡◌, ◌∙◌, sym, ◌+◌, ◌-◌, ◌/◌, Some, true}
 use Rattle.bit_slice.specs.Bits.{bit_value}
 use Rattle.pruned_proof.proofs.Turning.{halved_before, halved_after, none_there, one_there}
 use Rattle.pruned_proof.proofs.walking.turn.Goals as goal

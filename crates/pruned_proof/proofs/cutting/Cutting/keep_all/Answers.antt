@@ -1,4 +1,4 @@
-use Rattle.std.proofs.Common.{◌≡◌, ◌++◌, ◌∙◌, sym, ap, List}
+use Rattle.std.proofs.Common.{◌++◌, ◌∙◌, sym, ap, List}
 use Rattle.std.proofs.lemmas.List.{append-nil}
 use Rattle.cell_nodes.specs.declared.tree.Tree.{Tree}
 use Rattle.pruned_proof.proofs.cutting.Cutting.keep_all.Goals as goal
