@@ -27,7 +27,12 @@ use Rattle.proof_laws.specs.Proving.{proof_too_large}
 use Rattle.pruned_proof.specs.Proved.{Answers, CutsTo, IsTheAnswer, ProvesOver}
 use Rattle.pruned_proof.specs.declared.cutting.CutError.{CutError}
 use Rattle.pruned_proof.specs.declared.cutting.CutError.TheVariants.{Unread}
+use Rattle.field_plan.specs.declared.place.Place.{Place as PlaceOf}
 use Rattle.std.specs.Prelude.{Result}
+use Rattle.typed_reader.specs.Promise.{Answers as ReadAnswers}
+use Rattle.typed_reader.specs.declared.error.ReadError.{ReadError}
+use Rattle.typed_reader.specs.declared.error.ReadError.TheVariants as reads
+use Rattle.typed_value.specs.declared.value.Value.{Value}
 use Rattle.pruned_proof.specs.declared.proving.Proved.{Proved}
 use Rattle.pruned_proof.specs.declared.error.ProveError.{ProveError}
 use Rattle.pruned_proof.specs.declared.error.ProveError.TheVariants as errors
@@ -37,8 +42,15 @@ module _ (one : OneProveAnswer) (then : ProveThenView) (commutes : PruningCommut
   the : (a : ProveAnswer) → ProveAnswers (kept_cores s) t c paths a → IsTheAnswer (kept_cores s) t c paths a
   the a h = record { holds = h; only = λ b k. (one s accepted t c paths).one b a k h }
 
-  pub stuck_answer : (p : Place) → Stuck Whole (kept_cores s) t c p → IsTheAnswer (kept_cores s) t c paths (stuck_at p)
+  stuck_answer : (p : Place) → Stuck Whole (kept_cores s) t c p → IsTheAnswer (kept_cores s) t c paths (stuck_at p)
   stuck_answer p h = the (stuck_at p) h
+
+  pub stuck_read : (a : Result Value ReadError) (e : ReadError) (p q : PlaceOf) → a ≡ Err e → e ≡ reads.Stuck p → p ≡ q
+      → ReadAnswers Whole (kept_cores s) t c a → IsTheAnswer (kept_cores s) t c paths (stuck_at (place_view q))
+  stuck_read a e p q is stuck same h =
+      let R : Result Value ReadError → Type 0 = ReadAnswers Whole (kept_cores s) t c in
+      let it = subst R (is ∙ ap Err (stuck ∙ ap reads.Stuck same)) h in
+      stuck_answer (place_view q) it.stuck
 
   -- with a reading
   module _ (v : Plain) (reading : Reading Whole (kept_cores s) t c v) where

@@ -4,16 +4,17 @@ use Rattle.field_plan.specs.Placed.{place_view}
 use Rattle.tlb_syntax.specs.View.{schema as schema_view}
 use Rattle.typed_value.specs.View.{value as value_view}
 use Rattle.pruned_proof.specs.Proved.{path_views}
-use Rattle.pruned_proof.proofs.Answered.{child_of, child_reads, nameless_answer, never_unread, part_answer, proof_answers, stuck_answer}
+use Rattle.pruned_proof.proofs.Answered.{child_of, child_reads, nameless_answer, never_unread, part_answer, proof_answers, stuck_read}
 use Rattle.pruned_proof.proofs.proving.prove.Goals as goal
 
 pub returns-in-Err-Stuck : goal.returns-in-Err-Stuck
 returns-in-Err-Stuck c =
-    stuck_answer
+    stuck_read
     c.one_prove_answer.ensures c.prove_then_view.ensures c.pruning_commutes.ensures c.read_or_stuck.ensures
     c.laid_is_read.ensures (schema_view c.args.plan.now.0) c.schema.ensures.accepted (type_view c.args.ty.now) c.args.cell.now
     c.good.ensures (path_views c.args.keep.now)
-    (place_view c.in-Err-Stuck.place) c.in-Err-Stuck.ensures.stuck
+    c.read.result c.in-Err-Stuck.field-0 c.in-Err-Stuck.place _ c.in-Err-Stuck.is c.in-Err-Stuck.field-0-is
+    (sym c.in-Err-Stuck.place-is) c.read.ensures
 
 pub returns-in-Some : goal.returns-in-Some
 returns-in-Some c =
