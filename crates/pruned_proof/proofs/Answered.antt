@@ -1,5 +1,5 @@
 -- The answer that there is, by what was read and cut.
-use Rattle.std.proofs.Common.{◌≡◌, ◌≢◌, ◌<◌, ◌≤◌, ℕ, List, [], ◌∷◌, Some, None, Ok, Err, refl, sym, ap, ◌∙◌, subst, true, false}
+use Rattle.std.proofs.Common.{◌≡◌, ◌≢◌, ◌<◌, ◌≤◌, ℕ, List, Ok, Err, sym, ap, ◌∙◌, subst}
 use Rattle.accepted_pruning.specs.Laws.{OneProveAnswer, ProveThenView, PruningCommutes}
 use Rattle.accepted_schema.specs.Accepted.{IsAccepted, kept_cores}
 use Rattle.accepted_spelling.specs.Laws.{ReadOrStuck}
@@ -21,7 +21,7 @@ use Rattle.pruning.specs.SpellsLaid.{LaidRoot, plain_root, LaidReading}
 use Rattle.pruning.specs.Blanked.{Blanked}
 use Rattle.pruning.specs.Spots.{unkept, spots_of}
 use Rattle.proof_laws.specs.Laws.{LaidIsRead}
-use Rattle.proof_laws.specs.Proving.{ProveAnswer, ProveAnswers, AnswersFor, CanProve, AllName, IsFirstNameless, pruned_for}
+use Rattle.proof_laws.specs.Proving.{ProveAnswer, ProveAnswers, CanProve, AllName, IsFirstNameless, pruned_for}
 use Rattle.proof_laws.specs.Proving.{shown_for, proof_for, most_cells, proved, stuck_at, no_such_path, not_whole, proof_too_deep}
 use Rattle.proof_laws.specs.Proving.{proof_too_large}
 use Rattle.pruned_proof.specs.Proved.{Answers, CutsTo, IsTheAnswer, ProvesOver}

@@ -1,13 +1,12 @@
 -- The constructor that a record is shown by, and the fields that are due of it.
-use Rattle.std.proofs.Common.{◌≡◌, ℕ, zero, suc, ◌+◌, ◌-◌, ◌<◌, ◌≤◌, List, [], ◌∷◌, ◌++◌, All, Bool, true, false, Option, Some}
-use Rattle.std.proofs.Common.{None, IsSome, Result, Ok, Err, length, map, refl, ap, sym, ◌∙◌, subst, arith}
+use Rattle.std.proofs.Common.{◌≡◌, ℕ, zero, suc, ◌+◌, ◌<◌, List, [], ◌∷◌, ◌++◌, All, Option, Some}
+use Rattle.std.proofs.Common.{None, IsSome, length, map, refl, ap, sym, ◌∙◌, subst, arith}
 use Rattle.std.proofs.Common.{slice_get, option_map, is_some}
 use Rattle.std.proofs.lemmas.Bool.{false≢true}
 use Rattle.std.proofs.lemmas.Option.{none-some, same_Some}
-use Rattle.cell_nodes.specs.declared.tree.Tree.{Tree}
 use Rattle.core_form.specs.Closed.{ClosedArgs}
 use Rattle.core_form.specs.Closed as closed
-use Rattle.core_form.specs.Core.{Constructor, CoreSchema, Declaration, Items, Word}
+use Rattle.core_form.specs.Core.{CoreSchema, Declaration, Word}
 use Rattle.core_form.specs.Fit.{fit, meet_all}
 use Rattle.core_form.specs.Scope.{Scope, unset, values_in}
 use Rattle.field_plan.specs.Choosing.{IsNamed}

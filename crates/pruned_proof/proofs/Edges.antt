@@ -1,10 +1,9 @@
 -- The pairs of an edge: the one of a leaf, or those whose keys go on with 0 and then those whose keys go on with 1.
-use Rattle.std.proofs.Common.{◌≡◌, ℕ, zero, suc, ◌+◌, ◌-◌, ◌<◌, ◌≤◌, List, [], ◌∷◌, ◌++◌, Option, Some, None, refl, sym, ap}
+use Rattle.std.proofs.Common.{◌≡◌, ℕ, zero, suc, ◌-◌, ◌<◌, ◌≤◌, List, [], ◌∷◌, ◌++◌, Some, refl, sym, ap}
 use Rattle.std.proofs.Common.{◌∙◌, subst, arith, append_assoc, length, length-append, map, take, drop, slice_get}
-use Rattle.std.proofs.lemmas.List.{drop-map}
 use Rattle.std.proofs.lemmas.Option.{same_Some}
 use Rattle.cell_nodes.specs.declared.tree.Tree.{Tree}
-use Rattle.typed_value.specs.Values.{Plain, PlainPairs, a_pair, levels, levels_by, no_pairs}
+use Rattle.typed_value.specs.Values.{Plain, PlainPairs, a_pair, levels_by, no_pairs}
 use Rattle.typed_value.specs.View.{pair_of, pairs_of, value}
 use Rattle.typed_value.specs.declared.value.Value.{Value}
 use Rattle.pruning.specs.Laid.{LaidEdge, a_fork, a_leaf, below, join, plain, plain_pairs}

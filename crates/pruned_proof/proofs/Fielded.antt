@@ -1,5 +1,5 @@
 -- The fields of a record and the items of a repetition, one after the other.
-use Rattle.std.proofs.Common.{◌≡◌, ℕ, zero, suc, ◌+◌, ◌≤◌, List, [], ◌∷◌, ◌++◌, Option, Ok, Err, refl, sym, ap, ◌∙◌, subst}
+use Rattle.std.proofs.Common.{◌≡◌, ℕ, suc, ◌+◌, ◌≤◌, List, [], ◌∷◌, ◌++◌, Option, Ok, Err, sym, ap, ◌∙◌, subst}
 use Rattle.std.proofs.Common.{arith, append_assoc, Result}
 use Rattle.std.proofs.lemmas.List.{append-nil}
 use Rattle.cell_nodes.specs.declared.tree.Tree.{Tree}
@@ -7,7 +7,7 @@ use Rattle.core_form.specs.Closed.{Closed}
 use Rattle.core_form.specs.Core.{CoreSchema, Condition, Items, Ty, Word, no_items, an_item, check, solve, field, sets}
 use Rattle.core_form.specs.Scope.{Scope, with_number, bind}
 use Rattle.hashmap_tree.specs.Entries.{Slice}
-use Rattle.nat_solver.specs.Number.{Expr, OneUnknown, Solves}
+use Rattle.nat_solver.specs.Number.{Expr, OneUnknown}
 use Rattle.nat_solver.specs.declared.compare.Op.{Op}
 use Rattle.spelling.specs.Goals.{Goal, at_field, at_type}
 use Rattle.spelling.specs.PlainReader.{sought_number}
@@ -15,7 +15,7 @@ use Rattle.spelling.specs.Spells.{Fields, Repeats}
 use Rattle.spelling.specs.declared.Cause.{Cause}
 use Rattle.spelling_laws.specs.SolvingLaws.{sought_complete}
 use Rattle.typed_value.specs.Paths.{named, item}
-use Rattle.typed_value.specs.Values.{Plain, Plains, a_val, no_vals, levels, levels_in}
+use Rattle.typed_value.specs.Values.{Plain, Plains, a_val, no_vals}
 use Rattle.typed_value.specs.View.{names_in, vals_in, vals_of}
 use Rattle.pruning.specs.Laid.{Laid, Laids, no_laids, a_laid, plain, plain_all, trees}
 use Rattle.pruning.specs.SpellsLaid.{SpellsLaid, EachLaid}

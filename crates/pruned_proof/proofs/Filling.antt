@@ -1,5 +1,5 @@
 -- The cell of a laid value, from its references to the cell that is made.
-use Rattle.std.proofs.Common.{◌≡◌, ℕ, List, [], ◌∷◌, ◌++◌, Ok, refl, sym, ap, ◌∙◌, subst}
+use Rattle.std.proofs.Common.{◌≡◌, ℕ, List, [], ◌∷◌, Ok, refl, sym, ap, ◌∙◌, subst}
 use Rattle.cell_nodes.specs.Equations.{out-tree_of}
 use Rattle.cell_nodes.specs.declared.tree.Kind.TheVariants.{Ordinary}
 use Rattle.cell_nodes.specs.declared.tree.Mode.TheVariants.{Whole}
@@ -8,7 +8,7 @@ use Rattle.core_form.specs.Closed.{Closed}
 use Rattle.core_form.specs.Closed as closed
 use Rattle.core_form.specs.Core.{CoreSchema, Items}
 use Rattle.core_form.specs.Scope.{Scope}
-use Rattle.hashmap_tree.specs.Entries.{Slice, cell_of, Then}
+use Rattle.hashmap_tree.specs.Entries.{Slice, cell_of}
 use Rattle.spelling.specs.Goals.{Goal, Shape, at_type, at_cell, at_fields, fields_here, shape_of, typed, under_ref}
 use Rattle.spelling.specs.Slices.{nothing, only_ref}
 use Rattle.spelling.specs.Spells.{Holds}

@@ -1,6 +1,6 @@
 -- The first path that names nothing, one path after the other.
 use Rattle.std.proofs.Common.{◌≡◌, ℕ, zero, suc, ◌+◌, ◌<◌, ◌≤◌, ◌⊎◌, inl, inr, List, [], ◌∷◌, Some, refl, sym, ap, ◌∙◌, subst, arith}
-use Rattle.std.proofs.Common.{get_or, length, map, slice_get}
+use Rattle.std.proofs.Common.{get_or, length, slice_get}
 use Rattle.std.proofs.lemmas.Option.{same_Some, slice_get_within}
 use Rattle.pruning.specs.Knowing.{NamesSomething}
 use Rattle.typed_value.specs.Paths.{Stride}

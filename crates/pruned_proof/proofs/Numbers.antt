@@ -1,12 +1,12 @@
 -- The output of a number.
-use Rattle.std.proofs.Common.{◌≡◌, ℕ, ◌<◌, ◌≤◌, ◌^◌, Bool, true, false, cond, List, [], ◌∷◌, Option, Some, None, refl, sym, ap, ◌∙◌, arith, nat_le}
+use Rattle.std.proofs.Common.{◌≡◌, ℕ, ◌<◌, ◌≤◌, ◌^◌, Bool, true, false, cond, List, [], ◌∷◌, Some, None, sym, arith, nat_le}
 use Rattle.std.proofs.Common.{pow_mono}
 use Rattle.std.proofs.lemmas.Bool.{leb-true}
 use Rattle.std.proofs.lemmas.Option.{same_Some}
 use Rattle.core_form.specs.Closed.{Closed}
 use Rattle.core_form.specs.Closed as closed
 use Rattle.hashmap_tree.specs.Entries.{Slice}
-use Rattle.spelling.specs.Goals.{Row, in_table, integer, natural, no_row, row, string}
+use Rattle.spelling.specs.Goals.{in_table, integer, natural, row, string}
 use Rattle.spelling.specs.Spells.{SpellsNumber}
 use Rattle.pruned_proof.specs.Walks.{most_own}
 

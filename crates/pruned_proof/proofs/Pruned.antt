@@ -4,11 +4,10 @@ use Rattle.std.proofs.Common.{sym, ap, ◌∙◌, subst, arith, Result, Ok, Err,
 use Rattle.std.specs.Prelude.{IfOk, IsErrOf}
 use Rattle.cell_nodes.specs.Constructed.{stub}
 use Rattle.cell_nodes.specs.Equations.{out-tree_of}
-use Rattle.cell_nodes.specs.Good.{IsGood}
 use Rattle.cell_nodes.specs.GoodParts.{good-sound}
 use Rattle.cell_nodes.specs.Prunes.{Prunes, same, hidden, ordinary, AllPrune, none, more}
 use Rattle.cell_nodes.specs.PrunesGoodLaws.{prunes-good}
-use Rattle.cell_nodes.specs.Tree.{tree_of, mask, deepest}
+use Rattle.cell_nodes.specs.Tree.{mask, deepest}
 use Rattle.cell_nodes.specs.declared.tree.Kind.TheVariants.{Ordinary}
 use Rattle.cell_nodes.specs.declared.tree.Tree.{Tree, out-Tree}
 use Rattle.cell_nodes.specs.declared.tree.Tree.TheOpen.{Tree-F}
@@ -20,10 +19,10 @@ use Rattle.pruning.specs.Spots.{first_name, other_names}
 use Rattle.pruning_laws.specs.ChoiceLaws.{all_same}
 use Rattle.pruning_laws.specs.CleanLaws.{IsClean, AllClean, clean-left, clean-right, clean-below}
 use Rattle.pruning_laws.specs.FilledLaws.{IsFilled, AreFilled, IsFilledEdge}
-use Rattle.pruning_laws.specs.ReadsLaws.{all-append, all-length}
+use Rattle.pruning_laws.specs.ReadsLaws.{all-append}
 use Rattle.typed_value.specs.Paths.{Stride, named, item, keyed}
 use Rattle.pruned_proof.specs.Walks.{Gives}
-use Rattle.pruned_proof.specs.Wanted.{Rests, is_nothing, is_whole, is_empty, add, each, advanced, entering, onward, below}
+use Rattle.pruned_proof.specs.Wanted.{Rests, is_nothing, is_whole, add, each, advanced, entering, onward, below}
 use Rattle.pruned_proof.specs.Wanted.{cut_at, cut_for, cut_fields_for, cut_items_for, cut_edge_for}
 use Rattle.pruned_proof.specs.declared.cutting.CutError.{CutError}
 use Rattle.pruned_proof.specs.declared.cutting.CutError.TheVariants.{Unread, NoMemory}

@@ -1,15 +1,12 @@
 -- A record, by its fields.
-use Rattle.std.proofs.Common.{◌≡◌, ℕ, suc, ◌+◌, ◌-◌, ◌<◌, List, [], ◌∷◌, ◌++◌, Option, Some, None, Ok, refl, sym, ap, ◌∙◌, subst, arith}
-use Rattle.cell_nodes.specs.declared.tree.Tree.{Tree}
+use Rattle.std.proofs.Common.{◌≡◌, ℕ, ◌-◌, List, ◌++◌, Option, Some, None, sym, ap, ◌∙◌, arith}
 use Rattle.core_form.specs.Core.{CoreSchema, Items}
 use Rattle.core_form.specs.Scope.{Scope}
 use Rattle.hashmap_tree.specs.Entries.{Slice}
 use Rattle.spelling.specs.Goals.{fields_here}
-use Rattle.spelling.specs.Spells.{Fields}
 use Rattle.typed_value.specs.Values.{Plain, Plains, levels, levels_in}
-use Rattle.typed_value.specs.Values as values
 use Rattle.typed_value.specs.View.{names_in, vals_in}
-use Rattle.pruning.specs.Laid.{Laid, number, bit_string, record_of, absent, list_of, ref_to, ref_to_raw, no_map, plain}
+use Rattle.pruning.specs.Laid.{Laid, number, bit_string, record_of, absent, list_of, ref_to, ref_to_raw, no_map}
 use Rattle.pruning.specs.Laid.{map_under, map_here, rest, plain_all}
 use Rattle.pruning.specs.SpellsLaid.{SpellsLaidShape}
 use Rattle.pruned_proof.specs.Walks.{Due, Is, Lies, fields_of}

@@ -1,24 +1,23 @@
 -- The tree of a root, by what is cut in it.
-use Rattle.std.proofs.Common.{◌≡◌, ℕ, ◌≤◌, true, false, List, [], ◌∷◌, Ok, Err, refl, sym, ap, ◌∙◌, subst, arith, Result}
+use Rattle.std.proofs.Common.{◌≡◌, true, false, Ok, Err, refl, sym, ap, ◌∙◌, subst, arith, Result}
 use Rattle.accepted_schema.specs.Accepted.{kept_cores}
 use Rattle.cell_nodes.specs.Good.{IsGood}
 use Rattle.cell_nodes.specs.Tree.{mask}
 use Rattle.cell_nodes.specs.declared.tree.Tree.{Tree}
 use Rattle.core_form.specs.Closed.{Closed}
-use Rattle.core_form.specs.Core.{CoreSchema}
 use Rattle.schema_leads.specs.Tags.{cores}
 use Rattle.spelling.specs.Goals.{under_ref}
 use Rattle.tlb_kinds.specs.Refusals.{kept_of}
 use Rattle.tlb_syntax.specs.Tree.{SchemaView}
 use Rattle.typed_value.specs.Values.{Plain, levels, most_levels}
 use Rattle.pruning.specs.Cut.{cell_with}
-use Rattle.pruning.specs.Laid.{Laid, plain, trees}
+use Rattle.pruning.specs.Laid.{Laid}
 use Rattle.pruning.specs.SpellsLaid.{LaidRoot, as_it_is, laid, plain_root, LaidReading}
 use Rattle.pruning_laws.specs.FilledLaws.{cell_filled, takes}
 use Rattle.proof_laws.specs.Proving.{pruned_for}
 use Rattle.pruned_proof.specs.Proved.{CutsTo}
 use Rattle.pruned_proof.specs.Walks.{Fills, Gives, Is, is_raw}
-use Rattle.pruned_proof.specs.Wanted.{Rests, is_whole, cut_for, cut_root_for}
+use Rattle.pruned_proof.specs.Wanted.{Rests, is_whole, cut_for}
 use Rattle.pruned_proof.specs.declared.cutting.CutError.{CutError}
 use Rattle.pruned_proof.specs.declared.cutting.CutError.TheVariants.{Unread, NoMemory}
 use Rattle.pruned_proof.proofs.CutLaws.{cuts_root}

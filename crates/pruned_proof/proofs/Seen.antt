@@ -1,8 +1,8 @@
 -- What values of some forms stand for.
-use Rattle.std.proofs.Common.{◌≡◌, ℕ, List, [], ◌∷◌, map, rules, sym, ap, ◌∙◌, subst, Option, arith, suc, ◌+◌, ◌<◌, drop, drop-cons, get_or, length}
+use Rattle.std.proofs.Common.{◌≡◌, ℕ, List, ◌∷◌, map, rules, sym, ap, ◌∙◌, subst, arith, suc, ◌+◌, ◌<◌, drop, drop-cons, get_or, length}
 use Rattle.cell_nodes.specs.declared.tree.Hidden.{Hidden}
 use Rattle.cell_nodes.specs.declared.tree.Tree.{Tree}
-use Rattle.typed_value.specs.Values.{PlainPairs, absent, bit_string, list_of, map_of, number, raw, record_of, ref_to, rest, unknown}
+use Rattle.typed_value.specs.Values.{absent, bit_string, list_of, map_of, number, raw, record_of, ref_to, rest, unknown}
 use Rattle.typed_value.specs.View.{names_in, pair_of, pairs_of, record_parts, RecordParts, slice_of, vals_in, vals_of, value}
 use Rattle.typed_value.specs.declared.value.Dict.{Dict}
 use Rattle.typed_value.specs.declared.value.Number.{Number as TheNumber}

@@ -1,5 +1,5 @@
 -- The shape of a field's type, and the operations of a record.
-use Rattle.std.proofs.Common.{◌≡◌, ℕ, suc, ◌+◌, ◌<◌, ◌≤◌, List, [], ◌∷◌, ◌++◌, Option, Some, None, Result, Ok, refl, sym, ap, ◌∙◌, subst, arith}
+use Rattle.std.proofs.Common.{◌≡◌, ℕ, suc, ◌+◌, ◌<◌, ◌≤◌, List, [], ◌∷◌, Option, Some, None, Result, Ok, sym, ap, ◌∙◌, subst, arith}
 use Rattle.std.proofs.Common.{length, drop, drop-cons, get_or, Bool, true, cond, Err}
 use Rattle.closed_type.specs.View.{closed_type}
 use Rattle.closed_type.specs.declared.tree.ClosedType.{ClosedType}
@@ -8,7 +8,6 @@ use Rattle.cell_nodes.specs.declared.tree.Tree.{Tree}
 use Rattle.core_form.specs.Core.{CoreSchema, Items}
 use Rattle.core_form.specs.Scope.{Scope}
 use Rattle.flat_form.specs.GrowthLaws.{ops_higher}
-use Rattle.flat_form.specs.Sound.{OpsAreSound}
 use Rattle.flat_form.specs.Stands.{items_in, range, record_at, type_at}
 use Rattle.flat_form.specs.declared.lists.Flat.{Flat}
 use Rattle.flat_form.specs.declared.lists.PlanOp.{PlanOp}

@@ -1,5 +1,5 @@
 -- One operation of a record, and the fields that are due after it.
-use Rattle.std.proofs.Common.{◌≡◌, ℕ, ◌+◌, List, [], ◌∷◌, Option, Some, None, Result, Ok, Err, sym, ap, ◌∙◌, subst, slice_set, map}
+use Rattle.std.proofs.Common.{◌≡◌, ℕ, List, [], ◌∷◌, Option, Some, None, Ok, Err, sym, ap, ◌∙◌, subst, slice_set}
 use Rattle.cell_nodes.specs.declared.tree.Tree.{Tree}
 use Rattle.closed_type.specs.declared.tree.ClosedType.{ClosedType}
 use Rattle.core_form.specs.Core.{Condition, CoreSchema, sets}

@@ -1,6 +1,6 @@
 -- Where pairs turn, by halves.
 use Rattle.std.proofs.Common.{◌≡◌, ℕ, zero, suc, ◌+◌, ◌<◌, ◌≤◌, ◌⊎◌, inl, inr, Bool, true, false, List, [], ◌∷◌, Option, Some, None}
-use Rattle.std.proofs.Common.{refl, sym, ap, ◌∙◌, subst, arith, length, map, slice_get, get_or, nat_le, nat_eq, cond}
+use Rattle.std.proofs.Common.{refl, sym, ap, ◌∙◌, arith, length, map, slice_get, get_or, nat_le, nat_eq, cond}
 use mathlib.Core.Bool.{beq}
 use Rattle.std.specs.Option.{option_eq}
 use Rattle.std.specs.Prelude.{slice_index}

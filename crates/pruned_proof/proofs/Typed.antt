@@ -1,14 +1,10 @@
 -- A value of a closed type, by its form.
-use Rattle.std.proofs.Common.{◌≡◌, ℕ, ◌+◌, ◌<◌, ◌≤◌, Bool, true, false, cond, List, [], ◌∷◌, ◌++◌, Result, Ok, Err, refl, sym, ap}
-use Rattle.std.proofs.Common.{◌∙◌, subst, arith, map, Some, None, nat_le, rules, ◌-◌}
+use Rattle.std.proofs.Common.{◌≡◌, ℕ, ◌+◌, ◌≤◌, Bool, true, false, cond, List, [], ◌∷◌, ◌++◌, Result, Ok, Err, refl, sym, ap}
+use Rattle.std.proofs.Common.{◌∙◌, subst, arith, map, Some, None, nat_le, ◌-◌}
 use Rattle.std.proofs.lemmas.Bool.{leb-true}
 use Rattle.std.proofs.lemmas.List.{append-nil}
 use Rattle.cell_nodes.specs.declared.tree.Hidden.{Hidden}
 use Rattle.cell_nodes.specs.declared.tree.Tree.{Tree}
-use Rattle.closed_type.specs.View.{closed_type}
-use Rattle.closed_type.specs.declared.tree.ClosedType.{ClosedType}
-use Rattle.closed_type.specs.declared.tree.ClosedArg.TheFolds.{the_lemmas}
-use Rattle.closed_type.specs.declared.tree.ClosedType.TheVariants.{Dict, DictE, Ref, Repeat}
 use Rattle.core_form.specs.Closed.{Closed}
 use Rattle.core_form.specs.Closed as closed
 use Rattle.core_form.specs.Core.{CoreSchema}
@@ -22,10 +18,9 @@ use Rattle.typed_value.specs.Values.{Plain, PlainPairs, Plains, levels, levels_b
 use Rattle.typed_value.specs.Values as values
 use Rattle.typed_value.specs.View.{pair_of, pairs_of, vals_of}
 use Rattle.typed_value.specs.declared.value.Value.{Value}
-use Rattle.pruning.specs.Laid.{Laid, number, bit_string, record_of, absent, list_of, ref_to, ref_to_raw, no_map, plain}
+use Rattle.pruning.specs.Laid.{Laid, number, bit_string, record_of, absent, list_of, ref_to, ref_to_raw, no_map}
 use Rattle.pruning.specs.Laid.{LaidEdge, map_under, map_here, rest, plain_all, plain_pairs}
 use Rattle.pruning.specs.SpellsLaid.{SpellsEdge, SpellsLaid, SpellsLaidShape}
-use Rattle.pruning_laws.specs.CleanLaws.{AllClean}
 use Rattle.pruning_laws.specs.FilledLaws.{takes}
 use Rattle.pruning_laws.specs.TrieLaws.{pairs-nothing}
 use Rattle.pruned_proof.specs.Walks.{DueItems, Gives, Is, IsBranch, IsEdge, Lies, Moves, outputs_of}

@@ -1,6 +1,5 @@
 use Rattle.std.proofs.Common.{◌∙◌, sym, ap, Err}
 use Rattle.closed_type.specs.View.{closed_type as type_view}
-use Rattle.field_plan.specs.Placed.{place_view}
 use Rattle.tlb_syntax.specs.View.{schema as schema_view}
 use Rattle.typed_value.specs.View.{value as value_view}
 use Rattle.pruned_proof.specs.Proved.{path_views}

@@ -1,5 +1,5 @@
-use Rattle.std.proofs.Common.{arith, ◌≡◌, ◌+◌, ◌-◌, get_or, ◌++◌, ◌∷◌, ◌∙◌, ◌<◌, ◌≤◌, map, sym, ap, refl, [], None, Some, Ok, Err, List, ℕ, length, subst, drop}
-use Rattle.std.proofs.Common.{option_map, slice_get, rules, true, false}
+use Rattle.std.proofs.Common.{arith, ◌≡◌, ◌+◌, ◌-◌, ◌++◌, ◌∷◌, ◌∙◌, ◌≤◌, map, sym, ap, refl, [], None, Some, Ok, Err, List, ℕ, length, subst, drop}
+use Rattle.std.proofs.Common.{option_map, slice_get}
 use Rattle.std.specs.Borrow.{Bor}
 use Rattle.std.proofs.lemmas.Result.{err_from_is_err_and}
 use Rattle.cell_nodes.specs.Constructed.{stub}
@@ -7,26 +7,24 @@ use Rattle.cell_nodes.specs.declared.tree.Tree.{Tree}
 use Rattle.closed_type.specs.View.{closed_type as type_view, closed_args}
 use Rattle.core_form.specs.Core.{Items}
 use Rattle.core_form.specs.Scope.{Scope}
-use Rattle.flat_form.specs.Sound.{IsRange, OpsAreSound}
-use Rattle.flat_form.specs.Stands.{items_in, name_at, record_at, slot_of, type_at, expr_at}
+use Rattle.flat_form.specs.Sound.{OpsAreSound}
+use Rattle.flat_form.specs.Stands.{items_in, record_at, type_at, expr_at}
 use Rattle.flat_form.specs.declared.lists.Flat.{Flat}
 use Rattle.flat_form.specs.declared.lists.PlanOp.{PlanOp}
-use Rattle.flat_form.specs.declared.lists.PlanOp.TheVariants.{Check, Field, Solve}
-use Rattle.hashmap_tree.specs.Entries.{Slice}
+use Rattle.flat_form.specs.declared.lists.PlanOp.TheVariants.{Check}
 use Rattle.plan_closing.specs.Counted.{scope_of}
-use Rattle.plan_reading.specs.Shaped.{GovernIsSound, IsRecord, governed}
-use Rattle.pruning.specs.Cut.{cell_with}
+use Rattle.plan_reading.specs.Shaped.{governed}
 use Rattle.schema_leads.specs.Tags.{cores}
 use Rattle.spelling.specs.Goals as goals
 use Rattle.tlb_syntax.specs.View.{schema as schema_view}
 use Rattle.typed_value.specs.View.{names_in, pair_of, pairs_of, vals_in, value as value_view}
 use Rattle.pruned_proof.specs.View.{rests_of}
-use Rattle.pruned_proof.specs.Walks.{Due, DueItems, Moves, held_in}
+use Rattle.pruned_proof.specs.Walks.{Due, DueItems, held_in}
 use Rattle.pruned_proof.specs.Wanted.{Rests, below, cut_at, cut_edge_for, cut_for}
 use Rattle.spelling.specs.Slices.{nothing}
 use Rattle.nat_solver.specs.declared.compare.Op.TheVariants.{Eq}
 use Rattle.std.proofs.lemmas.List.{nil_from_length}
-use Rattle.std.proofs.Common.{IsSome, is_some}
+use Rattle.std.proofs.Common.{is_some}
 use Rattle.std.proofs.lemmas.Option.{none-some, same_Some}
 use Rattle.core_form.specs.Core.{Declaration}
 use Rattle.core_form.specs.Fit.{fit as fit_of}
@@ -49,20 +47,20 @@ use Rattle.typed_value.specs.View.{vals_of}
 use Rattle.pruned_proof.proofs.Typed.{few_bits, inside}
 use Rattle.pruned_proof.proofs.Branched.{no_first, one_first}
 use Rattle.pruned_proof.proofs.Typed.{bits_give, dict_lies, empty_map, list_due, map_lies, number_gives, ref_outs, rest_gives}
-use Rattle.pruned_proof.proofs.Typed.{some_map, type_lies}
+use Rattle.pruned_proof.proofs.Typed.{some_map}
 use Rattle.pruned_proof.proofs.Branched.{first_begins, fork_lies, fork_moves, fork_seen, last_begins, leaf_lies, leaf_made}
 use Rattle.pruned_proof.proofs.Branched.{leaf_seen, none_last, one_branch, one_more, ones_at, parts_at, turned_at, zero_branch}
 use Rattle.pruned_proof.proofs.Branched.{branch_at, branch_kept, branch_opened, branch_wanted, edge_fills, moves_as, zeros_at}
-use Rattle.pruned_proof.proofs.Turned.{bound_as, op_checked, op_condition, op_field, op_no_field, op_solved, op_unsolved}
+use Rattle.pruned_proof.proofs.Turned.{bound_as, op_field, op_no_field, op_solved, op_unsolved}
 use Rattle.pruned_proof.proofs.Filling.{type_fills, record_fills, filled_cell, edge_filled, edge_cell}
 use Rattle.pruned_proof.proofs.Led.{still, gives_as, one_put, none_left, led, led_at, led_fields, is_held, led_hidden, led_kept}
 use Rattle.pruned_proof.proofs.Led.{led_raw, led_opened}
 use Rattle.pruned_proof.proofs.Pruned.{finished}
 use Rattle.pruned_proof.proofs.Recorded.{no_record, record_due}
-use Rattle.pruned_proof.proofs.Fielded.{due_solved, solve_found, field_due, first_due, none_due, first_item, no_item}
+use Rattle.pruned_proof.proofs.Fielded.{none_due, first_item, no_item}
 use Rattle.pruned_proof.proofs.Shaped.{shaped, at_shape, here_outs, under_outs, left_is, here_within, under_within, items_there}
 use Rattle.pruned_proof.proofs.Shaped.{op_next, ops_end}
-use Rattle.plan_reading.specs.declared.shapes.FlatShape.TheVariants.{Here, Under, LeftOut, Typed}
+use Rattle.plan_reading.specs.declared.shapes.FlatShape.TheVariants.{Here, Under, LeftOut}
 use Rattle.pruned_proof.proofs.walking.+cut.Goals as goal
 
 pub cut_ref-returns-in_err-child : goal.cut_ref-returns-in_err-child
