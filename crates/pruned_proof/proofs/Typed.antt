@@ -151,9 +151,13 @@ rest_gives schema t k n old new outs after (map_here e) part is l none made = le
 rest_gives schema t k n old new outs after (rest s) part is l none made =
     let x = type_lies schema (rest s) t old.left outs after l in
     let w = rest_whole s t x.lies.before outs after x.lies.spelled in
-    let all : s.refs ≡ old.left = ap (λ (z : values.Slice). z.refs) w.1 ∙ x.lies.refs in
-    (w.0, (none ∙ ap (λ (z : Slice). z.refs) (sym w.2),
-    made ∙ ap (λ (z : List Tree). old.made.items ++ z) (sym all)))
+    let all : s.refs ≡ old.left = ap (λ (z : values.Slice). z.refs) w.1 ∙ x.lies.refs in (
+      w.0,
+      (
+        none ∙ ap (λ (z : Slice). z.refs) (sym w.2),
+        made ∙ ap (λ (z : List Tree). old.made.items ++ z) (sym all),
+      ),
+    )
 
 -- ---- references
 

@@ -33,7 +33,8 @@ pub(crate) fn is_raw(value: &Value) -> bool
 {
     match value {
         Value::Raw(_) => true,
-        Value::Number(_) | Value::Bits(_) | Value::Record(_) | Value::Absent | Value::List(_) => false,
+        Value::Number(_) | Value::Bits(_) | Value::Record(_) | Value::Absent | Value::List(_) =>
+            false,
         Value::Ref(_) | Value::Unknown(_) | Value::Map(_) | Value::Rest(_) => false,
     }
 }

@@ -30,7 +30,8 @@ ghost use Rattle.pruned_proof.specs.Wanted.{below, cut_at, cut_edge_for, cut_for
 
 use crate::cutting::{CutError, Cutting, Outputs};
 use crate::holding::{
-    count_of, fields_of, held, is_raw, mapped_here, mapped_under, most_own, named_as, referred, repeated,
+    count_of, fields_of, held, is_raw, mapped_here, mapped_under, most_own, named_as, referred,
+    repeated,
 };
 use crate::wanted::{Reached, Wanted};
 use bit_slice::{BitString, Name};
@@ -183,20 +184,20 @@ fn cut_record(
     plan: &Plan,
     levels: u32,
     ty: &ClosedType,
-    record: &Record,
+    parts: &Record,
     wanted: &Wanted<'_>,
     cell: &mut Cutting<'_>,
 ) -> Result<Outputs, CutError>
     ensures { (d : Laid) (outs : List ℕ) (after : Slice)
-        → Is d (forms.record_of (record_parts record.now).0 (names_in (record_parts record.now).1)
-        (vals_in (record_parts record.now).1)) (levels + 1)
+        → Is d (forms.record_of (record_parts parts.now).0 (names_in (record_parts parts.now).1)
+        (vals_in (record_parts parts.now).1)) (levels + 1)
         → Lies (SpellsLaid (cores (schema_view plan.now.0)) d (goals.at_type (type_view ty.now))) cell.old.left outs after
         → Gives (λ x. (outputs_of x ≡ outs) × Moves (cut_for (rests_of wanted.now) d) after.refs cell.old cell.new) result }
 {
     let Some((name, args)) = named_as(ty) else {
         return Err(CutError::Unread);
     };
-    cut_declared(alloc, plan, levels, name, args, record, wanted, cell)
+    cut_declared(alloc, plan, levels, name, args, parts, wanted, cell)
 }
 
 // The output of a number, which is the number itself at the types of naturals.
@@ -451,17 +452,17 @@ fn cut_declared(
     levels: u32,
     name: &Name,
     args: &[ClosedArg],
-    record: &Record,
+    parts: &Record,
     wanted: &Wanted<'_>,
     cell: &mut Cutting<'_>,
 ) -> Result<Outputs, CutError>
     ensures { (d : Laid) (outs : List ℕ) (after : Slice)
-        → Is d (forms.record_of (record_parts record.now).0 (names_in (record_parts record.now).1)
-        (vals_in (record_parts record.now).1)) (levels + 1)
+        → Is d (forms.record_of (record_parts parts.now).0 (names_in (record_parts parts.now).1)
+        (vals_in (record_parts parts.now).1)) (levels + 1)
         → Lies (SpellsLaidShape (cores (schema_view plan.now.0)) d (goals.typed (closed.named name.now (closed_args args.now)))) cell.old.left outs after
         → Gives (λ x. (outputs_of x ≡ outs) × Moves (cut_for (rests_of wanted.now) d) after.refs cell.old cell.new) result }
 {
-    let Some(shown) = &record.name else {
+    let Some(shown) = &parts.name else {
         return Err(CutError::Unread);
     };
     let Some(c) = plan.named(name, args, shown) else {
@@ -474,7 +475,7 @@ fn cut_declared(
     };
     let ops = flat.operations(entry.first, entry.count);
     let types = slots.types.as_slice();
-    let fields = record.fields.as_slice();
+    let fields = parts.fields.as_slice();
     cut_fields(
         alloc,
         plan,

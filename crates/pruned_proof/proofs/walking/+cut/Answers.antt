@@ -453,9 +453,10 @@ cut_field-returns-in_ok-cut_inner-in-Ok-Here t c = λ d outs after is l.
     let shape = shaped c.flat.result.now p c.args.condition c.args.ty scope c.in-Ok-Here.field-0 (Here c.in-Ok-Here.first c.in-Ok-Here.count) c.flat.ensures.lists
     c.in-Ok-Here.ensures.shapes c.in-Ok-Here.field-0-is in
     let inner = at_shape S d (goals.at_field (governed p c.args.condition) (type_at p c.args.ty) scope) (goals.fields_here items scope)
-    c.args.cell.now.left outs after shape l in
-    (sym (here_outs S d items scope c.args.cell.now.left outs after inner),
-    c.in_ok-cut_inner-in-Ok-Here.ensures d outs after is inner)
+    c.args.cell.now.left outs after shape l in (
+      sym (here_outs S d items scope c.args.cell.now.left outs after inner),
+      c.in_ok-cut_inner-in-Ok-Here.ensures d outs after is inner,
+    )
 
 pub cut_field-returns-in_err-cut_under-in-Ok-Under : goal.cut_field-returns-in_err-cut_under-in-Ok-Under
 cut_field-returns-in_err-cut_under-in-Ok-Under t c = λ d outs after is l.
@@ -480,9 +481,10 @@ cut_field-returns-in_ok-cut_under-in-Ok-Under t c = λ d outs after is l.
     let shape = shaped c.flat.result.now p c.args.condition c.args.ty scope c.in-Ok-Under.field-0 (Under c.in-Ok-Under.first c.in-Ok-Under.count) c.flat.ensures.lists
     c.in-Ok-Under.ensures.shapes c.in-Ok-Under.field-0-is in
     let inner = at_shape S d (goals.at_field (governed p c.args.condition) (type_at p c.args.ty) scope) (goals.fields_under items scope)
-    c.args.cell.now.left outs after shape l in
-    (sym (under_outs S d items scope c.args.cell.now.left outs after inner),
-    c.in_ok-cut_under-in-Ok-Under.ensures d outs after is inner)
+    c.args.cell.now.left outs after shape l in (
+      sym (under_outs S d items scope c.args.cell.now.left outs after inner),
+      c.in_ok-cut_under-in-Ok-Under.ensures d outs after is inner,
+    )
 
 pub cut_fields-returns-in_err-next : goal.cut_fields-returns-in_err-next
 cut_fields-returns-in_err-next t c = λ end after all x.
@@ -651,9 +653,9 @@ cut_declared-returns-in_default t c = λ d outs after is l.
     let p = c.args.plan.now.1 in
     let plans = c.args.plan.now.2 in
     let k = rests_of c.args.wanted.now in
-    let name = c.args.record.now.name in
-    let fields = map pair_of c.args.record.now.fields in
-    let same_is = is_record d c.args.record.now (c.args.levels + 1) is in
+    let name = c.args.parts.now.name in
+    let fields = map pair_of c.args.parts.now.fields in
+    let same_is = is_record d c.args.parts.now (c.args.levels + 1) is in
     let args = closed_args c.args.args.now in
     let x = shown_by S k c.args.levels c.args.name.now args name fields c.args.cell.now outs after d same_is l in
     none-some x.shown (sym c.in_default.is ∙ x.called)
@@ -665,9 +667,9 @@ cut_declared-returns-in_default-named t c = λ d outs after is l.
     let p = c.args.plan.now.1 in
     let plans = c.args.plan.now.2 in
     let k = rests_of c.args.wanted.now in
-    let name = c.args.record.now.name in
-    let fields = map pair_of c.args.record.now.fields in
-    let same_is = is_record d c.args.record.now (c.args.levels + 1) is in
+    let name = c.args.parts.now.name in
+    let fields = map pair_of c.args.parts.now.fields in
+    let same_is = is_record d c.args.parts.now (c.args.levels + 1) is in
     let args = closed_args c.args.args.now in
     let x = shown_by S k c.args.levels c.args.name.now args name fields c.args.cell.now outs after d same_is l in
     none-some x.at (c.in_default-named.ensures.only x.at x.declaration x.there
@@ -680,9 +682,9 @@ cut_declared-returns-in_default-2 t c = λ d outs after is l.
     let p = c.args.plan.now.1 in
     let plans = c.args.plan.now.2 in
     let k = rests_of c.args.wanted.now in
-    let name = c.args.record.now.name in
-    let fields = map pair_of c.args.record.now.fields in
-    let same_is = is_record d c.args.record.now (c.args.levels + 1) is in
+    let name = c.args.parts.now.name in
+    let fields = map pair_of c.args.parts.now.fields in
+    let same_is = is_record d c.args.parts.now (c.args.levels + 1) is in
     let args = closed_args c.args.args.now in
     let x = shown_by S k c.args.levels c.args.name.now args name fields c.args.cell.now outs after d same_is l in
     let P : Flat → Type 0 = λ z. Planned s z plans in
@@ -706,9 +708,9 @@ cut_declared-returns-in_err-cut_fields t c = λ d outs after is l.
     let p = c.args.plan.now.1 in
     let plans = c.args.plan.now.2 in
     let k = rests_of c.args.wanted.now in
-    let name = c.args.record.now.name in
-    let fields = map pair_of c.args.record.now.fields in
-    let same_is = is_record d c.args.record.now (c.args.levels + 1) is in
+    let name = c.args.parts.now.name in
+    let fields = map pair_of c.args.parts.now.fields in
+    let same_is = is_record d c.args.parts.now (c.args.levels + 1) is in
     let args = closed_args c.args.args.now in
     let x = shown_by S k c.args.levels c.args.name.now args name fields c.args.cell.now outs after d same_is l in
     let P : Flat → Type 0 = λ z. Planned s z plans in
@@ -743,9 +745,9 @@ cut_declared-returns-in-None t c = λ d outs after is l.
     let p = c.args.plan.now.1 in
     let plans = c.args.plan.now.2 in
     let k = rests_of c.args.wanted.now in
-    let name = c.args.record.now.name in
-    let fields = map pair_of c.args.record.now.fields in
-    let same_is = is_record d c.args.record.now (c.args.levels + 1) is in
+    let name = c.args.parts.now.name in
+    let fields = map pair_of c.args.parts.now.fields in
+    let same_is = is_record d c.args.parts.now (c.args.levels + 1) is in
     let args = closed_args c.args.args.now in
     let x = shown_by S k c.args.levels c.args.name.now args name fields c.args.cell.now outs after d same_is l in
     let P : Flat → Type 0 = λ z. Planned s z plans in
@@ -788,9 +790,9 @@ cut_declared-returns t c = λ d outs after is l.
     let p = c.args.plan.now.1 in
     let plans = c.args.plan.now.2 in
     let k = rests_of c.args.wanted.now in
-    let name = c.args.record.now.name in
-    let fields = map pair_of c.args.record.now.fields in
-    let same_is = is_record d c.args.record.now (c.args.levels + 1) is in
+    let name = c.args.parts.now.name in
+    let fields = map pair_of c.args.parts.now.fields in
+    let same_is = is_record d c.args.parts.now (c.args.levels + 1) is in
     let args = closed_args c.args.args.now in
     let x = shown_by S k c.args.levels c.args.name.now args name fields c.args.cell.now outs after d same_is l in
     let P : Flat → Type 0 = λ z. Planned s z plans in
@@ -1097,9 +1099,11 @@ cut_map-returns t c = λ d hidden outs after is l.
     let x = at_map_here S d (type_view c.args.ty.now) (c.args.levels + 1) c.args.cell.now.left outs after l n inner
     (ap (option_map _) (sym c.in-Some.is) ∙ c.mapped_here.ensures) in
     let y = dict_lies S c.args.levels n inner c.args.cell.now.left outs after (pairs_of (map pair_of c.args.pairs.now)) hidden d is
-    x.lies in
-    (y.none, moves_as _ (cut_for k d) after.refs c.args.cell.now c.cut_edge.new.cell (y.made k)
-    (c.in_ok-cut_edge.ensures [] y.edge n [] after (few_bits n x.wide) y.is_edge y.lies))
+    x.lies in (
+      y.none,
+      moves_as _ (cut_for k d) after.refs c.args.cell.now c.cut_edge.new.cell (y.made k)
+          (c.in_ok-cut_edge.ensures [] y.edge n [] after (few_bits n x.wide) y.is_edge y.lies),
+    )
 
 pub cut_map_under-returns-in_default : goal.cut_map_under-returns-in_default
 cut_map_under-returns-in_default t c = λ d hidden outs after is here l.
@@ -1133,7 +1137,7 @@ cut_map_under-returns t c = λ d hidden outs after is here l.
 
 pub cut_record-returns-in_default : goal.cut_record-returns-in_default
 cut_record-returns-in_default t c = λ d outs after is l.
-    let parts = record_parts c.args.record.now in
+    let parts = record_parts c.args.parts.now in
     absurd (no_declared (cores (schema_view c.args.plan.now.0)) d (type_view c.args.ty.now) (c.args.levels + 1)
     c.args.cell.now.left outs after l parts.0 (names_in parts.1) (vals_in parts.1) is
     (ap (option_map _) (sym c.in_default.is) ∙ c.named_as.ensures))
