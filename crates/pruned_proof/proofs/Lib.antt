@@ -2,6 +2,7 @@ mod Answered
 mod Branched
 mod Chosen
 mod CutLaws
+mod Declared
 mod Edges
 mod Fielded
 mod Filling

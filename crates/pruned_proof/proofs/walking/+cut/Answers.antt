@@ -1,5 +1,5 @@
-use Rattle.std.proofs.Common.{arith, ◌≡◌, ◌+◌, ◌-◌, ◌++◌, ◌∷◌, ◌∙◌, ◌≤◌, map, sym, ap, refl, [], None, Some, Ok, Err, List, ℕ, length, subst, drop}
-use Rattle.std.proofs.Common.{option_map, slice_get}
+use Rattle.std.proofs.Common.{arith, ◌≡◌, ◌+◌, ◌-◌, ◌++◌, ◌∷◌, ◌∙◌, ◌≤◌, map, sym, ap, refl, [], None, Some, Ok, Err, List, length, subst, drop}
+use Rattle.std.proofs.Common.{option_map}
 use Rattle.std.specs.Borrow.{Bor}
 use Rattle.std.proofs.lemmas.Result.{err_from_is_err_and}
 use Rattle.cell_nodes.specs.Constructed.{stub}
@@ -8,7 +8,7 @@ use Rattle.closed_type.specs.View.{closed_type as type_view, closed_args}
 use Rattle.core_form.specs.Core.{Items}
 use Rattle.core_form.specs.Scope.{Scope}
 use Rattle.flat_form.specs.Sound.{OpsAreSound}
-use Rattle.flat_form.specs.Stands.{items_in, record_at, type_at, expr_at}
+use Rattle.flat_form.specs.Stands.{items_in, record_at, type_at}
 use Rattle.flat_form.specs.declared.lists.Flat.{Flat}
 use Rattle.flat_form.specs.declared.lists.PlanOp.{PlanOp}
 use Rattle.flat_form.specs.declared.lists.PlanOp.TheVariants.{Check}
@@ -24,22 +24,16 @@ use Rattle.pruned_proof.specs.Wanted.{Rests, below, cut_at, cut_edge_for, cut_fo
 use Rattle.spelling.specs.Slices.{nothing}
 use Rattle.nat_solver.specs.declared.compare.Op.TheVariants.{Eq}
 use Rattle.std.proofs.lemmas.List.{nil_from_length}
-use Rattle.std.proofs.Common.{is_some}
 use Rattle.std.proofs.lemmas.Option.{none-some, same_Some}
-use Rattle.core_form.specs.Core.{Declaration}
-use Rattle.core_form.specs.Fit.{fit as fit_of}
-use Rattle.core_form.specs.Scope.{values_in}
-use Rattle.field_plan.specs.Planned.{Planned}
-use Rattle.flat_form.specs.Stands.{range}
 use Rattle.plan_reading.specs.Slots.{slots_view}
 use Rattle.typed_value.specs.View.{record_parts, slice_of}
-use Rattle.typed_value.specs.declared.value.Value.{Value}
-use Rattle.pruned_proof.proofs.Chosen.{entry_ops, entry_outputs, entry_range, entry_sound, fit_binds, fits_some, found_named}
-use Rattle.pruned_proof.proofs.Chosen.{outputs_are, outputs_plain, planned_there, shown_by}
+use Rattle.pruned_proof.proofs.Chosen.{entry_range, entry_sound}
+use Rattle.pruned_proof.proofs.Chosen.{outputs_plain, planned_there}
 use Rattle.typed_value.specs.Values.{Plain}
 use Rattle.std.proofs.lemmas.List.{drop_all}
+use Rattle.pruned_proof.proofs.Declared.{entered, no_constructor, no_fit, no_name}
 use Rattle.pruned_proof.proofs.Edges.{no_edge}
-use Rattle.pruned_proof.proofs.Seen.{is_bits, is_list, is_map, is_number, is_record, is_ref, is_rest, is_shown, item_next}
+use Rattle.pruned_proof.proofs.Seen.{is_bits, is_list, is_map, is_number, is_ref, is_rest, is_shown, item_next}
 use Rattle.pruned_proof.proofs.Forms.{at_declared, at_map_here, at_map_under, at_reference, at_repetition, no_bare, no_declared, no_map_there, no_reference, no_repetition}
 use Rattle.pruned_proof.specs.Walks.{Is}
 use Rattle.typed_value.specs.Values as forms
@@ -591,242 +585,104 @@ cut_op-returns-in_ok-outputs-in-Field-clause-gives t c = λ ops end after all x.
 
 pub cut_declared-entry-entry-requires : goal.cut_declared-entry-entry-requires
 cut_declared-entry-entry-requires t c =
-    let s = schema_view c.args.plan.now.0 in
-    let f = c.flat-flat.result.now in
-    let plans = c.args.plan.now.2 in
-    let n = c.in-Some-named.c in
-    let below = planned_there s f plans n c.flat-flat.ensures.planned c.in-Some-named.ensures.there in
-    below
+    planned_there (schema_view c.args.plan.now.0) c.flat-flat.result.now c.args.plan.now.2 c.in-Some-named.c
+    c.flat-flat.ensures.planned c.in-Some-named.ensures.there
 
 pub cut_declared-inputs-requires : goal.cut_declared-inputs-requires
 cut_declared-inputs-requires t c =
-    let s = schema_view c.args.plan.now.0 in
-    let f = c.flat-flat.result.now in
-    let plans = c.args.plan.now.2 in
-    let n = c.in-Some-named.c in
-    let below = planned_there s f plans n c.flat-flat.ensures.planned c.in-Some-named.ensures.there in
-    below
+    planned_there (schema_view c.args.plan.now.0) c.flat-flat.result.now c.args.plan.now.2 c.in-Some-named.c
+    c.flat-flat.ensures.planned c.in-Some-named.ensures.there
 
 pub cut_declared-outputs-requires : goal.cut_declared-outputs-requires
 cut_declared-outputs-requires t c =
-    let s = schema_view c.args.plan.now.0 in
-    let f = c.flat-flat.result.now in
-    let plans = c.args.plan.now.2 in
-    let n = c.in-Some-named.c in
-    let below = planned_there s f plans n c.flat-flat.ensures.planned c.in-Some-named.ensures.there in
-    below
+    planned_there (schema_view c.args.plan.now.0) c.flat-flat.result.now c.args.plan.now.2 c.in-Some-named.c
+    c.flat-flat.ensures.planned c.in-Some-named.ensures.there
 
 pub cut_declared-values-requires : goal.cut_declared-values-requires
 cut_declared-values-requires t c =
-    let s = schema_view c.args.plan.now.0 in
-    let f = c.flat-flat.result.now in
-    let plans = c.args.plan.now.2 in
-    let n = c.in-Some-named.c in
-    let below = planned_there s f plans n c.flat-flat.ensures.planned c.in-Some-named.ensures.there in
-    outputs_plain s f plans n c.flat-flat.ensures.planned below c.outputs.result.now c.outputs.ensures
+    let low = planned_there (schema_view c.args.plan.now.0) c.flat-flat.result.now c.args.plan.now.2 c.in-Some-named.c
+    c.flat-flat.ensures.planned c.in-Some-named.ensures.there in
+    outputs_plain (schema_view c.args.plan.now.0) c.flat-flat.result.now c.args.plan.now.2 c.in-Some-named.c
+    c.flat-flat.ensures.planned low c.outputs.result.now c.outputs.ensures
 
 pub cut_declared-operations-ops-requires : goal.cut_declared-operations-ops-requires
 cut_declared-operations-ops-requires t c =
-    let s = schema_view c.args.plan.now.0 in
-    let f = c.flat-flat.result.now in
-    let plans = c.args.plan.now.2 in
-    let n = c.in-Some-named.c in
-    let below = planned_there s f plans n c.flat-flat.ensures.planned c.in-Some-named.ensures.there in
-    entry_range s f plans n c.flat-flat.ensures.planned below c.entry-entry.result c.entry-entry.ensures
+    let low = planned_there (schema_view c.args.plan.now.0) c.flat-flat.result.now c.args.plan.now.2 c.in-Some-named.c
+    c.flat-flat.ensures.planned c.in-Some-named.ensures.there in
+    entry_range (schema_view c.args.plan.now.0) c.flat-flat.result.now c.args.plan.now.2 c.in-Some-named.c
+    c.flat-flat.ensures.planned low c.entry-entry.result c.entry-entry.ensures
 
 pub cut_declared-cut_fields-requires : goal.cut_declared-cut_fields-requires
 cut_declared-cut_fields-requires t c =
-    let s = schema_view c.args.plan.now.0 in
     let f = c.flat-flat.result.now in
-    let plans = c.args.plan.now.2 in
-    let n = c.in-Some-named.c in
-    let below = planned_there s f plans n c.flat-flat.ensures.planned c.in-Some-named.ensures.there in
-    let sound = entry_sound s f plans n c.flat-flat.ensures.planned below c.entry-entry.result c.entry-entry.ensures in
+    let low = planned_there (schema_view c.args.plan.now.0) c.flat-flat.result.now c.args.plan.now.2 c.in-Some-named.c
+    c.flat-flat.ensures.planned c.in-Some-named.ensures.there in
+    let sound = entry_sound (schema_view c.args.plan.now.0) f c.args.plan.now.2 c.in-Some-named.c c.flat-flat.ensures.planned low
+    c.entry-entry.result c.entry-entry.ensures in
     let T : List PlanOp → Type 0 = λ z. OpsAreSound f (length f.types) z in
     let P : Flat → Type 0 = λ z. OpsAreSound z (length z.types) c.operations-ops.result.now in
     (omega (arith, c.decreases), subst P c.flat-flat.ensures.lists (subst T (sym c.operations-ops.ensures) sound))
 
 pub cut_declared-returns-in_default : goal.cut_declared-returns-in_default
 cut_declared-returns-in_default t c = λ d outs after is l.
-    let s = schema_view c.args.plan.now.0 in
-    let S = cores s in
-    let p = c.args.plan.now.1 in
-    let plans = c.args.plan.now.2 in
-    let k = rests_of c.args.wanted.now in
-    let name = c.args.parts.now.name in
-    let fields = map pair_of c.args.parts.now.fields in
-    let same_is = is_record d c.args.parts.now (c.args.levels + 1) is in
-    let args = closed_args c.args.args.now in
-    let x = shown_by S k c.args.levels c.args.name.now args name fields c.args.cell.now outs after d same_is l in
-    none-some x.shown (sym c.in_default.is ∙ x.called)
+    no_name (schema_view c.args.plan.now.0) (rests_of c.args.wanted.now) c.args.levels c.args.name.now
+    (closed_args c.args.args.now) c.args.parts.now c.args.cell.now outs after d is l (sym c.in_default.is)
 
 pub cut_declared-returns-in_default-named : goal.cut_declared-returns-in_default-named
 cut_declared-returns-in_default-named t c = λ d outs after is l.
-    let s = schema_view c.args.plan.now.0 in
-    let S = cores s in
-    let p = c.args.plan.now.1 in
-    let plans = c.args.plan.now.2 in
-    let k = rests_of c.args.wanted.now in
-    let name = c.args.parts.now.name in
-    let fields = map pair_of c.args.parts.now.fields in
-    let same_is = is_record d c.args.parts.now (c.args.levels + 1) is in
-    let args = closed_args c.args.args.now in
-    let x = shown_by S k c.args.levels c.args.name.now args name fields c.args.cell.now outs after d same_is l in
-    none-some x.at (c.in_default-named.ensures.only x.at x.declaration x.there
-    (found_named S k c.args.levels c.args.name.now args name fields c.args.cell.now outs after d x c.in-Some.shown c.in-Some.is))
+    no_constructor (schema_view c.args.plan.now.0) (rests_of c.args.wanted.now) c.args.levels c.args.name.now
+    (closed_args c.args.args.now) c.args.parts.now c.args.cell.now outs after d is l c.in-Some.shown c.in-Some.is c.in_default-named.ensures.only
 
 pub cut_declared-returns-in_default-2 : goal.cut_declared-returns-in_default-2
 cut_declared-returns-in_default-2 t c = λ d outs after is l.
-    let s = schema_view c.args.plan.now.0 in
-    let S = cores s in
-    let p = c.args.plan.now.1 in
-    let plans = c.args.plan.now.2 in
-    let k = rests_of c.args.wanted.now in
-    let name = c.args.parts.now.name in
-    let fields = map pair_of c.args.parts.now.fields in
-    let same_is = is_record d c.args.parts.now (c.args.levels + 1) is in
-    let args = closed_args c.args.args.now in
-    let x = shown_by S k c.args.levels c.args.name.now args name fields c.args.cell.now outs after d same_is l in
-    let P : Flat → Type 0 = λ z. Planned s z plans in
-    let planned = subst P c.flat-flat.ensures.lists c.flat-flat.ensures.planned in
-    let n = c.in-Some-named.c in
-    let below = planned_there s p plans n planned c.in-Some-named.ensures.there in
-    let same = same_Some n x.at (c.in-Some-named.ensures.only x.at x.declaration x.there
-    (found_named S k c.args.levels c.args.name.now args name fields c.args.cell.now outs after d x c.in-Some.shown c.in-Some.is)) in
-    let there = ap (slice_get S) same ∙ x.there in
-    fits_some s p plans n planned below c.entry-entry.result c.entry-entry.ensures c.inputs.result.now args c.inputs.ensures
-    (λ e at. let one = same_Some x.declaration e (sym there ∙ at) in
-    ap (λ (z : Declaration). is_some (fit_of z.core args)) (sym one) ∙ ap is_some x.fits)
-    (sym (ap (option_map slots_view) c.in_default-2.is) ∙ c.in_ok-slots.ensures)
+    no_fit (schema_view c.args.plan.now.0) (rests_of c.args.wanted.now) c.args.levels c.args.name.now
+    (closed_args c.args.args.now) c.args.parts.now c.args.cell.now outs after d is l c.in-Some.shown c.in-Some.is c.in-Some-named.c
+    c.in-Some-named.ensures.only c.flat-flat.result.now c.args.plan.now.1 c.args.plan.now.2 c.flat-flat.ensures.lists
+    c.flat-flat.ensures.planned c.in-Some-named.ensures.there c.entry-entry.result c.entry-entry.ensures c.inputs.result.now
+    c.inputs.ensures (sym (ap (option_map slots_view) c.in_default-2.is) ∙ c.in_ok-slots.ensures)
 
 pub cut_declared-returns-in_err-cut_fields : goal.cut_declared-returns-in_err-cut_fields
 cut_declared-returns-in_err-cut_fields t c = λ d outs after is l.
     let w = c.from_residual-in_err-cut_fields in
     let r = err_from_is_err_and w.result w.ensures.1 in
-    let s = schema_view c.args.plan.now.0 in
-    let S = cores s in
-    let p = c.args.plan.now.1 in
-    let plans = c.args.plan.now.2 in
-    let k = rests_of c.args.wanted.now in
-    let name = c.args.parts.now.name in
-    let fields = map pair_of c.args.parts.now.fields in
-    let same_is = is_record d c.args.parts.now (c.args.levels + 1) is in
-    let args = closed_args c.args.args.now in
-    let x = shown_by S k c.args.levels c.args.name.now args name fields c.args.cell.now outs after d same_is l in
-    let P : Flat → Type 0 = λ z. Planned s z plans in
-    let planned = subst P c.flat-flat.ensures.lists c.flat-flat.ensures.planned in
-    let n = c.in-Some-named.c in
-    let below = planned_there s p plans n planned c.in-Some-named.ensures.there in
-    let same = same_Some n x.at (c.in-Some-named.ensures.only x.at x.declaration x.there
-    (found_named S k c.args.levels c.args.name.now args name fields c.args.cell.now outs after d x c.in-Some.shown c.in-Some.is)) in
-    let there = ap (slice_get S) same ∙ x.there in
-    let e = c.entry-entry.result in
-    let ops_are = c.operations-ops.ensures ∙ ap (λ (z : Flat). range z.ops e.first e.count) c.flat-flat.ensures.lists in
-    let items = entry_ops s p plans n planned below e c.entry-entry.ensures x.declaration there c.operations-ops.result.now
-    ops_are in
     let slots = c.in-Some-2.slots in
-    let bound = ap (scope_of slots.numbers) c.as_slice-types.ensures.value
-    ∙ fit_binds s p plans n planned below e c.entry-entry.ensures x.declaration there c.inputs.result.now args
-    c.inputs.ensures (slots_view slots) x.scope (sym (ap (option_map slots_view) c.in-Some-2.is) ∙ c.in_ok-slots.ensures)
-    x.fits in
-    let all = c.args.cell.now.made.items ++ cut_for k d in
-    let D : Items → Scope → Type 0 = λ y z. Due S k c.args.levels x.end after all y z fields c.args.cell.now in
-    let here = subst (λ z. D z (scope_of slots.numbers c.as_slice-types.result.now)) (sym items) (subst (D _) (sym bound) x.due) in
-    let F : List (List ℕ × Value) → Type 0 = λ z. Due S k c.args.levels x.end after all
-    (items_in p (type_at p) None c.operations-ops.result.now) (scope_of slots.numbers c.as_slice-types.result.now)
-    (map pair_of z) c.args.cell.now in
-    let due = subst F (sym c.as_slice-fields.ensures) here in
-    still _ w.result c.in_err-cut_fields.field-0.0 (r.1 ∙ ap Err r.2) (c.in_err-cut_fields.ensures x.end after all due)
+    let x = entered (schema_view c.args.plan.now.0) (rests_of c.args.wanted.now) c.args.levels c.args.name.now
+    (closed_args c.args.args.now) c.args.parts.now c.args.cell.now outs after d is l c.in-Some.shown c.in-Some.is c.in-Some-named.c
+    c.in-Some-named.ensures.only c.flat-flat.result.now c.args.plan.now.1 c.args.plan.now.2 c.flat-flat.ensures.lists
+    c.flat-flat.ensures.planned c.in-Some-named.ensures.there c.entry-entry.result c.entry-entry.ensures c.inputs.result.now
+    c.inputs.ensures slots (sym (ap (option_map slots_view) c.in-Some-2.is) ∙ c.in_ok-slots.ensures)
+    c.as_slice-types.result.now c.as_slice-types.ensures.value c.operations-ops.result.now c.operations-ops.ensures
+    c.as_slice-fields.result.now c.as_slice-fields.ensures in
+    still _ w.result c.in_err-cut_fields.field-0.0 (r.1 ∙ ap Err r.2) (c.in_err-cut_fields.ensures x.end after _ x.due)
 
 pub cut_declared-returns-in-None : goal.cut_declared-returns-in-None
 cut_declared-returns-in-None t c = λ d outs after is l.
-    let s = schema_view c.args.plan.now.0 in
-    let S = cores s in
-    let p = c.args.plan.now.1 in
-    let plans = c.args.plan.now.2 in
-    let k = rests_of c.args.wanted.now in
-    let name = c.args.parts.now.name in
-    let fields = map pair_of c.args.parts.now.fields in
-    let same_is = is_record d c.args.parts.now (c.args.levels + 1) is in
-    let args = closed_args c.args.args.now in
-    let x = shown_by S k c.args.levels c.args.name.now args name fields c.args.cell.now outs after d same_is l in
-    let P : Flat → Type 0 = λ z. Planned s z plans in
-    let planned = subst P c.flat-flat.ensures.lists c.flat-flat.ensures.planned in
-    let n = c.in-Some-named.c in
-    let below = planned_there s p plans n planned c.in-Some-named.ensures.there in
-    let same = same_Some n x.at (c.in-Some-named.ensures.only x.at x.declaration x.there
-    (found_named S k c.args.levels c.args.name.now args name fields c.args.cell.now outs after d x c.in-Some.shown c.in-Some.is)) in
-    let there = ap (slice_get S) same ∙ x.there in
-    let e = c.entry-entry.result in
-    let ops_are = c.operations-ops.ensures ∙ ap (λ (z : Flat). range z.ops e.first e.count) c.flat-flat.ensures.lists in
-    let items = entry_ops s p plans n planned below e c.entry-entry.ensures x.declaration there c.operations-ops.result.now
-    ops_are in
     let slots = c.in-Some-2.slots in
-    let bound = ap (scope_of slots.numbers) c.as_slice-types.ensures.value
-    ∙ fit_binds s p plans n planned below e c.entry-entry.ensures x.declaration there c.inputs.result.now args
-    c.inputs.ensures (slots_view slots) x.scope (sym (ap (option_map slots_view) c.in-Some-2.is) ∙ c.in_ok-slots.ensures)
-    x.fits in
-    let all = c.args.cell.now.made.items ++ cut_for k d in
-    let D : Items → Scope → Type 0 = λ y z. Due S k c.args.levels x.end after all y z fields c.args.cell.now in
-    let here = subst (λ z. D z (scope_of slots.numbers c.as_slice-types.result.now)) (sym items) (subst (D _) (sym bound) x.due) in
-    let F : List (List ℕ × Value) → Type 0 = λ z. Due S k c.args.levels x.end after all
-    (items_in p (type_at p) None c.operations-ops.result.now) (scope_of slots.numbers c.as_slice-types.result.now)
-    (map pair_of z) c.args.cell.now in
-    let due = subst F (sym c.as_slice-fields.ensures) here in
-    let outputs = c.outputs.result.now in
-    let m = c.in_ok-cut_fields.ensures x.end after all due in
-    let O : Flat → Type 0 = λ z. None ≡ values_in (map (expr_at z) outputs)
-    (scope_of c.cut_fields.new.env c.as_slice-types.result.now) in
-    let given = outputs_are (map (expr_at p) outputs) x.declaration.core.outputs
-    (scope_of c.cut_fields.new.env c.as_slice-types.result.now) x.end None outs
-    (entry_outputs s p plans n planned below e c.entry-entry.ensures x.declaration there outputs c.outputs.ensures)
-    (subst O c.flat-flat.ensures.lists (sym c.in-None.is ∙ c.in_ok-values.ensures c.as_slice-types.result.now)) m.0 x.outputs in
-    none-some outs given
+    let x = entered (schema_view c.args.plan.now.0) (rests_of c.args.wanted.now) c.args.levels c.args.name.now
+    (closed_args c.args.args.now) c.args.parts.now c.args.cell.now outs after d is l c.in-Some.shown c.in-Some.is c.in-Some-named.c
+    c.in-Some-named.ensures.only c.flat-flat.result.now c.args.plan.now.1 c.args.plan.now.2 c.flat-flat.ensures.lists
+    c.flat-flat.ensures.planned c.in-Some-named.ensures.there c.entry-entry.result c.entry-entry.ensures c.inputs.result.now
+    c.inputs.ensures slots (sym (ap (option_map slots_view) c.in-Some-2.is) ∙ c.in_ok-slots.ensures)
+    c.as_slice-types.result.now c.as_slice-types.ensures.value c.operations-ops.result.now c.operations-ops.ensures
+    c.as_slice-fields.result.now c.as_slice-fields.ensures in
+    let m = c.in_ok-cut_fields.ensures x.end after _ x.due in
+    none-some outs (x.gives c.cut_fields.new.env c.outputs.result.now None c.outputs.ensures
+    (sym c.in-None.is ∙ c.in_ok-values.ensures c.as_slice-types.result.now) m.0)
 
 pub cut_declared-returns : goal.cut_declared-returns
 cut_declared-returns t c = λ d outs after is l.
-    let s = schema_view c.args.plan.now.0 in
-    let S = cores s in
-    let p = c.args.plan.now.1 in
-    let plans = c.args.plan.now.2 in
-    let k = rests_of c.args.wanted.now in
-    let name = c.args.parts.now.name in
-    let fields = map pair_of c.args.parts.now.fields in
-    let same_is = is_record d c.args.parts.now (c.args.levels + 1) is in
-    let args = closed_args c.args.args.now in
-    let x = shown_by S k c.args.levels c.args.name.now args name fields c.args.cell.now outs after d same_is l in
-    let P : Flat → Type 0 = λ z. Planned s z plans in
-    let planned = subst P c.flat-flat.ensures.lists c.flat-flat.ensures.planned in
-    let n = c.in-Some-named.c in
-    let below = planned_there s p plans n planned c.in-Some-named.ensures.there in
-    let same = same_Some n x.at (c.in-Some-named.ensures.only x.at x.declaration x.there
-    (found_named S k c.args.levels c.args.name.now args name fields c.args.cell.now outs after d x c.in-Some.shown c.in-Some.is)) in
-    let there = ap (slice_get S) same ∙ x.there in
-    let e = c.entry-entry.result in
-    let ops_are = c.operations-ops.ensures ∙ ap (λ (z : Flat). range z.ops e.first e.count) c.flat-flat.ensures.lists in
-    let items = entry_ops s p plans n planned below e c.entry-entry.ensures x.declaration there c.operations-ops.result.now
-    ops_are in
     let slots = c.in-Some-2.slots in
-    let bound = ap (scope_of slots.numbers) c.as_slice-types.ensures.value
-    ∙ fit_binds s p plans n planned below e c.entry-entry.ensures x.declaration there c.inputs.result.now args
-    c.inputs.ensures (slots_view slots) x.scope (sym (ap (option_map slots_view) c.in-Some-2.is) ∙ c.in_ok-slots.ensures)
-    x.fits in
-    let all = c.args.cell.now.made.items ++ cut_for k d in
-    let D : Items → Scope → Type 0 = λ y z. Due S k c.args.levels x.end after all y z fields c.args.cell.now in
-    let here = subst (λ z. D z (scope_of slots.numbers c.as_slice-types.result.now)) (sym items) (subst (D _) (sym bound) x.due) in
-    let F : List (List ℕ × Value) → Type 0 = λ z. Due S k c.args.levels x.end after all
-    (items_in p (type_at p) None c.operations-ops.result.now) (scope_of slots.numbers c.as_slice-types.result.now)
-    (map pair_of z) c.args.cell.now in
-    let due = subst F (sym c.as_slice-fields.ensures) here in
-    let outputs = c.outputs.result.now in
-    let m = c.in_ok-cut_fields.ensures x.end after all due in
-    let O : Flat → Type 0 = λ z. Some c.in-Some-3.outputs ≡ values_in (map (expr_at z) outputs)
-    (scope_of c.cut_fields.new.env c.as_slice-types.result.now) in
-    let given = outputs_are (map (expr_at p) outputs) x.declaration.core.outputs
-    (scope_of c.cut_fields.new.env c.as_slice-types.result.now) x.end (Some c.in-Some-3.outputs) outs
-    (entry_outputs s p plans n planned below e c.entry-entry.ensures x.declaration there outputs c.outputs.ensures)
-    (subst O c.flat-flat.ensures.lists (sym c.in-Some-3.is ∙ c.in_ok-values.ensures c.as_slice-types.result.now)) m.0 x.outputs in
-    (same_Some c.in-Some-3.outputs outs given, (m.1, m.2))
+    let x = entered (schema_view c.args.plan.now.0) (rests_of c.args.wanted.now) c.args.levels c.args.name.now
+    (closed_args c.args.args.now) c.args.parts.now c.args.cell.now outs after d is l c.in-Some.shown c.in-Some.is c.in-Some-named.c
+    c.in-Some-named.ensures.only c.flat-flat.result.now c.args.plan.now.1 c.args.plan.now.2 c.flat-flat.ensures.lists
+    c.flat-flat.ensures.planned c.in-Some-named.ensures.there c.entry-entry.result c.entry-entry.ensures c.inputs.result.now
+    c.inputs.ensures slots (sym (ap (option_map slots_view) c.in-Some-2.is) ∙ c.in_ok-slots.ensures)
+    c.as_slice-types.result.now c.as_slice-types.ensures.value c.operations-ops.result.now c.operations-ops.ensures
+    c.as_slice-fields.result.now c.as_slice-fields.ensures in
+    let m = c.in_ok-cut_fields.ensures x.end after _ x.due in
+    let outputs = c.in-Some-3.outputs in
+    (same_Some outputs outs (x.gives c.cut_fields.new.env c.outputs.result.now (Some outputs) c.outputs.ensures
+    (sym c.in-Some-3.is ∙ c.in_ok-values.ensures c.as_slice-types.result.now) m.0), (m.1, m.2))
 
 -- ---- edges
 
