@@ -6,6 +6,7 @@ mod Declared
 mod Edges
 mod Fielded
 mod Filling
+mod Forks
 mod Forms
 mod Led
 mod Naming
@@ -15,6 +16,7 @@ mod Recorded
 mod Rooted
 mod Seen
 mod Shaped
+mod Taken
 mod Turned
 mod Turning
 mod Typed

@@ -1,4 +1,4 @@
-use Rattle.std.proofs.Common.{arith, ◌≡◌, ◌+◌, ◌-◌, ◌++◌, ◌∷◌, ◌∙◌, ◌≤◌, map, sym, ap, refl, [], None, Some, Ok, Err, List, length, subst, drop}
+use Rattle.std.proofs.Common.{arith, ◌+◌, ◌-◌, ◌++◌, ◌∷◌, ◌∙◌, ◌≤◌, map, sym, ap, refl, [], None, Some, Ok, Err, List, length, subst, drop}
 use Rattle.std.proofs.Common.{option_map}
 use Rattle.std.specs.Borrow.{Bor}
 use Rattle.std.proofs.lemmas.Result.{err_from_is_err_and}
@@ -19,7 +19,7 @@ use Rattle.spelling.specs.Goals as goals
 use Rattle.tlb_syntax.specs.View.{schema as schema_view}
 use Rattle.typed_value.specs.View.{names_in, pair_of, pairs_of, vals_in, value as value_view}
 use Rattle.pruned_proof.specs.View.{rests_of}
-use Rattle.pruned_proof.specs.Walks.{Due, DueItems, held_in}
+use Rattle.pruned_proof.specs.Walks.{Due, DueItems}
 use Rattle.pruned_proof.specs.Wanted.{Rests, below, cut_at, cut_edge_for, cut_for}
 use Rattle.spelling.specs.Slices.{nothing}
 use Rattle.nat_solver.specs.declared.compare.Op.TheVariants.{Eq}
@@ -42,13 +42,14 @@ use Rattle.pruned_proof.proofs.Typed.{few_bits, inside}
 use Rattle.pruned_proof.proofs.Branched.{no_first, one_first}
 use Rattle.pruned_proof.proofs.Typed.{bits_give, dict_lies, empty_map, list_due, map_lies, number_gives, ref_outs, rest_gives}
 use Rattle.pruned_proof.proofs.Typed.{some_map}
-use Rattle.pruned_proof.proofs.Branched.{first_begins, fork_lies, fork_moves, fork_seen, last_begins, leaf_lies, leaf_made}
-use Rattle.pruned_proof.proofs.Branched.{leaf_seen, none_last, one_branch, one_more, ones_at, parts_at, turned_at, zero_branch}
-use Rattle.pruned_proof.proofs.Branched.{branch_at, branch_kept, branch_opened, branch_wanted, edge_fills, moves_as, zeros_at}
+use Rattle.pruned_proof.proofs.Branched.{fork_moves, leaf_lies, leaf_made}
+use Rattle.pruned_proof.proofs.Branched.{leaf_seen, none_last}
+use Rattle.pruned_proof.proofs.Branched.{moves_as}
+use Rattle.pruned_proof.proofs.Forks.{at_fork, bits_left}
+use Rattle.pruned_proof.proofs.Taken.{branch_taken, closed_cell, ref_taken, stopped, under_taken}
 use Rattle.pruned_proof.proofs.Turned.{bound_as, op_field, op_no_field, op_solved, op_unsolved}
-use Rattle.pruned_proof.proofs.Filling.{type_fills, record_fills, filled_cell, edge_filled, edge_cell}
-use Rattle.pruned_proof.proofs.Led.{still, gives_as, one_put, none_left, led, led_at, led_fields, is_held, led_hidden, led_kept}
-use Rattle.pruned_proof.proofs.Led.{led_raw, led_opened}
+use Rattle.pruned_proof.proofs.Filling.{type_fills, filled_cell}
+use Rattle.pruned_proof.proofs.Led.{gives_as, one_put, none_left, led, led_fields}
 use Rattle.pruned_proof.proofs.Pruned.{finished}
 use Rattle.pruned_proof.proofs.Recorded.{no_record, record_due}
 use Rattle.pruned_proof.proofs.Fielded.{none_due, first_item, no_item}
@@ -60,94 +61,68 @@ use Rattle.pruned_proof.proofs.walking.+cut.Goals as goal
 pub cut_ref-returns-in_err-child : goal.cut_ref-returns-in_err-child
 cut_ref-returns-in_err-child t c = λ d outs after is l.
     let p = err_from_is_err_and c.from_residual.result c.from_residual.ensures.1 in
-    let S = cores (schema_view c.args.plan.now.0) in
-    let g = goals.under_ref (type_view c.args.inner.now) in
-    let v = value_view c.args.held.now in
-    let n = c.args.levels in
-    let k = rests_of c.args.wanted.now in
-    let x = led S d (type_view c.args.inner.now) v n c.args.cell.now.left outs after is l in
+    let x = led (cores (schema_view c.args.plan.now.0)) d (type_view c.args.inner.now) (value_view c.args.held.now)
+    c.args.levels c.args.cell.now.left outs after is l in
     none_left {B = Bor Tree} _ c.from_residual.result c.in_err-child.field-0.0 c.args.cell.now.left after.refs x.child
     (p.1 ∙ ap Err p.2) c.in_err-child.ensures.none x.there
 
 pub cut_ref-returns-then-is_nothing : goal.cut_ref-returns-then-is_nothing
 cut_ref-returns-then-is_nothing t c = λ d outs after is l.
-    let S = cores (schema_view c.args.plan.now.0) in
-    let g = goals.under_ref (type_view c.args.inner.now) in
-    let v = value_view c.args.held.now in
-    let n = c.args.levels in
-    let k = rests_of c.args.wanted.now in
-    let x = led S d (type_view c.args.inner.now) v n c.args.cell.now.left outs after is l in
     let child = c.in_ok-child.child.now in
-    let at = led_at S g v n d c.args.cell.now.left c.next.new.self.left after.refs child x c.in_ok-child.ensures.ok in
-    one_put c.args.cell.now c.next.new.self c.hide.new.self (stub child 0) c.hide.result after.refs (cut_for k d)
-    c.next.ensures.made c.hide.ensures.ok c.hide.ensures.left c.hide.ensures.err at.rest
-    (led_hidden S g v n d child k at.leads (sym c.if-is_nothing.ensures))
+    let x = ref_taken (cores (schema_view c.args.plan.now.0)) d (type_view c.args.inner.now) (value_view c.args.held.now)
+    c.args.levels c.args.cell.now.left outs after is l c.next.new.self.left child (rests_of c.args.wanted.now)
+    c.in_ok-child.ensures.ok in
+    one_put c.args.cell.now c.next.new.self c.hide.new.self (stub child 0) c.hide.result after.refs
+    (cut_for (rests_of c.args.wanted.now) d) c.next.ensures.made c.hide.ensures.ok c.hide.ensures.left
+    c.hide.ensures.err x.rest (x.hidden (sym c.if-is_nothing.ensures))
 
 pub cut_ref-returns-then-is_whole : goal.cut_ref-returns-then-is_whole
 cut_ref-returns-then-is_whole t c = λ d outs after is l.
-    let S = cores (schema_view c.args.plan.now.0) in
-    let g = goals.under_ref (type_view c.args.inner.now) in
-    let v = value_view c.args.held.now in
-    let n = c.args.levels in
-    let k = rests_of c.args.wanted.now in
-    let x = led S d (type_view c.args.inner.now) v n c.args.cell.now.left outs after is l in
     let child = c.in_ok-child.child.now in
-    let at = led_at S g v n d c.args.cell.now.left c.next.new.self.left after.refs child x c.in_ok-child.ensures.ok in
-    one_put c.args.cell.now c.next.new.self c.keep.new.self child c.keep.result after.refs (cut_for k d)
-    c.next.ensures.made c.keep.ensures.ok c.keep.ensures.left c.keep.ensures.err at.rest
-    (led_kept S g v n d child k at.leads (sym c.if-is_whole.ensures))
+    let x = ref_taken (cores (schema_view c.args.plan.now.0)) d (type_view c.args.inner.now) (value_view c.args.held.now)
+    c.args.levels c.args.cell.now.left outs after is l c.next.new.self.left child (rests_of c.args.wanted.now)
+    c.in_ok-child.ensures.ok in
+    one_put c.args.cell.now c.next.new.self c.keep.new.self child c.keep.result after.refs
+    (cut_for (rests_of c.args.wanted.now) d) c.next.ensures.made c.keep.ensures.ok c.keep.ensures.left
+    c.keep.ensures.err x.rest (x.kept (sym c.if-is_whole.ensures))
 
 pub cut_ref-returns-then-is_raw : goal.cut_ref-returns-then-is_raw
 cut_ref-returns-then-is_raw t c = λ d outs after is l.
-    let S = cores (schema_view c.args.plan.now.0) in
-    let g = goals.under_ref (type_view c.args.inner.now) in
-    let v = value_view c.args.held.now in
-    let n = c.args.levels in
-    let k = rests_of c.args.wanted.now in
-    let x = led S d (type_view c.args.inner.now) v n c.args.cell.now.left outs after is l in
     let child = c.in_ok-child.child.now in
-    let at = led_at S g v n d c.args.cell.now.left c.next.new.self.left after.refs child x c.in_ok-child.ensures.ok in
-    one_put c.args.cell.now c.next.new.self c.keep-then-is_raw.new.self child c.keep-then-is_raw.result after.refs (cut_for k d)
-    c.next.ensures.made c.keep-then-is_raw.ensures.ok c.keep-then-is_raw.ensures.left c.keep-then-is_raw.ensures.err at.rest
-    (led_raw S g v n d child k at.leads (sym c.if-is_raw.ensures) (sym c.if-is_nothing.ensures))
+    let x = ref_taken (cores (schema_view c.args.plan.now.0)) d (type_view c.args.inner.now) (value_view c.args.held.now)
+    c.args.levels c.args.cell.now.left outs after is l c.next.new.self.left child (rests_of c.args.wanted.now)
+    c.in_ok-child.ensures.ok in
+    one_put c.args.cell.now c.next.new.self c.keep-then-is_raw.new.self child c.keep-then-is_raw.result after.refs
+    (cut_for (rests_of c.args.wanted.now) d) c.next.ensures.made c.keep-then-is_raw.ensures.ok c.keep-then-is_raw.ensures.left
+    c.keep-then-is_raw.ensures.err x.rest (x.raw (sym c.if-is_raw.ensures) (sym c.if-is_nothing.ensures))
 
 pub cut_ref-returns-in_err-made : goal.cut_ref-returns-in_err-made
 cut_ref-returns-in_err-made t c = λ d outs after is l.
-    let p = err_from_is_err_and c.from_residual-in_err-made.result c.from_residual-in_err-made.ensures.1 in
-    let S = cores (schema_view c.args.plan.now.0) in
-    let g = goals.under_ref (type_view c.args.inner.now) in
-    let v = value_view c.args.held.now in
-    let n = c.args.levels in
-    let k = rests_of c.args.wanted.now in
-    let x = led S d (type_view c.args.inner.now) v n c.args.cell.now.left outs after is l in
     let child = c.in_ok-child.child.now in
-    let at = led_at S g v n d c.args.cell.now.left c.next.new.self.left after.refs child x c.in_ok-child.ensures.ok in
-    let o = led_opened S g v n d child k at.leads (sym c.if-is_raw.ensures) (sym c.if-is_nothing.ensures) in
-    still _ c.from_residual-in_err-made.result c.in_err-made.field-0.0 (p.1 ∙ ap Err p.2)
+    let x = ref_taken (cores (schema_view c.args.plan.now.0)) d (type_view c.args.inner.now) (value_view c.args.held.now)
+    c.args.levels c.args.cell.now.left outs after is l c.next.new.self.left child (rests_of c.args.wanted.now)
+    c.in_ok-child.ensures.ok in
+    let o = x.opened (sym c.if-is_raw.ensures) (sym c.if-is_nothing.ensures) in
+    stopped _ c.from_residual-in_err-made.result c.in_err-made.field-0.0 c.from_residual-in_err-made.ensures.1
     (c.in_err-made.ensures o.inner o.is o.fills)
 
 pub cut_ref-returns : goal.cut_ref-returns
 cut_ref-returns t c = λ d outs after is l.
-    let S = cores (schema_view c.args.plan.now.0) in
-    let g = goals.under_ref (type_view c.args.inner.now) in
-    let v = value_view c.args.held.now in
-    let n = c.args.levels in
-    let k = rests_of c.args.wanted.now in
-    let x = led S d (type_view c.args.inner.now) v n c.args.cell.now.left outs after is l in
     let child = c.in_ok-child.child.now in
-    let at = led_at S g v n d c.args.cell.now.left c.next.new.self.left after.refs child x c.in_ok-child.ensures.ok in
-    let o = led_opened S g v n d child k at.leads (sym c.if-is_raw.ensures) (sym c.if-is_nothing.ensures) in
-    one_put c.args.cell.now c.next.new.self c.put.new.self c.in_ok-made.made c.put.result after.refs (cut_for k d)
-    c.next.ensures.made c.put.ensures.ok c.put.ensures.left c.put.ensures.err at.rest
+    let x = ref_taken (cores (schema_view c.args.plan.now.0)) d (type_view c.args.inner.now) (value_view c.args.held.now)
+    c.args.levels c.args.cell.now.left outs after is l c.next.new.self.left child (rests_of c.args.wanted.now)
+    c.in_ok-child.ensures.ok in
+    let o = x.opened (sym c.if-is_raw.ensures) (sym c.if-is_nothing.ensures) in
+    one_put c.args.cell.now c.next.new.self c.put.new.self c.in_ok-made.made c.put.result after.refs
+    (cut_for (rests_of c.args.wanted.now) d) c.next.ensures.made c.put.ensures.ok c.put.ensures.left c.put.ensures.err x.rest
     (o.made ∙ ap (λ (z : Tree). z ∷ []) (sym (c.in_ok-made.ensures o.inner o.is o.fills)))
 
 pub cut_cell-returns-in_err-cut_value : goal.cut_cell-returns-in_err-cut_value
 cut_cell-returns-in_err-cut_value t c = λ d is f.
-    let p = err_from_is_err_and c.from_residual.result c.from_residual.ensures.1 in
     let S = cores (schema_view c.args.plan.now.0) in
     let k = rests_of c.args.wanted.now in
     let x = type_fills S d (type_view c.args.ty.now) c.args.from.now c.of-inner.result.left f c.of-inner.ensures.left in
-    still _ c.from_residual.result c.in_err-cut_value.field-0.0 (p.1 ∙ ap Err p.2)
+    stopped _ c.from_residual.result c.in_err-cut_value.field-0.0 c.from_residual.ensures.1
     (c.in_err-cut_value.ensures d x.outs _ is x.lies)
 
 pub cut_cell-returns : goal.cut_cell-returns
@@ -167,126 +142,75 @@ cut_under-returns-in_err-child t c = λ d outs after is l.
     let S = cores (schema_view c.args.plan.now.0) in
     let items = record_at c.args.plan.now.1 c.args.first c.args.count in
     let scope = scope_of c.args.env.now c.args.types.now in
-    let g = goals.at_fields items scope in
-    let k = rests_of c.args.wanted.now in
     let x = led_fields S d items scope (value_view c.args.value.now) c.args.levels c.args.cell.now.left outs after is l in
-    let v = x.inner in
-    let n = x.less in
     none_left {B = Bor Tree} _ c.from_residual.result c.in_err-child.field-0.0 c.args.cell.now.left after.refs x.leads.child
     (p.1 ∙ ap Err p.2) c.in_err-child.ensures.none x.leads.there
 
 pub cut_under-returns-then-is_nothing : goal.cut_under-returns-then-is_nothing
 cut_under-returns-then-is_nothing t c = λ d outs after is l.
-    let S = cores (schema_view c.args.plan.now.0) in
-    let items = record_at c.args.plan.now.1 c.args.first c.args.count in
-    let scope = scope_of c.args.env.now c.args.types.now in
-    let g = goals.at_fields items scope in
-    let k = rests_of c.args.wanted.now in
-    let x = led_fields S d items scope (value_view c.args.value.now) c.args.levels c.args.cell.now.left outs after is l in
-    let v = x.inner in
-    let n = x.less in
     let child = c.in_ok-child.child.now in
-    let at = led_at S g v n d c.args.cell.now.left c.next.new.self.left after.refs child x.leads c.in_ok-child.ensures.ok in
-    one_put c.args.cell.now c.next.new.self c.hide.new.self (stub child 0) c.hide.result after.refs (cut_for k d)
-    c.next.ensures.made c.hide.ensures.ok c.hide.ensures.left c.hide.ensures.err at.rest
-    (led_hidden S g v n d child k at.leads (sym c.if-is_nothing.ensures))
+    let x = under_taken (cores (schema_view c.args.plan.now.0)) d (record_at c.args.plan.now.1 c.args.first c.args.count)
+    (scope_of c.args.env.now c.args.types.now) (value_view c.args.value.now) c.args.levels c.args.cell.now.left outs after is l
+    c.next.new.self.left child (rests_of c.args.wanted.now) c.in_ok-child.ensures.ok in
+    one_put c.args.cell.now c.next.new.self c.hide.new.self (stub child 0) c.hide.result after.refs
+    (cut_for (rests_of c.args.wanted.now) d) c.next.ensures.made c.hide.ensures.ok c.hide.ensures.left
+    c.hide.ensures.err x.rest (x.hidden (sym c.if-is_nothing.ensures))
 
 pub cut_under-returns-then-is_whole : goal.cut_under-returns-then-is_whole
 cut_under-returns-then-is_whole t c = λ d outs after is l.
-    let S = cores (schema_view c.args.plan.now.0) in
-    let items = record_at c.args.plan.now.1 c.args.first c.args.count in
-    let scope = scope_of c.args.env.now c.args.types.now in
-    let g = goals.at_fields items scope in
-    let k = rests_of c.args.wanted.now in
-    let x = led_fields S d items scope (value_view c.args.value.now) c.args.levels c.args.cell.now.left outs after is l in
-    let v = x.inner in
-    let n = x.less in
     let child = c.in_ok-child.child.now in
-    let at = led_at S g v n d c.args.cell.now.left c.next.new.self.left after.refs child x.leads c.in_ok-child.ensures.ok in
-    one_put c.args.cell.now c.next.new.self c.keep.new.self child c.keep.result after.refs (cut_for k d)
-    c.next.ensures.made c.keep.ensures.ok c.keep.ensures.left c.keep.ensures.err at.rest
-    (led_kept S g v n d child k at.leads (sym c.if-is_whole.ensures))
+    let x = under_taken (cores (schema_view c.args.plan.now.0)) d (record_at c.args.plan.now.1 c.args.first c.args.count)
+    (scope_of c.args.env.now c.args.types.now) (value_view c.args.value.now) c.args.levels c.args.cell.now.left outs after is l
+    c.next.new.self.left child (rests_of c.args.wanted.now) c.in_ok-child.ensures.ok in
+    one_put c.args.cell.now c.next.new.self c.keep.new.self child c.keep.result after.refs
+    (cut_for (rests_of c.args.wanted.now) d) c.next.ensures.made c.keep.ensures.ok c.keep.ensures.left
+    c.keep.ensures.err x.rest (x.kept (sym c.if-is_whole.ensures))
 
 pub cut_under-returns-in_default : goal.cut_under-returns-in_default
 cut_under-returns-in_default t c = λ d outs after is l.
-    let S = cores (schema_view c.args.plan.now.0) in
-    let items = record_at c.args.plan.now.1 c.args.first c.args.count in
-    let scope = scope_of c.args.env.now c.args.types.now in
-    let g = goals.at_fields items scope in
-    let k = rests_of c.args.wanted.now in
-    let x = led_fields S d items scope (value_view c.args.value.now) c.args.levels c.args.cell.now.left outs after is l in
-    let v = x.inner in
-    let n = x.less in
-    let f : None ≡ Some x.inner = ap (option_map _) (sym c.in_default.is) ∙ c.held.ensures ∙ ap held_in x.is_ref in
-    absurd (cc)
+    let child = c.in_ok-child.child.now in
+    let x = under_taken (cores (schema_view c.args.plan.now.0)) d (record_at c.args.plan.now.1 c.args.first c.args.count)
+    (scope_of c.args.env.now c.args.types.now) (value_view c.args.value.now) c.args.levels c.args.cell.now.left outs after is l
+    c.next.new.self.left child (rests_of c.args.wanted.now) c.in_ok-child.ensures.ok in
+    absurd (x.holds (ap (option_map _) (sym c.in_default.is) ∙ c.held.ensures))
 
 pub cut_under-returns-in_err-cut_inner : goal.cut_under-returns-in_err-cut_inner
 cut_under-returns-in_err-cut_inner t c = λ d outs after is l.
-    let p = err_from_is_err_and c.from_residual-in_err-cut_inner.result c.from_residual-in_err-cut_inner.ensures.1 in
-    let S = cores (schema_view c.args.plan.now.0) in
-    let items = record_at c.args.plan.now.1 c.args.first c.args.count in
-    let scope = scope_of c.args.env.now c.args.types.now in
-    let g = goals.at_fields items scope in
-    let k = rests_of c.args.wanted.now in
-    let x = led_fields S d items scope (value_view c.args.value.now) c.args.levels c.args.cell.now.left outs after is l in
-    let v = x.inner in
-    let n = x.less in
     let child = c.in_ok-child.child.now in
-    let at = led_at S g v n d c.args.cell.now.left c.next.new.self.left after.refs child x.leads c.in_ok-child.ensures.ok in
-    let o = led_opened S g v n d child k at.leads x.value (sym c.if-is_nothing.ensures) in
-    let z = record_fills S o.inner items scope child c.of-content.result.left o.fills c.of-content.ensures.left in
-    let inside = is_held o.inner v (value_view c.in-Some.held.now) (value_view c.args.value.now) n c.args.levels o.is x.is_ref
-    (ap (option_map _) (sym c.in-Some.is) ∙ c.held.ensures) x.levels in
-    still _ c.from_residual-in_err-cut_inner.result c.in_err-cut_inner.field-0.0 (p.1 ∙ ap Err p.2)
-    (c.in_err-cut_inner.ensures o.inner z.outs _ inside z.lies)
+    let x = under_taken (cores (schema_view c.args.plan.now.0)) d (record_at c.args.plan.now.1 c.args.first c.args.count)
+    (scope_of c.args.env.now c.args.types.now) (value_view c.args.value.now) c.args.levels c.args.cell.now.left outs after is l
+    c.next.new.self.left child (rests_of c.args.wanted.now) c.in_ok-child.ensures.ok in
+    let o = x.opened (sym c.if-is_nothing.ensures) (value_view c.in-Some.held.now)
+    (ap (option_map _) (sym c.in-Some.is) ∙ c.held.ensures) c.of-content.result.left c.of-content.ensures.left in
+    stopped _ c.from_residual-in_err-cut_inner.result c.in_err-cut_inner.field-0.0 c.from_residual-in_err-cut_inner.ensures.1
+    (c.in_err-cut_inner.ensures o.inner o.outs _ o.is_held o.lies)
 
 pub cut_under-returns-in_err-finish : goal.cut_under-returns-in_err-finish
 cut_under-returns-in_err-finish t c = λ d outs after is l.
-    let p = err_from_is_err_and c.from_residual-in_err-finish.result c.from_residual-in_err-finish.ensures.1 in
-    let S = cores (schema_view c.args.plan.now.0) in
-    let items = record_at c.args.plan.now.1 c.args.first c.args.count in
-    let scope = scope_of c.args.env.now c.args.types.now in
-    let g = goals.at_fields items scope in
-    let k = rests_of c.args.wanted.now in
-    let x = led_fields S d items scope (value_view c.args.value.now) c.args.levels c.args.cell.now.left outs after is l in
-    let v = x.inner in
-    let n = x.less in
     let child = c.in_ok-child.child.now in
-    let at = led_at S g v n d c.args.cell.now.left c.next.new.self.left after.refs child x.leads c.in_ok-child.ensures.ok in
-    let o = led_opened S g v n d child k at.leads x.value (sym c.if-is_nothing.ensures) in
-    let z = record_fills S o.inner items scope child c.of-content.result.left o.fills c.of-content.ensures.left in
-    let inside = is_held o.inner v (value_view c.in-Some.held.now) (value_view c.args.value.now) n c.args.levels o.is x.is_ref
-    (ap (option_map _) (sym c.in-Some.is) ∙ c.held.ensures) x.levels in
-    let m = c.in_ok-cut_inner.ensures o.inner z.outs _ inside z.lies in
-    let cell = filled_cell S g o.inner child k o.fills in
-    let are = m.1 ∙ ap (λ (z : List Tree). z ++ cut_for k o.inner) c.of-content.ensures.made in
-    still _ c.from_residual-in_err-finish.result c.in_err-finish.field-0.0 (p.1 ∙ ap Err p.2)
-    (finished (Err c.in_err-finish.field-0.0) child c.cut_inner.new.cell.left c.cut_inner.new.cell.made.items (cut_for k o.inner)
-    c.in_err-finish.ensures.ok c.in_err-finish.ensures.unread m.0 are cell)
+    let x = under_taken (cores (schema_view c.args.plan.now.0)) d (record_at c.args.plan.now.1 c.args.first c.args.count)
+    (scope_of c.args.env.now c.args.types.now) (value_view c.args.value.now) c.args.levels c.args.cell.now.left outs after is l
+    c.next.new.self.left child (rests_of c.args.wanted.now) c.in_ok-child.ensures.ok in
+    let o = x.opened (sym c.if-is_nothing.ensures) (value_view c.in-Some.held.now)
+    (ap (option_map _) (sym c.in-Some.is) ∙ c.held.ensures) c.of-content.result.left c.of-content.ensures.left in
+    stopped _ c.from_residual-in_err-finish.result c.in_err-finish.field-0.0 c.from_residual-in_err-finish.ensures.1
+    (closed_cell (Err c.in_err-finish.field-0.0) child c.of-content.result c.cut_inner.new.cell
+    (cut_for (rests_of c.args.wanted.now) o.inner) c.in_err-finish.ensures.ok c.in_err-finish.ensures.unread
+    (c.in_ok-cut_inner.ensures o.inner o.outs _ o.is_held o.lies) c.of-content.ensures.made o.cell)
 
 pub cut_under-returns : goal.cut_under-returns
 cut_under-returns t c = λ d outs after is l.
-    let S = cores (schema_view c.args.plan.now.0) in
-    let items = record_at c.args.plan.now.1 c.args.first c.args.count in
-    let scope = scope_of c.args.env.now c.args.types.now in
-    let g = goals.at_fields items scope in
-    let k = rests_of c.args.wanted.now in
-    let x = led_fields S d items scope (value_view c.args.value.now) c.args.levels c.args.cell.now.left outs after is l in
-    let v = x.inner in
-    let n = x.less in
     let child = c.in_ok-child.child.now in
-    let at = led_at S g v n d c.args.cell.now.left c.next.new.self.left after.refs child x.leads c.in_ok-child.ensures.ok in
-    let o = led_opened S g v n d child k at.leads x.value (sym c.if-is_nothing.ensures) in
-    let z = record_fills S o.inner items scope child c.of-content.result.left o.fills c.of-content.ensures.left in
-    let inside = is_held o.inner v (value_view c.in-Some.held.now) (value_view c.args.value.now) n c.args.levels o.is x.is_ref
-    (ap (option_map _) (sym c.in-Some.is) ∙ c.held.ensures) x.levels in
-    let m = c.in_ok-cut_inner.ensures o.inner z.outs _ inside z.lies in
-    let cell = filled_cell S g o.inner child k o.fills in
-    let are = m.1 ∙ ap (λ (z : List Tree). z ++ cut_for k o.inner) c.of-content.ensures.made in
-    let whole = finished (Ok c.in_ok-finish.field-0) child c.cut_inner.new.cell.left c.cut_inner.new.cell.made.items
-    (cut_for k o.inner) c.in_ok-finish.ensures.ok c.in_ok-finish.ensures.unread m.0 are cell in
-    one_put c.args.cell.now c.next.new.self c.put.new.self c.in_ok-finish.field-0 c.put.result after.refs (cut_for k d)
-    c.next.ensures.made c.put.ensures.ok c.put.ensures.left c.put.ensures.err at.rest
+    let x = under_taken (cores (schema_view c.args.plan.now.0)) d (record_at c.args.plan.now.1 c.args.first c.args.count)
+    (scope_of c.args.env.now c.args.types.now) (value_view c.args.value.now) c.args.levels c.args.cell.now.left outs after is l
+    c.next.new.self.left child (rests_of c.args.wanted.now) c.in_ok-child.ensures.ok in
+    let o = x.opened (sym c.if-is_nothing.ensures) (value_view c.in-Some.held.now)
+    (ap (option_map _) (sym c.in-Some.is) ∙ c.held.ensures) c.of-content.result.left c.of-content.ensures.left in
+    let whole = closed_cell (Ok c.in_ok-finish.field-0) child c.of-content.result c.cut_inner.new.cell
+    (cut_for (rests_of c.args.wanted.now) o.inner) c.in_ok-finish.ensures.ok c.in_ok-finish.ensures.unread
+    (c.in_ok-cut_inner.ensures o.inner o.outs _ o.is_held o.lies) c.of-content.ensures.made o.cell in
+    one_put c.args.cell.now c.next.new.self c.put.new.self c.in_ok-finish.field-0 c.put.result after.refs
+    (cut_for (rests_of c.args.wanted.now) d) c.next.ensures.made c.put.ensures.ok c.put.ensures.left c.put.ensures.err x.rest
     (o.made ∙ ap (λ (z : Tree). z ∷ []) (sym whole))
 
 pub cut_inner-returns-in_default : goal.cut_inner-returns-in_default
@@ -321,80 +245,58 @@ cut_inner-returns t c = λ d outs after is l.
 
 pub cut_branch-returns-then-is_whole : goal.cut_branch-returns-then-is_whole
 cut_branch-returns-then-is_whole t c = λ q e n x after less long is at.
-    let S = cores (schema_view c.args.plan.now.0) in
-    let ty = type_view c.args.inner.now in
     let k = below q (rests_of c.args.wanted.now) in
     let here = rests_of c.in_ok-wanted.wanted in
     let child = c.in_ok-child.child.now in
-    let b = branch_at S n ty q e c.args.key.now x child c.args.cell.now.left c.next.new.self.left after at
-    c.in_ok-child.ensures.ok in
-    let same = branch_wanted q c.args.key.now c.slice.result at.rest c.in-Some.prefix c.in-Some.field-0-1 c.args.end
-    (rests_of c.args.wanted.now) here c.take.result at.begins long c.in-Some.is c.take.ensures c.slice.ensures
-    c.in_ok-wanted.ensures in
+    let b = branch_taken (cores (schema_view c.args.plan.now.0)) n (type_view c.args.inner.now) q e c.args.key.now x
+    c.args.cell.now.left after at child c.next.new.self.left c.in_ok-child.ensures.ok c.slice.result c.in-Some.prefix
+    c.in-Some.field-0-1 c.args.end (rests_of c.args.wanted.now) here c.take.result long c.in-Some.is c.take.ensures
+    c.slice.ensures c.in_ok-wanted.ensures in
     one_put c.args.cell.now c.next.new.self c.keep.new.self child c.keep.result after
     (cut_at k x (cut_edge_for k q e) ∷ []) c.next.ensures.made c.keep.ensures.ok c.keep.ensures.left c.keep.ensures.err b.rest
-    (branch_kept S n ty q e x child c.next.new.self.left after k here b same (sym c.if-is_whole.ensures))
+    (b.kept (sym c.if-is_whole.ensures))
 
 pub cut_branch-returns-in_err-cut_edge : goal.cut_branch-returns-in_err-cut_edge
 cut_branch-returns-in_err-cut_edge t c = λ q e n x after less long is at.
-    let p = err_from_is_err_and c.from_residual-in_err-cut_edge.result c.from_residual-in_err-cut_edge.ensures.1 in
-    let S = cores (schema_view c.args.plan.now.0) in
-    let ty = type_view c.args.inner.now in
-    let k = below q (rests_of c.args.wanted.now) in
     let here = rests_of c.in_ok-wanted.wanted in
     let child = c.in_ok-child.child.now in
-    let b = branch_at S n ty q e c.args.key.now x child c.args.cell.now.left c.next.new.self.left after at
-    c.in_ok-child.ensures.ok in
-    let same = branch_wanted q c.args.key.now c.slice.result at.rest c.in-Some.prefix c.in-Some.field-0-1 c.args.end
-    (rests_of c.args.wanted.now) here c.take.result at.begins long c.in-Some.is c.take.ensures c.slice.ensures
-    c.in_ok-wanted.ensures in
-    let lies = edge_fills S e n ty child c.of-edge.result.left b.clean b.cell c.of-edge.ensures.left in
-    still _ c.from_residual-in_err-cut_edge.result c.in_err-cut_edge.field-0.0 (p.1 ∙ ap Err p.2)
-    (c.in_err-cut_edge.ensures q e n [] nothing less is lies)
+    let b = branch_taken (cores (schema_view c.args.plan.now.0)) n (type_view c.args.inner.now) q e c.args.key.now x
+    c.args.cell.now.left after at child c.next.new.self.left c.in_ok-child.ensures.ok c.slice.result c.in-Some.prefix
+    c.in-Some.field-0-1 c.args.end (rests_of c.args.wanted.now) here c.take.result long c.in-Some.is c.take.ensures
+    c.slice.ensures c.in_ok-wanted.ensures in
+    stopped _ c.from_residual-in_err-cut_edge.result c.in_err-cut_edge.field-0.0 c.from_residual-in_err-cut_edge.ensures.1
+    (c.in_err-cut_edge.ensures q e n [] nothing less is (b.lies c.of-edge.result.left c.of-edge.ensures.left))
 
 pub cut_branch-returns-in_err-finish : goal.cut_branch-returns-in_err-finish
 cut_branch-returns-in_err-finish t c = λ q e n x after less long is at.
-    let p = err_from_is_err_and c.from_residual-in_err-finish.result c.from_residual-in_err-finish.ensures.1 in
-    let S = cores (schema_view c.args.plan.now.0) in
-    let ty = type_view c.args.inner.now in
-    let k = below q (rests_of c.args.wanted.now) in
     let here = rests_of c.in_ok-wanted.wanted in
     let child = c.in_ok-child.child.now in
-    let b = branch_at S n ty q e c.args.key.now x child c.args.cell.now.left c.next.new.self.left after at
-    c.in_ok-child.ensures.ok in
-    let same = branch_wanted q c.args.key.now c.slice.result at.rest c.in-Some.prefix c.in-Some.field-0-1 c.args.end
-    (rests_of c.args.wanted.now) here c.take.result at.begins long c.in-Some.is c.take.ensures c.slice.ensures
-    c.in_ok-wanted.ensures in
-    let lies = edge_fills S e n ty child c.of-edge.result.left b.clean b.cell c.of-edge.ensures.left in
-    let m = c.in_ok-cut_edge.ensures q e n [] nothing less is lies in
-    let cell = edge_cell e child here q (edge_filled S n ty e child b.cell) b.clean in
-    let are = m.1 ∙ ap (λ (z : List Tree). z ++ cut_edge_for here q e) c.of-edge.ensures.made in
-    still _ c.from_residual-in_err-finish.result c.in_err-finish.field-0.0 (p.1 ∙ ap Err p.2)
-    (finished (Err c.in_err-finish.field-0.0) child c.cut_edge.new.cell.left c.cut_edge.new.cell.made.items
-    (cut_edge_for here q e) c.in_err-finish.ensures.ok c.in_err-finish.ensures.unread m.0 are cell)
+    let b = branch_taken (cores (schema_view c.args.plan.now.0)) n (type_view c.args.inner.now) q e c.args.key.now x
+    c.args.cell.now.left after at child c.next.new.self.left c.in_ok-child.ensures.ok c.slice.result c.in-Some.prefix
+    c.in-Some.field-0-1 c.args.end (rests_of c.args.wanted.now) here c.take.result long c.in-Some.is c.take.ensures
+    c.slice.ensures c.in_ok-wanted.ensures in
+    stopped _ c.from_residual-in_err-finish.result c.in_err-finish.field-0.0 c.from_residual-in_err-finish.ensures.1
+    (closed_cell (Err c.in_err-finish.field-0.0) child c.of-edge.result c.cut_edge.new.cell
+    (cut_edge_for here q e) c.in_err-finish.ensures.ok c.in_err-finish.ensures.unread
+    (c.in_ok-cut_edge.ensures q e n [] nothing less is (b.lies c.of-edge.result.left c.of-edge.ensures.left))
+    c.of-edge.ensures.made b.cell)
 
 pub cut_branch-returns : goal.cut_branch-returns
 cut_branch-returns t c = λ q e n x after less long is at.
-    let S = cores (schema_view c.args.plan.now.0) in
-    let ty = type_view c.args.inner.now in
     let k = below q (rests_of c.args.wanted.now) in
     let here = rests_of c.in_ok-wanted.wanted in
     let child = c.in_ok-child.child.now in
-    let b = branch_at S n ty q e c.args.key.now x child c.args.cell.now.left c.next.new.self.left after at
-    c.in_ok-child.ensures.ok in
-    let same = branch_wanted q c.args.key.now c.slice.result at.rest c.in-Some.prefix c.in-Some.field-0-1 c.args.end
-    (rests_of c.args.wanted.now) here c.take.result at.begins long c.in-Some.is c.take.ensures c.slice.ensures
-    c.in_ok-wanted.ensures in
-    let lies = edge_fills S e n ty child c.of-edge.result.left b.clean b.cell c.of-edge.ensures.left in
-    let m = c.in_ok-cut_edge.ensures q e n [] nothing less is lies in
-    let cell = edge_cell e child here q (edge_filled S n ty e child b.cell) b.clean in
-    let are = m.1 ∙ ap (λ (z : List Tree). z ++ cut_edge_for here q e) c.of-edge.ensures.made in
-    let whole = finished (Ok c.in_ok-finish.field-0) child c.cut_edge.new.cell.left c.cut_edge.new.cell.made.items
-    (cut_edge_for here q e) c.in_ok-finish.ensures.ok c.in_ok-finish.ensures.unread m.0 are cell in
+    let b = branch_taken (cores (schema_view c.args.plan.now.0)) n (type_view c.args.inner.now) q e c.args.key.now x
+    c.args.cell.now.left after at child c.next.new.self.left c.in_ok-child.ensures.ok c.slice.result c.in-Some.prefix
+    c.in-Some.field-0-1 c.args.end (rests_of c.args.wanted.now) here c.take.result long c.in-Some.is c.take.ensures
+    c.slice.ensures c.in_ok-wanted.ensures in
+    let whole = closed_cell (Ok c.in_ok-finish.field-0) child c.of-edge.result c.cut_edge.new.cell
+    (cut_edge_for here q e) c.in_ok-finish.ensures.ok c.in_ok-finish.ensures.unread
+    (c.in_ok-cut_edge.ensures q e n [] nothing less is (b.lies c.of-edge.result.left c.of-edge.ensures.left))
+    c.of-edge.ensures.made b.cell in
     one_put c.args.cell.now c.next.new.self c.put.new.self c.in_ok-finish.field-0 c.put.result after
     (cut_at k x (cut_edge_for k q e) ∷ []) c.next.ensures.made c.put.ensures.ok c.put.ensures.left c.put.ensures.err b.rest
-    (branch_opened S n ty q e x child c.next.new.self.left after k here b same (sym c.if-is_nothing.ensures)
-    ∙ ap (λ (z : Tree). z ∷ []) (sym whole))
+    (b.opened (sym c.if-is_nothing.ensures) ∙ ap (λ (z : Tree). z ∷ []) (sym whole))
 
 -- ---- fields
 
@@ -426,7 +328,6 @@ cut_field-returns-in-Ok-LeftOut t c = λ d outs after is l.
 
 pub cut_field-returns-in_err-cut_inner-in-Ok-Here : goal.cut_field-returns-in_err-cut_inner-in-Ok-Here
 cut_field-returns-in_err-cut_inner-in-Ok-Here t c = λ d outs after is l.
-    let r = err_from_is_err_and c.from_residual.result c.from_residual.ensures.1 in
     let S = cores (schema_view c.args.plan.now.0) in
     let p = c.args.plan.now.1 in
     let scope = scope_of c.args.env.now c.args.types.now in
@@ -435,7 +336,7 @@ cut_field-returns-in_err-cut_inner-in-Ok-Here t c = λ d outs after is l.
     c.in-Ok-Here.ensures.shapes c.in-Ok-Here.field-0-is in
     let inner = at_shape S d (goals.at_field (governed p c.args.condition) (type_at p c.args.ty) scope) (goals.fields_here items scope)
     c.args.cell.now.left outs after shape l in
-    still _ c.from_residual.result c.in_err-cut_inner-in-Ok-Here.field-0.0 (r.1 ∙ ap Err r.2)
+    stopped _ c.from_residual.result c.in_err-cut_inner-in-Ok-Here.field-0.0 c.from_residual.ensures.1
     (c.in_err-cut_inner-in-Ok-Here.ensures d outs after is inner)
 
 pub cut_field-returns-in_ok-cut_inner-in-Ok-Here : goal.cut_field-returns-in_ok-cut_inner-in-Ok-Here
@@ -454,7 +355,6 @@ cut_field-returns-in_ok-cut_inner-in-Ok-Here t c = λ d outs after is l.
 
 pub cut_field-returns-in_err-cut_under-in-Ok-Under : goal.cut_field-returns-in_err-cut_under-in-Ok-Under
 cut_field-returns-in_err-cut_under-in-Ok-Under t c = λ d outs after is l.
-    let r = err_from_is_err_and c.from_residual-in_err-cut_under-in-Ok-Under.result c.from_residual-in_err-cut_under-in-Ok-Under.ensures.1 in
     let S = cores (schema_view c.args.plan.now.0) in
     let p = c.args.plan.now.1 in
     let scope = scope_of c.args.env.now c.args.types.now in
@@ -463,7 +363,7 @@ cut_field-returns-in_err-cut_under-in-Ok-Under t c = λ d outs after is l.
     c.in-Ok-Under.ensures.shapes c.in-Ok-Under.field-0-is in
     let inner = at_shape S d (goals.at_field (governed p c.args.condition) (type_at p c.args.ty) scope) (goals.fields_under items scope)
     c.args.cell.now.left outs after shape l in
-    still _ c.from_residual-in_err-cut_under-in-Ok-Under.result c.in_err-cut_under-in-Ok-Under.field-0.0 (r.1 ∙ ap Err r.2)
+    stopped _ c.from_residual-in_err-cut_under-in-Ok-Under.result c.in_err-cut_under-in-Ok-Under.field-0.0 c.from_residual-in_err-cut_under-in-Ok-Under.ensures.1
     (c.in_err-cut_under-in-Ok-Under.ensures d outs after is inner)
 
 pub cut_field-returns-in_ok-cut_under-in-Ok-Under : goal.cut_field-returns-in_ok-cut_under-in-Ok-Under
@@ -482,7 +382,6 @@ cut_field-returns-in_ok-cut_under-in-Ok-Under t c = λ d outs after is l.
 
 pub cut_fields-returns-in_err-next : goal.cut_fields-returns-in_err-next
 cut_fields-returns-in_err-next t c = λ end after all x.
-    let r = err_from_is_err_and c.from_residual.result c.from_residual.ensures.1 in
     let S = cores (schema_view c.args.plan.now.0) in
     let p = c.args.plan.now.1 in
     let k = rests_of c.args.wanted.now in
@@ -491,7 +390,7 @@ cut_fields-returns-in_err-next t c = λ end after all x.
     let D : List PlanOp → Type 0 = λ z. Due S k c.args.levels end after all
     (items_in p (type_at p) (governed p at.condition) z) scope (map pair_of at.due.now) at.cell in
     let due = at.invariant.due end after all x in
-    still _ c.from_residual.result c.in_err-next.field-0.0 (r.1 ∙ ap Err r.2)
+    stopped _ c.from_residual.result c.in_err-next.field-0.0 c.from_residual.ensures.1
     (c.in_err-next.ensures.gives (drop (at.op-index + 1) c.args.ops.now) end after all
     (subst D (op_next c.args.ops.now (Check 0 Eq 0 0) at.op-index c.loop-op-test.true) due))
 
@@ -547,8 +446,6 @@ cut_op-returns-in_default-clause-gives t c = λ ops end after all x.
 
 pub cut_op-returns-in_err-outputs-in-Field-clause-gives : goal.cut_op-returns-in_err-outputs-in-Field-clause-gives
 cut_op-returns-in_err-outputs-in-Field-clause-gives t c = λ ops end after all x.
-    let w = c.from_residual-in_err-outputs-in-Field in
-    let r = err_from_is_err_and w.result w.ensures.1 in
     let S = cores (schema_view c.args.plan.now.0) in
     let p = c.args.plan.now.1 in
     let k = rests_of c.args.wanted.now in
@@ -559,7 +456,7 @@ cut_op-returns-in_err-outputs-in-Field-clause-gives t c = λ ops end after all x
     let y = op_field S k c.args.levels end after all p g c.args.op ops fields c.args.cell.now it.field-0 it.ty it.slot scope
     c.in-Some.field-0-0.now.0 (value_view c.in-Some.field-0-0.now.1) (map pair_of c.in-Some.due.now) it.is
     (ap (map pair_of) c.in-Some.ensures.cases.0) x in
-    still _ w.result c.in_err-outputs-in-Field.field-0.0 (r.1 ∙ ap Err r.2)
+    stopped _ c.from_residual-in_err-outputs-in-Field.result c.in_err-outputs-in-Field.field-0.0 c.from_residual-in_err-outputs-in-Field.ensures.1
     (c.in_err-outputs-in-Field.ensures y.first y.outs y.middle y.is_first y.lies)
 
 pub cut_op-returns-in_ok-outputs-in-Field-clause-gives : goal.cut_op-returns-in_ok-outputs-in-Field-clause-gives
@@ -643,8 +540,6 @@ cut_declared-returns-in_default-2 t c = λ d outs after is l.
 
 pub cut_declared-returns-in_err-cut_fields : goal.cut_declared-returns-in_err-cut_fields
 cut_declared-returns-in_err-cut_fields t c = λ d outs after is l.
-    let w = c.from_residual-in_err-cut_fields in
-    let r = err_from_is_err_and w.result w.ensures.1 in
     let slots = c.in-Some-2.slots in
     let x = entered (schema_view c.args.plan.now.0) (rests_of c.args.wanted.now) c.args.levels c.args.name.now
     (closed_args c.args.args.now) c.args.parts.now c.args.cell.now outs after d is l c.in-Some.shown c.in-Some.is c.in-Some-named.c
@@ -653,7 +548,7 @@ cut_declared-returns-in_err-cut_fields t c = λ d outs after is l.
     c.inputs.ensures slots (sym (ap (option_map slots_view) c.in-Some-2.is) ∙ c.in_ok-slots.ensures)
     c.as_slice-types.result.now c.as_slice-types.ensures.value c.operations-ops.result.now c.operations-ops.ensures
     c.as_slice-fields.result.now c.as_slice-fields.ensures in
-    still _ w.result c.in_err-cut_fields.field-0.0 (r.1 ∙ ap Err r.2) (c.in_err-cut_fields.ensures x.end after _ x.due)
+    stopped _ c.from_residual-in_err-cut_fields.result c.in_err-cut_fields.field-0.0 c.from_residual-in_err-cut_fields.ensures.1 (c.in_err-cut_fields.ensures x.end after _ x.due)
 
 pub cut_declared-returns-in-None : goal.cut_declared-returns-in-None
 cut_declared-returns-in-None t c = λ d outs after is l.
@@ -692,8 +587,6 @@ cut_edge-returns-in_default t c = λ q e n outs after few is l.
 
 pub cut_edge-returns-in_err-cut_value : goal.cut_edge-returns-in_err-cut_value
 cut_edge-returns-in_err-cut_value t c = λ q e n outs after few is l.
-    let w = c.from_residual-in_err-cut_value in
-    let r = err_from_is_err_and w.result w.ensures.1 in
     let S = cores (schema_view c.args.plan.now.0) in
     let ty = type_view c.args.inner.now in
     let k = rests_of c.args.wanted.now in
@@ -702,7 +595,7 @@ cut_edge-returns-in_err-cut_value t c = λ q e n outs after few is l.
     let lf = leaf_seen q e first pairs c.in-Some.others.now c.args.levels is c.in-Some.ensures.cases.0
     (none_last c.in-Some.others.now c.in_default-last.ensures.value) in
     let ll = leaf_lies S e lf.label lf.laid n ty c.args.cell.now.left outs after lf.is l in
-    still _ w.result c.in_err-cut_value.field-0.0 (r.1 ∙ ap Err r.2)
+    stopped _ c.from_residual-in_err-cut_value.result c.in_err-cut_value.field-0.0 c.from_residual-in_err-cut_value.ensures.1
     (c.in_err-cut_value.ensures lf.laid ll.outs after lf.holds ll.lies)
 
 pub cut_edge-returns-in_default-last : goal.cut_edge-returns-in_default-last
@@ -721,87 +614,35 @@ cut_edge-returns-in_default-last t c = λ q e n outs after few is l.
 
 pub cut_edge-returns-then-left-eq0 : goal.cut_edge-returns-then-left-eq0
 cut_edge-returns-then-left-eq0 t c = λ q e n outs after few is l.
-    let S = cores (schema_view c.args.plan.now.0) in
-    let ty = type_view c.args.inner.now in
-    let k = rests_of c.args.wanted.now in
-    let pairs = c.args.pairs.now in
-    let first = c.in-Some.field-0-0.now in
-    let last = c.in-Some-last.field-0.now in
-    let others = c.in-Some.others.now in
-    let fk = fork_seen q e first last pairs others c.args.levels (length others - 1) is c.in-Some.ensures.cases.0
-    (sym c.in-Some-last.ensures.value) in
-    let fl = fork_lies S e fk.label fk.zero_cell fk.zeros fk.one_cell fk.ones n ty c.args.cell.now.left outs after fk.is l in
-    let long = fl.long in
-    let none = c.if-left-eq0.true in
-    absurd (omega (arith, long, few, none))
+    absurd (bits_left (cores (schema_view c.args.plan.now.0)) q e n (type_view c.args.inner.now) c.args.left c.args.levels
+    c.in-Some.field-0-0.now c.in-Some-last.field-0.now c.args.pairs.now c.in-Some.others.now c.args.cell.now.left outs after few
+    is l c.in-Some.ensures.cases.0 (sym c.in-Some-last.ensures.value) c.if-left-eq0.true)
 
 pub cut_edge-returns-in_err-cut_branch : goal.cut_edge-returns-in_err-cut_branch
 cut_edge-returns-in_err-cut_branch t c = λ q e n outs after few is l.
-    let w = c.from_residual-in_err-cut_branch in
-    let r = err_from_is_err_and w.result w.ensures.1 in
-    let S = cores (schema_view c.args.plan.now.0) in
-    let ty = type_view c.args.inner.now in
-    let k = rests_of c.args.wanted.now in
-    let pairs = c.args.pairs.now in
-    let first = c.in-Some.field-0-0.now in
-    let last = c.in-Some-last.field-0.now in
-    let others = c.in-Some.others.now in
-    let fk = fork_seen q e first last pairs others c.args.levels (length others - 1) is c.in-Some.ensures.cases.0
-    (sym c.in-Some-last.ensures.value) in
-    let fl = fork_lies S e fk.label fk.zero_cell fk.zeros fk.one_cell fk.ones n ty c.args.cell.now.left outs after fk.is l in
-    let b0 = first_begins q fk.label fk.zeros fk.ones pairs others c.args.levels first fk.forked c.in-Some.ensures.cases.0 in
-    let b1 = last_begins q fk.label fk.zeros fk.ones pairs others c.args.levels first last fk.forked
-    c.in-Some.ensures.cases.0 (sym c.in-Some-last.ensures.value) in
-    let place = parts_at q fk.label first.0 last.0 c.common-common.result b0 b1 c.common-common.ensures.is in
-    let turned = turned_at q fk.label fk.zeros fk.ones pairs c.args.levels c.common-common.result c.turn.result fk.forked place
-    c.turn.ensures.turns in
-    let less : fl.less ≤ c.args.left - 1 = (let long = fl.long in omega (arith, long, few)) in
-    let x0 = q ++ (fk.label ++ 0 ∷ []) in
-    let x1 = q ++ (fk.label ++ 1 ∷ []) in
-    let one = zero_branch S q fk.label fk.zero_cell fk.zeros fk.one_cell fk.ones n ty first.0 c.args.cell.now.left after.refs
-    fl b0 in
-    let here = c.in_err-cut_branch.ensures x0 fk.zeros fl.less fk.zero_cell (fk.one_cell ∷ after.refs) less
-    (one_more q fk.label 0 c.common-common.result place)
-    (zeros_at q fk.label fk.zeros fk.ones pairs c.split_at.result.0.now c.args.levels c.turn.result fk.forked turned
-    c.split_at.ensures.front) one in
-    still _ w.result c.in_err-cut_branch.field-0.0 (r.1 ∙ ap Err r.2) here
+    let x = at_fork (cores (schema_view c.args.plan.now.0)) q e n (type_view c.args.inner.now) c.args.left c.args.levels
+    c.in-Some.field-0-0.now c.in-Some-last.field-0.now c.args.pairs.now c.in-Some.others.now c.args.cell.now.left outs after few
+    is l c.in-Some.ensures.cases.0 (sym c.in-Some-last.ensures.value) c.common-common.result c.turn.result
+    c.split_at.result.0.now c.split_at.result.1.now c.common-common.ensures.is c.turn.ensures.turns c.split_at.ensures.front
+    c.split_at.ensures.back in
+    let zeros = q ++ (x.label ++ 0 ∷ []) in
+    stopped _ c.from_residual-in_err-cut_branch.result c.in_err-cut_branch.field-0.0
+    c.from_residual-in_err-cut_branch.ensures.1 (c.in_err-cut_branch.ensures zeros x.zero x.less x.zero_cell (x.one_cell ∷ after.refs) x.fewer x.zero_end x.zero_is x.zero_at)
 
 pub cut_edge-returns : goal.cut_edge-returns
 cut_edge-returns t c = λ q e n outs after few is l.
-    let S = cores (schema_view c.args.plan.now.0) in
-    let ty = type_view c.args.inner.now in
-    let k = rests_of c.args.wanted.now in
-    let pairs = c.args.pairs.now in
-    let first = c.in-Some.field-0-0.now in
-    let last = c.in-Some-last.field-0.now in
-    let others = c.in-Some.others.now in
-    let fk = fork_seen q e first last pairs others c.args.levels (length others - 1) is c.in-Some.ensures.cases.0
-    (sym c.in-Some-last.ensures.value) in
-    let fl = fork_lies S e fk.label fk.zero_cell fk.zeros fk.one_cell fk.ones n ty c.args.cell.now.left outs after fk.is l in
-    let b0 = first_begins q fk.label fk.zeros fk.ones pairs others c.args.levels first fk.forked c.in-Some.ensures.cases.0 in
-    let b1 = last_begins q fk.label fk.zeros fk.ones pairs others c.args.levels first last fk.forked
-    c.in-Some.ensures.cases.0 (sym c.in-Some-last.ensures.value) in
-    let place = parts_at q fk.label first.0 last.0 c.common-common.result b0 b1 c.common-common.ensures.is in
-    let turned = turned_at q fk.label fk.zeros fk.ones pairs c.args.levels c.common-common.result c.turn.result fk.forked place
-    c.turn.ensures.turns in
-    let less : fl.less ≤ c.args.left - 1 = (let long = fl.long in omega (arith, long, few)) in
-    let x0 = q ++ (fk.label ++ 0 ∷ []) in
-    let x1 = q ++ (fk.label ++ 1 ∷ []) in
-    let one = zero_branch S q fk.label fk.zero_cell fk.zeros fk.one_cell fk.ones n ty first.0 c.args.cell.now.left after.refs
-    fl b0 in
-    let here = c.in_ok-cut_branch.ensures x0 fk.zeros fl.less fk.zero_cell (fk.one_cell ∷ after.refs) less
-    (one_more q fk.label 0 c.common-common.result place)
-    (zeros_at q fk.label fk.zeros fk.ones pairs c.split_at.result.0.now c.args.levels c.turn.result fk.forked turned
-    c.split_at.ensures.front) one in
-    let two = one_branch S q fk.label fk.zero_cell fk.zeros fk.one_cell fk.ones n ty last.0 c.args.cell.now.left
-    c.cut_branch.new.cell.left after.refs fl here.0 b1 in
-    let there = c.cut_branch-2.ensures x1 fk.ones fl.less fk.one_cell after.refs less
-    (one_more q fk.label 1 c.common-common.result place)
-    (ones_at q fk.label fk.zeros fk.ones pairs c.split_at.result.1.now c.args.levels c.turn.result fk.forked turned
-    c.split_at.ensures.back) two in
+    let x = at_fork (cores (schema_view c.args.plan.now.0)) q e n (type_view c.args.inner.now) c.args.left c.args.levels
+    c.in-Some.field-0-0.now c.in-Some-last.field-0.now c.args.pairs.now c.in-Some.others.now c.args.cell.now.left outs after few
+    is l c.in-Some.ensures.cases.0 (sym c.in-Some-last.ensures.value) c.common-common.result c.turn.result
+    c.split_at.result.0.now c.split_at.result.1.now c.common-common.ensures.is c.turn.ensures.turns c.split_at.ensures.front
+    c.split_at.ensures.back in
+    let zeros = q ++ (x.label ++ 0 ∷ []) in
+    let here = c.in_ok-cut_branch.ensures zeros x.zero x.less x.zero_cell (x.one_cell ∷ after.refs) x.fewer x.zero_end x.zero_is x.zero_at in
+    let there = c.cut_branch-2.ensures (q ++ (x.label ++ 1 ∷ [])) x.one x.less x.one_cell after.refs x.fewer x.one_end x.one_is
+    (x.one_at c.cut_branch.new.cell.left here.0) in
     gives_as _ _ c.cut_branch-2.result
-    (λ z m. fork_moves k q fk.label e fk.zero_cell fk.zeros fk.one_cell fk.ones (fk.one_cell ∷ after.refs) after.refs
-    c.args.cell.now c.cut_branch.new.cell c.cut_branch-2.new.cell fk.is here m) there
+    (λ z m. fork_moves (rests_of c.args.wanted.now) q x.label e x.zero_cell x.zero x.one_cell x.one (x.one_cell ∷ after.refs)
+    after.refs c.args.cell.now c.cut_branch.new.cell c.cut_branch-2.new.cell x.is_fork here m) there
 
 pub cut_root_edge-returns-in_default : goal.cut_root_edge-returns-in_default
 cut_root_edge-returns-in_default t c = λ d n outs after few is l.
@@ -883,11 +724,10 @@ cut_held-returns-in_default t c = λ d outs after is l.
 
 pub cut_held-returns-in_err-cut_ref : goal.cut_held-returns-in_err-cut_ref
 cut_held-returns-in_err-cut_ref t c = λ d outs after is l.
-    let r = err_from_is_err_and c.from_residual.result c.from_residual.ensures.1 in
     let x = at_reference (cores (schema_view c.args.plan.now.0)) d (type_view c.args.ty.now) (c.args.levels + 1)
     c.args.cell.now.left outs after l (type_view c.in-Some.inner.now)
     (ap (option_map _) (sym c.in-Some.is) ∙ c.referred.ensures) in
-    still _ c.from_residual.result c.in_err-cut_ref.field-0.0 (r.1 ∙ ap Err r.2) (c.in_err-cut_ref.ensures d outs after is x.lies)
+    stopped _ c.from_residual.result c.in_err-cut_ref.field-0.0 c.from_residual.ensures.1 (c.in_err-cut_ref.ensures d outs after is x.lies)
 
 pub cut_held-returns : goal.cut_held-returns
 cut_held-returns t c = λ d outs after is l.
@@ -905,7 +745,6 @@ cut_list-returns-in_default t c = λ d outs after is l.
 
 pub cut_list-returns-in_err-cut_items : goal.cut_list-returns-in_err-cut_items
 cut_list-returns-in_err-cut_items t c = λ d outs after is l.
-    let r = err_from_is_err_and c.from_residual.result c.from_residual.ensures.1 in
     let S = cores (schema_view c.args.plan.now.0) in
     let k = rests_of c.args.wanted.now in
     let n = c.in-Some.count.now in
@@ -914,7 +753,7 @@ cut_list-returns-in_err-cut_items t c = λ d outs after is l.
     (ap (option_map _) (sym c.in-Some.is) ∙ c.repeated.ensures) in
     let few : n ≤ 4294967295 = omega (arith, c.count_of-count.ensures.same, c.count_of-count.ensures.small) in
     let y = list_due S k c.args.levels n inner outs after (map value_view c.args.items.now) c.args.cell.now d few is x.lies in
-    still _ c.from_residual.result c.in_err-cut_items.field-0.0 (r.1 ∙ ap Err r.2)
+    stopped _ c.from_residual.result c.in_err-cut_items.field-0.0 c.from_residual.ensures.1
     (c.in_err-cut_items.ensures after (c.args.cell.now.made.items ++ cut_for k d) y.due)
 
 pub cut_list-returns : goal.cut_list-returns
@@ -935,7 +774,6 @@ cut_map-returns-in_default t c = λ d hidden outs after is l.
 
 pub cut_map-returns-in_err-cut_edge : goal.cut_map-returns-in_err-cut_edge
 cut_map-returns-in_err-cut_edge t c = λ d hidden outs after is l.
-    let r = err_from_is_err_and c.from_residual.result c.from_residual.ensures.1 in
     let S = cores (schema_view c.args.plan.now.0) in
     let n = c.in-Some.field-0-0.now in
     let inner = type_view c.in-Some.inner.now in
@@ -943,7 +781,7 @@ cut_map-returns-in_err-cut_edge t c = λ d hidden outs after is l.
     (ap (option_map _) (sym c.in-Some.is) ∙ c.mapped_here.ensures) in
     let y = dict_lies S c.args.levels n inner c.args.cell.now.left outs after (pairs_of (map pair_of c.args.pairs.now)) hidden d is
     x.lies in
-    still _ c.from_residual.result c.in_err-cut_edge.field-0.0 (r.1 ∙ ap Err r.2)
+    stopped _ c.from_residual.result c.in_err-cut_edge.field-0.0 c.from_residual.ensures.1
     (c.in_err-cut_edge.ensures [] y.edge n [] after (few_bits n x.wide) y.is_edge y.lies)
 
 pub cut_map-returns : goal.cut_map-returns
@@ -969,7 +807,6 @@ cut_map_under-returns-in_default t c = λ d hidden outs after is here l.
 
 pub cut_map_under-returns-in_err-cut_root_edge : goal.cut_map_under-returns-in_err-cut_root_edge
 cut_map_under-returns-in_err-cut_root_edge t c = λ d hidden outs after is here l.
-    let r = err_from_is_err_and c.from_residual.result c.from_residual.ensures.1 in
     let S = cores (schema_view c.args.plan.now.0) in
     let n = c.in-Some.field-0-0.now in
     let inner = type_view c.in-Some.inner.now in
@@ -977,7 +814,7 @@ cut_map_under-returns-in_err-cut_root_edge t c = λ d hidden outs after is here 
     (ap (option_map _) (sym c.in-Some.is) ∙ c.mapped_under.ensures) in
     let y = map_lies S (c.args.levels + 1) n inner c.args.cell.now.left outs after (pairs_of (map pair_of c.args.pairs.now)) hidden
     d is x.lies in
-    still _ c.from_residual.result c.in_err-cut_root_edge.field-0.0 (r.1 ∙ ap Err r.2)
+    stopped _ c.from_residual.result c.in_err-cut_root_edge.field-0.0 c.from_residual.ensures.1
     (c.in_err-cut_root_edge.ensures d n outs after (few_bits n x.wide) y.is x.lies)
 
 pub cut_map_under-returns : goal.cut_map_under-returns
@@ -1009,8 +846,6 @@ cut_record-returns t c = λ d outs after is l.
 
 pub cut_items-returns-in_err-cut_value : goal.cut_items-returns-in_err-cut_value
 cut_items-returns-in_err-cut_value t c = λ after all x.
-    let w = c.from_residual-in_err-cut_value in
-    let r = err_from_is_err_and w.result w.ensures.1 in
     let S = cores (schema_view c.args.plan.now.0) in
     let k = rests_of c.args.wanted.now in
     let ty = type_view c.args.inner.now in
@@ -1021,7 +856,7 @@ cut_items-returns-in_err-cut_value t c = λ after all x.
     let due = subst D (item_next items at.item-index item c.loop-item-test.true c.item-item.is) (at.invariant after all x) in
     let y = first_item S k c.args.levels ty after all at.place (value_view item)
     (map value_view (drop (at.item-index + 1) items)) at.cell due in
-    still _ w.result c.in_err-cut_value.field-0.0 (r.1 ∙ ap Err r.2)
+    stopped _ c.from_residual-in_err-cut_value.result c.in_err-cut_value.field-0.0 c.from_residual-in_err-cut_value.ensures.1
     (c.in_err-cut_value.ensures y.first y.outs y.middle y.is_first y.lies)
 
 pub cut_items-loop-item-preserved : goal.cut_items-loop-item-preserved
