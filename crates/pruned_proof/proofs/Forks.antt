@@ -1,18 +1,41 @@
--- The two cells of a fork, by the pairs that the walk finds at its sides.
-use Rattle.std.proofs.Common.{◌≡◌, ℕ, ◌+◌, ◌-◌, ◌<◌, ◌≤◌, List, [], ◌∷◌, ◌++◌, Some, arith, drop, length, map, slice_get, take}
+-- An edge by the pairs that the walk finds of it: the value of a leaf, or the two cells of a fork.
+use Rattle.std.proofs.Common.{◌≡◌, ℕ, ◌+◌, ◌-◌, ◌<◌, ◌≤◌, List, [], ◌∷◌, ◌++◌, Some, None, arith, drop, length, map, slice_get, take}
 use Rattle.cell_nodes.specs.declared.tree.Tree.{Tree}
 use Rattle.core_form.specs.Closed.{Closed}
 use Rattle.core_form.specs.Core.{CoreSchema}
 use Rattle.hashmap_tree.specs.Entries.{Slice}
-use Rattle.pruning.specs.Laid.{LaidEdge, a_fork}
-use Rattle.pruning.specs.SpellsLaid.{SpellsEdge}
-use Rattle.typed_value.specs.View.{pair_of, pairs_of}
+use Rattle.spelling.specs.Goals.{at_type}
+use Rattle.pruning.specs.Laid.{Laid, LaidEdge, a_fork, a_leaf}
+use Rattle.pruning.specs.SpellsLaid.{SpellsEdge, SpellsLaid}
+use Rattle.typed_value.specs.View.{pair_of, pairs_of, value}
 use Rattle.typed_value.specs.declared.value.Value.{Value}
-use Rattle.pruned_proof.specs.Walks.{HasBit, IsBranch, IsEdge, Lies}
+use Rattle.pruned_proof.specs.Walks.{HasBit, Is, IsBranch, IsEdge, Lies}
+use Rattle.pruned_proof.proofs.Branched.{leaf_lies, leaf_seen, none_last}
 use Rattle.pruned_proof.proofs.Branched.{ForkLies, first_begins, fork_lies, fork_seen, last_begins, one_branch, one_more, ones_at, parts_at}
 use Rattle.pruned_proof.proofs.Branched.{turned_at, zero_branch, zeros_at}
 use Rattle.pruned_proof.proofs.Edges.{Begins, IsFork, keys_in}
 
+-- the value of a leaf
+pub record LeafAt (schema : CoreSchema) (q : List ℕ) (e : LaidEdge) (t : Closed) (most : ℕ) (first : List ℕ × Value)
+    (left : List Tree) (after : Slice) : Type 0 where
+  pub label : List ℕ
+  pub laid : Laid
+  pub is_leaf : e ≡ a_leaf label laid
+  pub key : first.0 ≡ q ++ label
+  pub holds : Is laid (value first.1) most
+  pub outs : List ℕ
+  pub lies : Lies (SpellsLaid schema laid (at_type t)) left outs after
+
+pub leaf_at : (schema : CoreSchema) (q : List ℕ) (e : LaidEdge) (n : ℕ) (t : Closed) (most : ℕ) (first : List ℕ × Value)
+    (pairs others : List (List ℕ × Value)) (left : List Tree) (outs : List ℕ) (after : Slice)
+    → IsEdge q e (pairs_of (map pair_of pairs)) most → Lies (λ b o a. SpellsEdge schema e n t b a) left outs after
+    → pairs ≡ first ∷ others → None ≡ slice_get others (length others - 1) → LeafAt schema q e t most first left after
+leaf_at schema q e n t most first pairs others left outs after is l split alone =
+    let x = leaf_seen q e first pairs others most is split (none_last others alone) in
+    let y = leaf_lies schema e x.label x.laid n t left outs after x.is l in
+    record { label = x.label; laid = x.laid; is_leaf = x.is; key = x.key; holds = x.holds; outs = y.outs; lies = y.lies }
+
+-- a fork
 module _ (schema : CoreSchema) (q : List ℕ) (e : LaidEdge) (n : ℕ) (t : Closed) (left most : ℕ) (first last : List ℕ × Value)
     (pairs others : List (List ℕ × Value)) (refs : List Tree) (outs : List ℕ) (after : Slice) (few : n ≤ left)
     (is : IsEdge q e (pairs_of (map pair_of pairs)) most) (l : Lies (λ b o a. SpellsEdge schema e n t b a) refs outs after)

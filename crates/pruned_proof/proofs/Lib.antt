@@ -8,6 +8,7 @@ mod Fielded
 mod Filling
 mod Forks
 mod Forms
+mod Inner
 mod Led
 mod Naming
 mod Numbers
@@ -16,6 +17,7 @@ mod Recorded
 mod Rooted
 mod Seen
 mod Shaped
+mod Sorted
 mod Taken
 mod Turned
 mod Turning

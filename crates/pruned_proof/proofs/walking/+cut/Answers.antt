@@ -1,14 +1,12 @@
-use Rattle.std.proofs.Common.{arith, ◌+◌, ◌-◌, ◌++◌, ◌∷◌, ◌∙◌, ◌≤◌, map, sym, ap, refl, [], None, Some, Ok, Err, List, length, subst, drop}
+use Rattle.std.proofs.Common.{arith, ◌+◌, ◌++◌, ◌∷◌, ◌∙◌, ◌≤◌, map, sym, ap, refl, [], None, Some, Ok, Err, List, length, subst, drop}
 use Rattle.std.proofs.Common.{option_map}
 use Rattle.std.specs.Borrow.{Bor}
 use Rattle.std.proofs.lemmas.Result.{err_from_is_err_and}
 use Rattle.cell_nodes.specs.Constructed.{stub}
 use Rattle.cell_nodes.specs.declared.tree.Tree.{Tree}
 use Rattle.closed_type.specs.View.{closed_type as type_view, closed_args}
-use Rattle.core_form.specs.Core.{Items}
-use Rattle.core_form.specs.Scope.{Scope}
 use Rattle.flat_form.specs.Sound.{OpsAreSound}
-use Rattle.flat_form.specs.Stands.{items_in, record_at, type_at}
+use Rattle.flat_form.specs.Stands.{record_at}
 use Rattle.flat_form.specs.declared.lists.Flat.{Flat}
 use Rattle.flat_form.specs.declared.lists.PlanOp.{PlanOp}
 use Rattle.flat_form.specs.declared.lists.PlanOp.TheVariants.{Check}
@@ -19,7 +17,6 @@ use Rattle.spelling.specs.Goals as goals
 use Rattle.tlb_syntax.specs.View.{schema as schema_view}
 use Rattle.typed_value.specs.View.{names_in, pair_of, pairs_of, vals_in, value as value_view}
 use Rattle.pruned_proof.specs.View.{rests_of}
-use Rattle.pruned_proof.specs.Walks.{Due, DueItems}
 use Rattle.pruned_proof.specs.Wanted.{Rests, below, cut_at, cut_edge_for, cut_for}
 use Rattle.spelling.specs.Slices.{nothing}
 use Rattle.nat_solver.specs.declared.compare.Op.TheVariants.{Eq}
@@ -30,31 +27,30 @@ use Rattle.typed_value.specs.View.{record_parts, slice_of}
 use Rattle.pruned_proof.proofs.Chosen.{entry_range, entry_sound}
 use Rattle.pruned_proof.proofs.Chosen.{outputs_plain, planned_there}
 use Rattle.typed_value.specs.Values.{Plain}
-use Rattle.std.proofs.lemmas.List.{drop_all}
 use Rattle.pruned_proof.proofs.Declared.{entered, no_constructor, no_fit, no_name}
 use Rattle.pruned_proof.proofs.Edges.{no_edge}
-use Rattle.pruned_proof.proofs.Seen.{is_bits, is_list, is_map, is_number, is_ref, is_rest, is_shown, item_next}
-use Rattle.pruned_proof.proofs.Forms.{at_declared, at_map_here, at_map_under, at_reference, at_repetition, no_bare, no_declared, no_map_there, no_reference, no_repetition}
+use Rattle.pruned_proof.proofs.Seen.{is_bits, is_list, is_map, is_number, is_ref, is_rest, is_shown}
+use Rattle.pruned_proof.proofs.Forms.{at_declared, at_reference, no_bare, no_declared, no_map_there, no_reference, no_repetition}
 use Rattle.pruned_proof.specs.Walks.{Is}
 use Rattle.typed_value.specs.Values as forms
 use Rattle.typed_value.specs.View.{vals_of}
-use Rattle.pruned_proof.proofs.Typed.{few_bits, inside}
+use Rattle.pruned_proof.proofs.Typed.{inside}
 use Rattle.pruned_proof.proofs.Branched.{no_first, one_first}
-use Rattle.pruned_proof.proofs.Typed.{bits_give, dict_lies, empty_map, list_due, map_lies, number_gives, ref_outs, rest_gives}
+use Rattle.pruned_proof.proofs.Typed.{bits_give, empty_map, number_gives, ref_outs, rest_gives}
 use Rattle.pruned_proof.proofs.Typed.{some_map}
-use Rattle.pruned_proof.proofs.Branched.{fork_moves, leaf_lies, leaf_made}
-use Rattle.pruned_proof.proofs.Branched.{leaf_seen, none_last}
+use Rattle.pruned_proof.proofs.Branched.{fork_moves, leaf_made}
 use Rattle.pruned_proof.proofs.Branched.{moves_as}
-use Rattle.pruned_proof.proofs.Forks.{at_fork, bits_left}
+use Rattle.pruned_proof.proofs.Forks.{at_fork, bits_left, leaf_at}
+use Rattle.pruned_proof.proofs.Inner.{inner_due, item_at, items_done}
+use Rattle.pruned_proof.proofs.Sorted.{here_at, list_at, under_at}
+use Rattle.pruned_proof.proofs.Shaped.{field_at, last_due, next_due}
 use Rattle.pruned_proof.proofs.Taken.{branch_taken, closed_cell, ref_taken, stopped, under_taken}
 use Rattle.pruned_proof.proofs.Turned.{bound_as, op_field, op_no_field, op_solved, op_unsolved}
 use Rattle.pruned_proof.proofs.Filling.{type_fills, filled_cell}
 use Rattle.pruned_proof.proofs.Led.{gives_as, one_put, none_left, led, led_fields}
 use Rattle.pruned_proof.proofs.Pruned.{finished}
-use Rattle.pruned_proof.proofs.Recorded.{no_record, record_due}
-use Rattle.pruned_proof.proofs.Fielded.{none_due, first_item, no_item}
-use Rattle.pruned_proof.proofs.Shaped.{shaped, at_shape, here_outs, under_outs, left_is, here_within, under_within, items_there}
-use Rattle.pruned_proof.proofs.Shaped.{op_next, ops_end}
+use Rattle.pruned_proof.proofs.Recorded.{no_record}
+use Rattle.pruned_proof.proofs.Shaped.{here_outs, under_outs, left_is, here_within, under_within}
 use Rattle.plan_reading.specs.declared.shapes.FlatShape.TheVariants.{Here, Under, LeftOut}
 use Rattle.pruned_proof.proofs.walking.+cut.Goals as goal
 
@@ -215,31 +211,18 @@ cut_under-returns t c = λ d outs after is l.
 
 pub cut_inner-returns-in_default : goal.cut_inner-returns-in_default
 cut_inner-returns-in_default t c = λ d outs after is l.
-    let S = cores (schema_view c.args.plan.now.0) in
-    let items = record_at c.args.plan.now.1 c.args.first c.args.count in
-    let scope = scope_of c.args.env.now c.args.types.now in
-    let k = rests_of c.args.wanted.now in
-    let v = value_view c.args.value.now in
-    absurd (no_record S k items scope v c.args.levels c.args.cell.now outs after d is l
+    absurd (no_record (cores (schema_view c.args.plan.now.0)) (rests_of c.args.wanted.now) (record_at c.args.plan.now.1 c.args.first c.args.count)
+    (scope_of c.args.env.now c.args.types.now) (value_view c.args.value.now) c.args.levels c.args.cell.now outs after d is l
     (ap (option_map _) (sym c.in_default.is) ∙ c.fields_of.ensures))
 
 pub cut_inner-returns : goal.cut_inner-returns
 cut_inner-returns t c = λ d outs after is l.
-    let S = cores (schema_view c.args.plan.now.0) in
-    let items = record_at c.args.plan.now.1 c.args.first c.args.count in
-    let scope = scope_of c.args.env.now c.args.types.now in
-    let k = rests_of c.args.wanted.now in
-    let v = value_view c.args.value.now in
-    let due = record_due S k items scope v c.args.levels c.args.cell.now outs after d (map pair_of c.in-Some.fields.now) is l
+    let x = inner_due (cores (schema_view c.args.plan.now.0)) (rests_of c.args.wanted.now) c.flat.result.now c.args.plan.now.1 c.args.first
+    c.args.count c.operations-ops.result.now c.flat.ensures.lists c.operations-ops.ensures (scope_of c.args.env.now c.args.types.now)
+    (scope_of c.in_ok-inner.inner c.args.types.now) (ap (λ z. scope_of z c.args.types.now) c.in_ok-inner.ensures)
+    (value_view c.args.value.now) c.args.levels c.args.cell.now outs after d (map pair_of c.in-Some.fields.now) is l
     (ap (option_map _) (sym c.in-Some.is) ∙ c.fields_of.ensures) in
-    let D : Items → Scope → Type 0 = λ z y. Due S k (c.args.levels - 1) due.end after (c.args.cell.now.made.items ++ cut_for k d) z y
-    (map pair_of c.in-Some.fields.now) c.args.cell.now in
-    let there = items_there c.flat.result.now c.args.plan.now.1 c.args.first c.args.count c.operations-ops.result.now
-    c.flat.ensures.lists c.operations-ops.ensures in
-    let at = subst (λ z. D z scope) (sym there) due.due in
-    let copied = ap (λ z. scope_of z c.args.types.now) (sym c.in_ok-inner.ensures) in
-    gives_as _ _ c.cut_fields.result (λ x m. (m.1, m.2))
-    (c.cut_fields.ensures due.end after (c.args.cell.now.made.items ++ cut_for k d) (subst (D _) copied at))
+    gives_as _ _ c.cut_fields.result (λ x m. (m.1, m.2)) (c.cut_fields.ensures x.end after _ x.due)
 
 -- ---- dictionaries
 
@@ -316,166 +299,115 @@ cut_field-cut_under-requires t c = (
 
 pub cut_field-returns-in-Ok-LeftOut : goal.cut_field-returns-in-Ok-LeftOut
 cut_field-returns-in-Ok-LeftOut t c = λ d outs after is l.
-    let S = cores (schema_view c.args.plan.now.0) in
-    let p = c.args.plan.now.1 in
-    let scope = scope_of c.args.env.now c.args.types.now in
-    let shape = shaped c.flat.result.now p c.args.condition c.args.ty scope c.in-Ok-LeftOut.field-0 LeftOut c.flat.ensures.lists
-    c.in-Ok-LeftOut.ensures.shapes c.in-Ok-LeftOut.field-0-is in
-    let inner = at_shape S d (goals.at_field (governed p c.args.condition) (type_at p c.args.ty) scope) goals.left_out
-    c.args.cell.now.left outs after shape l in
-    let x = left_is S d (rests_of c.args.wanted.now) c.args.cell.now outs after inner in
+    let it = c.in-Ok-LeftOut in
+    let inner = field_at (cores (schema_view c.args.plan.now.0)) d c.flat.result.now c.args.plan.now.1 c.args.condition c.args.ty
+    (scope_of c.args.env.now c.args.types.now) it.field-0 LeftOut c.args.cell.now.left outs after c.flat.ensures.lists
+    it.ensures.shapes it.field-0-is l in
+    let x = left_is (cores (schema_view c.args.plan.now.0)) d (rests_of c.args.wanted.now) c.args.cell.now outs after inner in
     (sym x.none, x.moves)
 
 pub cut_field-returns-in_err-cut_inner-in-Ok-Here : goal.cut_field-returns-in_err-cut_inner-in-Ok-Here
 cut_field-returns-in_err-cut_inner-in-Ok-Here t c = λ d outs after is l.
-    let S = cores (schema_view c.args.plan.now.0) in
-    let p = c.args.plan.now.1 in
-    let scope = scope_of c.args.env.now c.args.types.now in
-    let items = record_at p c.in-Ok-Here.first c.in-Ok-Here.count in
-    let shape = shaped c.flat.result.now p c.args.condition c.args.ty scope c.in-Ok-Here.field-0 (Here c.in-Ok-Here.first c.in-Ok-Here.count) c.flat.ensures.lists
-    c.in-Ok-Here.ensures.shapes c.in-Ok-Here.field-0-is in
-    let inner = at_shape S d (goals.at_field (governed p c.args.condition) (type_at p c.args.ty) scope) (goals.fields_here items scope)
-    c.args.cell.now.left outs after shape l in
+    let it = c.in-Ok-Here in
+    let inner = field_at (cores (schema_view c.args.plan.now.0)) d c.flat.result.now c.args.plan.now.1 c.args.condition c.args.ty
+    (scope_of c.args.env.now c.args.types.now) it.field-0 (Here it.first it.count) c.args.cell.now.left outs after c.flat.ensures.lists
+    it.ensures.shapes it.field-0-is l in
     stopped _ c.from_residual.result c.in_err-cut_inner-in-Ok-Here.field-0.0 c.from_residual.ensures.1
     (c.in_err-cut_inner-in-Ok-Here.ensures d outs after is inner)
 
 pub cut_field-returns-in_ok-cut_inner-in-Ok-Here : goal.cut_field-returns-in_ok-cut_inner-in-Ok-Here
 cut_field-returns-in_ok-cut_inner-in-Ok-Here t c = λ d outs after is l.
-    let S = cores (schema_view c.args.plan.now.0) in
-    let p = c.args.plan.now.1 in
-    let scope = scope_of c.args.env.now c.args.types.now in
-    let items = record_at p c.in-Ok-Here.first c.in-Ok-Here.count in
-    let shape = shaped c.flat.result.now p c.args.condition c.args.ty scope c.in-Ok-Here.field-0 (Here c.in-Ok-Here.first c.in-Ok-Here.count) c.flat.ensures.lists
-    c.in-Ok-Here.ensures.shapes c.in-Ok-Here.field-0-is in
-    let inner = at_shape S d (goals.at_field (governed p c.args.condition) (type_at p c.args.ty) scope) (goals.fields_here items scope)
-    c.args.cell.now.left outs after shape l in (
-      sym (here_outs S d items scope c.args.cell.now.left outs after inner),
+    let it = c.in-Ok-Here in
+    let inner = field_at (cores (schema_view c.args.plan.now.0)) d c.flat.result.now c.args.plan.now.1 c.args.condition c.args.ty
+    (scope_of c.args.env.now c.args.types.now) it.field-0 (Here it.first it.count) c.args.cell.now.left outs after c.flat.ensures.lists
+    it.ensures.shapes it.field-0-is l in (
+      sym (here_outs (cores (schema_view c.args.plan.now.0)) d _ _ c.args.cell.now.left outs after inner),
       c.in_ok-cut_inner-in-Ok-Here.ensures d outs after is inner,
     )
 
 pub cut_field-returns-in_err-cut_under-in-Ok-Under : goal.cut_field-returns-in_err-cut_under-in-Ok-Under
 cut_field-returns-in_err-cut_under-in-Ok-Under t c = λ d outs after is l.
-    let S = cores (schema_view c.args.plan.now.0) in
-    let p = c.args.plan.now.1 in
-    let scope = scope_of c.args.env.now c.args.types.now in
-    let items = record_at p c.in-Ok-Under.first c.in-Ok-Under.count in
-    let shape = shaped c.flat.result.now p c.args.condition c.args.ty scope c.in-Ok-Under.field-0 (Under c.in-Ok-Under.first c.in-Ok-Under.count) c.flat.ensures.lists
-    c.in-Ok-Under.ensures.shapes c.in-Ok-Under.field-0-is in
-    let inner = at_shape S d (goals.at_field (governed p c.args.condition) (type_at p c.args.ty) scope) (goals.fields_under items scope)
-    c.args.cell.now.left outs after shape l in
+    let it = c.in-Ok-Under in
+    let inner = field_at (cores (schema_view c.args.plan.now.0)) d c.flat.result.now c.args.plan.now.1 c.args.condition c.args.ty
+    (scope_of c.args.env.now c.args.types.now) it.field-0 (Under it.first it.count) c.args.cell.now.left outs after c.flat.ensures.lists
+    it.ensures.shapes it.field-0-is l in
     stopped _ c.from_residual-in_err-cut_under-in-Ok-Under.result c.in_err-cut_under-in-Ok-Under.field-0.0 c.from_residual-in_err-cut_under-in-Ok-Under.ensures.1
     (c.in_err-cut_under-in-Ok-Under.ensures d outs after is inner)
 
 pub cut_field-returns-in_ok-cut_under-in-Ok-Under : goal.cut_field-returns-in_ok-cut_under-in-Ok-Under
 cut_field-returns-in_ok-cut_under-in-Ok-Under t c = λ d outs after is l.
-    let S = cores (schema_view c.args.plan.now.0) in
-    let p = c.args.plan.now.1 in
-    let scope = scope_of c.args.env.now c.args.types.now in
-    let items = record_at p c.in-Ok-Under.first c.in-Ok-Under.count in
-    let shape = shaped c.flat.result.now p c.args.condition c.args.ty scope c.in-Ok-Under.field-0 (Under c.in-Ok-Under.first c.in-Ok-Under.count) c.flat.ensures.lists
-    c.in-Ok-Under.ensures.shapes c.in-Ok-Under.field-0-is in
-    let inner = at_shape S d (goals.at_field (governed p c.args.condition) (type_at p c.args.ty) scope) (goals.fields_under items scope)
-    c.args.cell.now.left outs after shape l in (
-      sym (under_outs S d items scope c.args.cell.now.left outs after inner),
+    let it = c.in-Ok-Under in
+    let inner = field_at (cores (schema_view c.args.plan.now.0)) d c.flat.result.now c.args.plan.now.1 c.args.condition c.args.ty
+    (scope_of c.args.env.now c.args.types.now) it.field-0 (Under it.first it.count) c.args.cell.now.left outs after c.flat.ensures.lists
+    it.ensures.shapes it.field-0-is l in (
+      sym (under_outs (cores (schema_view c.args.plan.now.0)) d _ _ c.args.cell.now.left outs after inner),
       c.in_ok-cut_under-in-Ok-Under.ensures d outs after is inner,
     )
 
 pub cut_fields-returns-in_err-next : goal.cut_fields-returns-in_err-next
 cut_fields-returns-in_err-next t c = λ end after all x.
-    let S = cores (schema_view c.args.plan.now.0) in
-    let p = c.args.plan.now.1 in
-    let k = rests_of c.args.wanted.now in
     let at = c.loop-op in
-    let scope = scope_of at.env c.args.types.now in
-    let D : List PlanOp → Type 0 = λ z. Due S k c.args.levels end after all
-    (items_in p (type_at p) (governed p at.condition) z) scope (map pair_of at.due.now) at.cell in
-    let due = at.invariant.due end after all x in
+    let due = next_due (cores (schema_view c.args.plan.now.0)) (rests_of c.args.wanted.now) c.args.levels end after all c.args.plan.now.1
+    (governed c.args.plan.now.1 at.condition) c.args.ops.now at.op-index (scope_of at.env c.args.types.now) (map pair_of at.due.now)
+    at.cell (Check 0 Eq 0 0) c.loop-op-test.true (at.invariant.due end after all x) in
     stopped _ c.from_residual.result c.in_err-next.field-0.0 c.from_residual.ensures.1
-    (c.in_err-next.ensures.gives (drop (at.op-index + 1) c.args.ops.now) end after all
-    (subst D (op_next c.args.ops.now (Check 0 Eq 0 0) at.op-index c.loop-op-test.true) due))
+    (c.in_err-next.ensures.gives (drop (at.op-index + 1) c.args.ops.now) end after all due)
 
 pub cut_fields-returns : goal.cut_fields-returns
 cut_fields-returns t c = λ end after all x.
-    let S = cores (schema_view c.args.plan.now.0) in
-    let p = c.args.plan.now.1 in
-    let k = rests_of c.args.wanted.now in
     let at = c.loop-op in
-    let scope = scope_of at.env c.args.types.now in
-    let D : List PlanOp → Type 0 = λ z. Due S k c.args.levels end after all
-    (items_in p (type_at p) (governed p at.condition) z) scope (map pair_of at.due.now) at.cell in
-    let due = at.invariant.due end after all x in
-    let none = subst D (ops_end c.args.ops.now at.op-index c.loop-op-test.false) due in
-    let m = none_due S k c.args.levels end after all scope (map pair_of at.due.now) at.cell none in
+    let m = last_due (cores (schema_view c.args.plan.now.0)) (rests_of c.args.wanted.now) c.args.levels end after all c.args.plan.now.1
+    (governed c.args.plan.now.1 at.condition) c.args.ops.now at.op-index (scope_of at.env c.args.types.now) (map pair_of at.due.now)
+    at.cell c.loop-op-test.false (at.invariant.due end after all x) in
     (m.scope_is, m.left, m.made)
 
 pub cut_op-returns-in-Ok-clause-gives : goal.cut_op-returns-in-Ok-clause-gives
 cut_op-returns-in-Ok-clause-gives t c = λ ops end after all x.
-    let S = cores (schema_view c.args.plan.now.0) in
-    let p = c.args.plan.now.1 in
-    let k = rests_of c.args.wanted.now in
-    let g = governed p c.args.condition in
-    let fields = map pair_of c.args.fields.now in
     let it = c.in-Solve in
-    op_solved S k c.args.levels end after all p g c.args.op ops fields c.args.cell.now c.flat-flat.result.now
-    (length p.types) it.slot it.left it.right it.field-3 c.in-Ok.number c.args.env.now c.set.new.env c.args.types.now it.is
-    c.flat-flat.ensures.lists c.requires.sound c.in-Ok.ensures c.set.ensures x
+    op_solved (cores (schema_view c.args.plan.now.0)) (rests_of c.args.wanted.now) c.args.levels end after all c.args.plan.now.1
+    (governed c.args.plan.now.1 c.args.condition) c.args.op ops (map pair_of c.args.fields.now) c.args.cell.now c.flat-flat.result.now
+    (length c.args.plan.now.1.types) it.slot it.left it.right it.field-3 c.in-Ok.number c.args.env.now c.set.new.env
+    c.args.types.now it.is c.flat-flat.ensures.lists c.requires.sound c.in-Ok.ensures c.set.ensures x
 
 pub cut_op-returns-in-Err-clause-gives : goal.cut_op-returns-in-Err-clause-gives
 cut_op-returns-in-Err-clause-gives t c = λ ops end after all x.
-    let S = cores (schema_view c.args.plan.now.0) in
-    let p = c.args.plan.now.1 in
-    let k = rests_of c.args.wanted.now in
-    let g = governed p c.args.condition in
-    let fields = map pair_of c.args.fields.now in
     let it = c.in-Solve in
-    absurd (op_unsolved S k c.args.levels end after all p g c.args.op ops fields c.args.cell.now c.flat-flat.result.now
-    (length p.types) it.slot it.left it.right it.field-3 c.in-Err.field-0 c.args.env.now c.args.types.now it.is
+    absurd (op_unsolved (cores (schema_view c.args.plan.now.0)) (rests_of c.args.wanted.now) c.args.levels end after all c.args.plan.now.1
+    (governed c.args.plan.now.1 c.args.condition) c.args.op ops (map pair_of c.args.fields.now) c.args.cell.now c.flat-flat.result.now
+    (length c.args.plan.now.1.types) it.slot it.left it.right it.field-3 c.in-Err.field-0 c.args.env.now c.args.types.now it.is
     c.flat-flat.ensures.lists c.requires.sound c.in-Err.ensures x)
 
 pub cut_op-returns-in_default-clause-gives : goal.cut_op-returns-in_default-clause-gives
 cut_op-returns-in_default-clause-gives t c = λ ops end after all x.
-    let S = cores (schema_view c.args.plan.now.0) in
-    let p = c.args.plan.now.1 in
-    let k = rests_of c.args.wanted.now in
-    let g = governed p c.args.condition in
-    let fields = map pair_of c.args.fields.now in
     let it = c.in-Field in
-    let scope = scope_of c.args.env.now c.args.types.now in
-    absurd (op_no_field S k c.args.levels end after all p g c.args.op ops fields c.args.cell.now it.field-0 it.ty it.slot scope
-    it.is (ap (map pair_of) (nil_from_length c.args.fields.now c.in_default.ensures.cases)) x)
+    absurd (op_no_field (cores (schema_view c.args.plan.now.0)) (rests_of c.args.wanted.now) c.args.levels end after all c.args.plan.now.1
+    (governed c.args.plan.now.1 c.args.condition) c.args.op ops (map pair_of c.args.fields.now) c.args.cell.now it.field-0 it.ty it.slot
+    (scope_of c.args.env.now c.args.types.now) it.is
+    (ap (map pair_of) (nil_from_length c.args.fields.now c.in_default.ensures.cases)) x)
 
 pub cut_op-returns-in_err-outputs-in-Field-clause-gives : goal.cut_op-returns-in_err-outputs-in-Field-clause-gives
 cut_op-returns-in_err-outputs-in-Field-clause-gives t c = λ ops end after all x.
-    let S = cores (schema_view c.args.plan.now.0) in
-    let p = c.args.plan.now.1 in
-    let k = rests_of c.args.wanted.now in
-    let g = governed p c.args.condition in
-    let fields = map pair_of c.args.fields.now in
     let it = c.in-Field in
-    let scope = scope_of c.args.env.now c.args.types.now in
-    let y = op_field S k c.args.levels end after all p g c.args.op ops fields c.args.cell.now it.field-0 it.ty it.slot scope
-    c.in-Some.field-0-0.now.0 (value_view c.in-Some.field-0-0.now.1) (map pair_of c.in-Some.due.now) it.is
-    (ap (map pair_of) c.in-Some.ensures.cases.0) x in
-    stopped _ c.from_residual-in_err-outputs-in-Field.result c.in_err-outputs-in-Field.field-0.0 c.from_residual-in_err-outputs-in-Field.ensures.1
+    let y = op_field (cores (schema_view c.args.plan.now.0)) (rests_of c.args.wanted.now) c.args.levels end after all c.args.plan.now.1
+    (governed c.args.plan.now.1 c.args.condition) c.args.op ops (map pair_of c.args.fields.now) c.args.cell.now it.field-0 it.ty it.slot
+    (scope_of c.args.env.now c.args.types.now) c.in-Some.field-0-0.now.0 (value_view c.in-Some.field-0-0.now.1)
+    (map pair_of c.in-Some.due.now) it.is (ap (map pair_of) c.in-Some.ensures.cases.0) x in
+    stopped _ c.from_residual-in_err-outputs-in-Field.result c.in_err-outputs-in-Field.field-0.0
+    c.from_residual-in_err-outputs-in-Field.ensures.1
     (c.in_err-outputs-in-Field.ensures y.first y.outs y.middle y.is_first y.lies)
 
 pub cut_op-returns-in_ok-outputs-in-Field-clause-gives : goal.cut_op-returns-in_ok-outputs-in-Field-clause-gives
 cut_op-returns-in_ok-outputs-in-Field-clause-gives t c = λ ops end after all x.
-    let S = cores (schema_view c.args.plan.now.0) in
-    let p = c.args.plan.now.1 in
-    let k = rests_of c.args.wanted.now in
-    let g = governed p c.args.condition in
-    let fields = map pair_of c.args.fields.now in
     let it = c.in-Field in
-    let scope = scope_of c.args.env.now c.args.types.now in
-    let y = op_field S k c.args.levels end after all p g c.args.op ops fields c.args.cell.now it.field-0 it.ty it.slot scope
-    c.in-Some.field-0-0.now.0 (value_view c.in-Some.field-0-0.now.1) (map pair_of c.in-Some.due.now) it.is
-    (ap (map pair_of) c.in-Some.ensures.cases.0) x in
+    let y = op_field (cores (schema_view c.args.plan.now.0)) (rests_of c.args.wanted.now) c.args.levels end after all c.args.plan.now.1
+    (governed c.args.plan.now.1 c.args.condition) c.args.op ops (map pair_of c.args.fields.now) c.args.cell.now it.field-0 it.ty it.slot
+    (scope_of c.args.env.now c.args.types.now) c.in-Some.field-0-0.now.0 (value_view c.in-Some.field-0-0.now.1)
+    (map pair_of c.in-Some.due.now) it.is (ap (map pair_of) c.in-Some.ensures.cases.0) x in
     let m = c.in_ok-outputs-in-Field.ensures y.first y.outs y.middle y.is_first y.lies in
     let here = ap (λ (z : Rests). cut_for z y.first) c.in_ok-here-in-Field.ensures in
     y.then (scope_of c.bind_outputs.new.env c.args.types.now) c.cut_field.new.cell
-    (bound_as c.flat-flat.result.now p it.ty it.slot _ y.outs scope _ c.flat-flat.ensures.lists m.0
-    (c.bind_outputs.ensures c.args.types.now))
+    (bound_as c.flat-flat.result.now c.args.plan.now.1 it.ty it.slot _ y.outs (scope_of c.args.env.now c.args.types.now) _
+    c.flat-flat.ensures.lists m.0 (c.bind_outputs.ensures c.args.types.now))
     (moves_as _ _ y.middle.refs c.args.cell.now c.cut_field.new.cell here m.1)
 
 -- ---- a declared type
@@ -575,9 +507,11 @@ cut_declared-returns t c = λ d outs after is l.
     c.as_slice-types.result.now c.as_slice-types.ensures.value c.operations-ops.result.now c.operations-ops.ensures
     c.as_slice-fields.result.now c.as_slice-fields.ensures in
     let m = c.in_ok-cut_fields.ensures x.end after _ x.due in
-    let outputs = c.in-Some-3.outputs in
-    (same_Some outputs outs (x.gives c.cut_fields.new.env c.outputs.result.now (Some outputs) c.outputs.ensures
-    (sym c.in-Some-3.is ∙ c.in_ok-values.ensures c.as_slice-types.result.now) m.0), (m.1, m.2))
+    let outputs = c.in-Some-3.outputs in (
+      same_Some outputs outs (x.gives c.cut_fields.new.env c.outputs.result.now (Some outputs) c.outputs.ensures
+          (sym c.in-Some-3.is ∙ c.in_ok-values.ensures c.as_slice-types.result.now) m.0),
+      (m.1, m.2),
+    )
 
 -- ---- edges
 
@@ -587,30 +521,21 @@ cut_edge-returns-in_default t c = λ q e n outs after few is l.
 
 pub cut_edge-returns-in_err-cut_value : goal.cut_edge-returns-in_err-cut_value
 cut_edge-returns-in_err-cut_value t c = λ q e n outs after few is l.
-    let S = cores (schema_view c.args.plan.now.0) in
-    let ty = type_view c.args.inner.now in
-    let k = rests_of c.args.wanted.now in
-    let pairs = c.args.pairs.now in
     let first = c.in-Some.field-0-0.now in
-    let lf = leaf_seen q e first pairs c.in-Some.others.now c.args.levels is c.in-Some.ensures.cases.0
-    (none_last c.in-Some.others.now c.in_default-last.ensures.value) in
-    let ll = leaf_lies S e lf.label lf.laid n ty c.args.cell.now.left outs after lf.is l in
+    let x = leaf_at (cores (schema_view c.args.plan.now.0)) q e n (type_view c.args.inner.now) c.args.levels first c.args.pairs.now
+    c.in-Some.others.now c.args.cell.now.left outs after is l c.in-Some.ensures.cases.0 c.in_default-last.ensures.value in
     stopped _ c.from_residual-in_err-cut_value.result c.in_err-cut_value.field-0.0 c.from_residual-in_err-cut_value.ensures.1
-    (c.in_err-cut_value.ensures lf.laid ll.outs after lf.holds ll.lies)
+    (c.in_err-cut_value.ensures x.laid x.outs after x.holds x.lies)
 
 pub cut_edge-returns-in_default-last : goal.cut_edge-returns-in_default-last
 cut_edge-returns-in_default-last t c = λ q e n outs after few is l.
-    let S = cores (schema_view c.args.plan.now.0) in
-    let ty = type_view c.args.inner.now in
-    let k = rests_of c.args.wanted.now in
-    let pairs = c.args.pairs.now in
     let first = c.in-Some.field-0-0.now in
-    let lf = leaf_seen q e first pairs c.in-Some.others.now c.args.levels is c.in-Some.ensures.cases.0
-    (none_last c.in-Some.others.now c.in_default-last.ensures.value) in
-    let ll = leaf_lies S e lf.label lf.laid n ty c.args.cell.now.left outs after lf.is l in
-    let m = c.in_ok-cut_value.ensures lf.laid ll.outs after lf.holds ll.lies in
-    moves_as _ (cut_edge_for k q e) after.refs c.args.cell.now c.cut_value.new.cell
-    (leaf_made k (rests_of c.in_ok-wanted.wanted) q lf.label first.0 e lf.laid lf.is lf.key c.in_ok-wanted.ensures) m.1
+    let x = leaf_at (cores (schema_view c.args.plan.now.0)) q e n (type_view c.args.inner.now) c.args.levels first c.args.pairs.now
+    c.in-Some.others.now c.args.cell.now.left outs after is l c.in-Some.ensures.cases.0 c.in_default-last.ensures.value in
+    let m = c.in_ok-cut_value.ensures x.laid x.outs after x.holds x.lies in
+    moves_as _ (cut_edge_for (rests_of c.args.wanted.now) q e) after.refs c.args.cell.now c.cut_value.new.cell
+    (leaf_made (rests_of c.args.wanted.now) (rests_of c.in_ok-wanted.wanted) q x.label first.0 e x.laid x.is_leaf x.key
+    c.in_ok-wanted.ensures) m.1
 
 pub cut_edge-returns-then-left-eq0 : goal.cut_edge-returns-then-left-eq0
 cut_edge-returns-then-left-eq0 t c = λ q e n outs after few is l.
@@ -663,10 +588,9 @@ cut_root_edge-returns t c = λ d n outs after few is l.
 
 pub cut_value-returns-in-Number : goal.cut_value-returns-in-Number
 cut_value-returns-in-Number t c = λ d outs after is l.
-    let S = cores (schema_view c.args.plan.now.0) in
     let number = c.in-Number.number in
-    number_gives S (type_view c.args.ty.now) (rests_of c.args.wanted.now) c.args.levels c.args.cell.now outs after d
-    number.negative number.size c.own_output.result
+    number_gives (cores (schema_view c.args.plan.now.0)) (type_view c.args.ty.now) (rests_of c.args.wanted.now) c.args.levels
+    c.args.cell.now outs after d number.negative number.size c.own_output.result
     (is_number d c.args.value.now c.args.levels number c.in-Number.is is) l c.own_output.ensures
 
 pub cut_value-returns-in-Bits : goal.cut_value-returns-in-Bits
@@ -745,28 +669,20 @@ cut_list-returns-in_default t c = λ d outs after is l.
 
 pub cut_list-returns-in_err-cut_items : goal.cut_list-returns-in_err-cut_items
 cut_list-returns-in_err-cut_items t c = λ d outs after is l.
-    let S = cores (schema_view c.args.plan.now.0) in
-    let k = rests_of c.args.wanted.now in
-    let n = c.in-Some.count.now in
-    let inner = type_view c.in-Some.inner.now in
-    let x = at_repetition S d (type_view c.args.ty.now) (c.args.levels + 1) c.args.cell.now.left outs after l n inner
-    (ap (option_map _) (sym c.in-Some.is) ∙ c.repeated.ensures) in
-    let few : n ≤ 4294967295 = omega (arith, c.count_of-count.ensures.same, c.count_of-count.ensures.small) in
-    let y = list_due S k c.args.levels n inner outs after (map value_view c.args.items.now) c.args.cell.now d few is x.lies in
+    let few : c.in-Some.count.now ≤ 4294967295 = omega (arith, c.count_of-count.ensures.same, c.count_of-count.ensures.small) in
+    let x = list_at (cores (schema_view c.args.plan.now.0)) (type_view c.args.ty.now) c.args.levels c.args.cell.now outs after d l
+    c.in-Some.count.now (type_view c.in-Some.inner.now) (rests_of c.args.wanted.now) (map value_view c.args.items.now) is
+    (ap (option_map _) (sym c.in-Some.is) ∙ c.repeated.ensures) few in
     stopped _ c.from_residual.result c.in_err-cut_items.field-0.0 c.from_residual.ensures.1
-    (c.in_err-cut_items.ensures after (c.args.cell.now.made.items ++ cut_for k d) y.due)
+    (c.in_err-cut_items.ensures after _ x.due)
 
 pub cut_list-returns : goal.cut_list-returns
 cut_list-returns t c = λ d outs after is l.
-    let S = cores (schema_view c.args.plan.now.0) in
-    let k = rests_of c.args.wanted.now in
-    let n = c.in-Some.count.now in
-    let inner = type_view c.in-Some.inner.now in
-    let x = at_repetition S d (type_view c.args.ty.now) (c.args.levels + 1) c.args.cell.now.left outs after l n inner
-    (ap (option_map _) (sym c.in-Some.is) ∙ c.repeated.ensures) in
-    let few : n ≤ 4294967295 = omega (arith, c.count_of-count.ensures.same, c.count_of-count.ensures.small) in
-    let y = list_due S k c.args.levels n inner outs after (map value_view c.args.items.now) c.args.cell.now d few is x.lies in
-    (y.none, c.in_ok-cut_items.ensures after (c.args.cell.now.made.items ++ cut_for k d) y.due)
+    let few : c.in-Some.count.now ≤ 4294967295 = omega (arith, c.count_of-count.ensures.same, c.count_of-count.ensures.small) in
+    let x = list_at (cores (schema_view c.args.plan.now.0)) (type_view c.args.ty.now) c.args.levels c.args.cell.now outs after d l
+    c.in-Some.count.now (type_view c.in-Some.inner.now) (rests_of c.args.wanted.now) (map value_view c.args.items.now) is
+    (ap (option_map _) (sym c.in-Some.is) ∙ c.repeated.ensures) few in
+    (x.none, c.in_ok-cut_items.ensures after _ x.due)
 
 pub cut_map-returns-in_default : goal.cut_map-returns-in_default
 cut_map-returns-in_default t c = λ d hidden outs after is l.
@@ -774,29 +690,22 @@ cut_map-returns-in_default t c = λ d hidden outs after is l.
 
 pub cut_map-returns-in_err-cut_edge : goal.cut_map-returns-in_err-cut_edge
 cut_map-returns-in_err-cut_edge t c = λ d hidden outs after is l.
-    let S = cores (schema_view c.args.plan.now.0) in
     let n = c.in-Some.field-0-0.now in
-    let inner = type_view c.in-Some.inner.now in
-    let x = at_map_here S d (type_view c.args.ty.now) (c.args.levels + 1) c.args.cell.now.left outs after l n inner
+    let x = here_at (cores (schema_view c.args.plan.now.0)) (type_view c.args.ty.now) c.args.levels c.args.cell.now outs after d l n
+    (type_view c.in-Some.inner.now) (pairs_of (map pair_of c.args.pairs.now)) hidden is
     (ap (option_map _) (sym c.in-Some.is) ∙ c.mapped_here.ensures) in
-    let y = dict_lies S c.args.levels n inner c.args.cell.now.left outs after (pairs_of (map pair_of c.args.pairs.now)) hidden d is
-    x.lies in
     stopped _ c.from_residual.result c.in_err-cut_edge.field-0.0 c.from_residual.ensures.1
-    (c.in_err-cut_edge.ensures [] y.edge n [] after (few_bits n x.wide) y.is_edge y.lies)
+    (c.in_err-cut_edge.ensures [] x.dict.edge n [] after x.few x.dict.is_edge x.dict.lies)
 
 pub cut_map-returns : goal.cut_map-returns
 cut_map-returns t c = λ d hidden outs after is l.
-    let S = cores (schema_view c.args.plan.now.0) in
-    let k = rests_of c.args.wanted.now in
     let n = c.in-Some.field-0-0.now in
-    let inner = type_view c.in-Some.inner.now in
-    let x = at_map_here S d (type_view c.args.ty.now) (c.args.levels + 1) c.args.cell.now.left outs after l n inner
-    (ap (option_map _) (sym c.in-Some.is) ∙ c.mapped_here.ensures) in
-    let y = dict_lies S c.args.levels n inner c.args.cell.now.left outs after (pairs_of (map pair_of c.args.pairs.now)) hidden d is
-    x.lies in (
-      y.none,
-      moves_as _ (cut_for k d) after.refs c.args.cell.now c.cut_edge.new.cell (y.made k)
-          (c.in_ok-cut_edge.ensures [] y.edge n [] after (few_bits n x.wide) y.is_edge y.lies),
+    let x = here_at (cores (schema_view c.args.plan.now.0)) (type_view c.args.ty.now) c.args.levels c.args.cell.now outs after d l n
+    (type_view c.in-Some.inner.now) (pairs_of (map pair_of c.args.pairs.now)) hidden is
+    (ap (option_map _) (sym c.in-Some.is) ∙ c.mapped_here.ensures) in (
+      x.dict.none,
+      moves_as _ (cut_for (rests_of c.args.wanted.now) d) after.refs c.args.cell.now c.cut_edge.new.cell
+          (x.dict.made (rests_of c.args.wanted.now)) (c.in_ok-cut_edge.ensures [] x.dict.edge n [] after x.few x.dict.is_edge x.dict.lies),
     )
 
 pub cut_map_under-returns-in_default : goal.cut_map_under-returns-in_default
@@ -807,26 +716,20 @@ cut_map_under-returns-in_default t c = λ d hidden outs after is here l.
 
 pub cut_map_under-returns-in_err-cut_root_edge : goal.cut_map_under-returns-in_err-cut_root_edge
 cut_map_under-returns-in_err-cut_root_edge t c = λ d hidden outs after is here l.
-    let S = cores (schema_view c.args.plan.now.0) in
     let n = c.in-Some.field-0-0.now in
-    let inner = type_view c.in-Some.inner.now in
-    let x = at_map_under S d (type_view c.args.ty.now) (c.args.levels + 1) c.args.cell.now.left outs after l n inner
+    let x = under_at (cores (schema_view c.args.plan.now.0)) (type_view c.args.ty.now) c.args.levels c.args.cell.now outs after d l n
+    (type_view c.in-Some.inner.now) (pairs_of (map pair_of c.args.pairs.now)) hidden is
     (ap (option_map _) (sym c.in-Some.is) ∙ c.mapped_under.ensures) in
-    let y = map_lies S (c.args.levels + 1) n inner c.args.cell.now.left outs after (pairs_of (map pair_of c.args.pairs.now)) hidden
-    d is x.lies in
     stopped _ c.from_residual.result c.in_err-cut_root_edge.field-0.0 c.from_residual.ensures.1
-    (c.in_err-cut_root_edge.ensures d n outs after (few_bits n x.wide) y.is x.lies)
+    (c.in_err-cut_root_edge.ensures d n outs after x.few x.is_shown x.lies)
 
 pub cut_map_under-returns : goal.cut_map_under-returns
 cut_map_under-returns t c = λ d hidden outs after is here l.
-    let S = cores (schema_view c.args.plan.now.0) in
     let n = c.in-Some.field-0-0.now in
-    let inner = type_view c.in-Some.inner.now in
-    let x = at_map_under S d (type_view c.args.ty.now) (c.args.levels + 1) c.args.cell.now.left outs after l n inner
+    let x = under_at (cores (schema_view c.args.plan.now.0)) (type_view c.args.ty.now) c.args.levels c.args.cell.now outs after d l n
+    (type_view c.in-Some.inner.now) (pairs_of (map pair_of c.args.pairs.now)) hidden is
     (ap (option_map _) (sym c.in-Some.is) ∙ c.mapped_under.ensures) in
-    let y = map_lies S (c.args.levels + 1) n inner c.args.cell.now.left outs after (pairs_of (map pair_of c.args.pairs.now)) hidden
-    d is x.lies in
-    (y.none, c.in_ok-cut_root_edge.ensures d n outs after (few_bits n x.wide) y.is x.lies)
+    (x.none, c.in_ok-cut_root_edge.ensures d n outs after x.few x.is_shown x.lies)
 
 pub cut_record-returns-in_default : goal.cut_record-returns-in_default
 cut_record-returns-in_default t c = λ d outs after is l.
@@ -846,31 +749,17 @@ cut_record-returns t c = λ d outs after is l.
 
 pub cut_items-returns-in_err-cut_value : goal.cut_items-returns-in_err-cut_value
 cut_items-returns-in_err-cut_value t c = λ after all x.
-    let S = cores (schema_view c.args.plan.now.0) in
-    let k = rests_of c.args.wanted.now in
-    let ty = type_view c.args.inner.now in
     let at = c.loop-item in
-    let items = c.args.items.now in
-    let item = c.item-item.result in
-    let D : List Plain → Type 0 = λ z. DueItems S k c.args.levels ty after all at.place z at.cell in
-    let due = subst D (item_next items at.item-index item c.loop-item-test.true c.item-item.is) (at.invariant after all x) in
-    let y = first_item S k c.args.levels ty after all at.place (value_view item)
-    (map value_view (drop (at.item-index + 1) items)) at.cell due in
+    let y = item_at (cores (schema_view c.args.plan.now.0)) (rests_of c.args.wanted.now) c.args.levels (type_view c.args.inner.now) after all at.place
+    at.item-index c.args.items.now at.cell (at.invariant after all x) c.item-item.result c.loop-item-test.true c.item-item.is in
     stopped _ c.from_residual-in_err-cut_value.result c.in_err-cut_value.field-0.0 c.from_residual-in_err-cut_value.ensures.1
     (c.in_err-cut_value.ensures y.first y.outs y.middle y.is_first y.lies)
 
 pub cut_items-loop-item-preserved : goal.cut_items-loop-item-preserved
 cut_items-loop-item-preserved t c = λ after all x.
-    let S = cores (schema_view c.args.plan.now.0) in
-    let k = rests_of c.args.wanted.now in
-    let ty = type_view c.args.inner.now in
     let at = c.loop-item in
-    let items = c.args.items.now in
-    let item = c.item-item.result in
-    let D : List Plain → Type 0 = λ z. DueItems S k c.args.levels ty after all at.place z at.cell in
-    let due = subst D (item_next items at.item-index item c.loop-item-test.true c.item-item.is) (at.invariant after all x) in
-    let y = first_item S k c.args.levels ty after all at.place (value_view item)
-    (map value_view (drop (at.item-index + 1) items)) at.cell due in
+    let y = item_at (cores (schema_view c.args.plan.now.0)) (rests_of c.args.wanted.now) c.args.levels (type_view c.args.inner.now) after all at.place
+    at.item-index c.args.items.now at.cell (at.invariant after all x) c.item-item.result c.loop-item-test.true c.item-item.is in
     let m = c.in_ok-cut_value.ensures y.first y.outs y.middle y.is_first y.lies in
     let here = ap (λ (z : Rests). cut_for z y.first) c.in_ok-here.ensures in
     let few = y.below in
@@ -880,11 +769,7 @@ cut_items-loop-item-preserved t c = λ after all x.
 
 pub cut_items-returns : goal.cut_items-returns
 cut_items-returns t c = λ after all x.
-    let S = cores (schema_view c.args.plan.now.0) in
-    let k = rests_of c.args.wanted.now in
-    let ty = type_view c.args.inner.now in
     let at = c.loop-item in
-    let D : List Plain → Type 0 = λ z. DueItems S k c.args.levels ty after all at.place z at.cell in
-    let none = ap (map value_view) (drop_all at.item-index c.args.items.now c.loop-item-test.false) in
-    let m = no_item S k c.args.levels ty after all at.place at.cell (subst D none (at.invariant after all x)) in
+    let m = items_done (cores (schema_view c.args.plan.now.0)) (rests_of c.args.wanted.now) c.args.levels (type_view c.args.inner.now) after all at.place
+    at.item-index c.args.items.now at.cell (at.invariant after all x) c.loop-item-test.false in
     (m.left, m.made)
