@@ -150,9 +150,10 @@ header-bytes n m h k =
     } in
     let one = λ (v : ℕ). within-most w 3 (number_bytes w v) h (number-bytes w v) in
     let size = within-most (width_of m) 4 (number_bytes (width_of m) m) k (number-bytes (width_of m) m) in
-    within-both 6 16 _ _ head
-    (within-both 3 13 _ _ (one n)
-    (within-both 3 10 _ _ (one 1) (within-both 3 7 _ _ (one 0) (within-both 4 3 _ _ size (one 0)))))
+    within-both 19 3 _ _
+    (within-both 15 4 _ _
+    (within-both 12 3 _ _ (within-both 9 3 _ _ (within-both 6 3 _ _ head (one n)) (one 1)) (one 0)) size)
+    (one 0)
 
 pub bag-bytes : WidthIsLeast → (t : Tree) → IsGood t → unfolded t ≤ 262144 → Within 37224470 (bag_of t)
 unfolding bag_over cell_data
