@@ -48,7 +48,6 @@ use Rattle.pruned_proof.proofs.Taken.{branch_taken, closed_cell, ref_taken, stop
 use Rattle.pruned_proof.proofs.Turned.{bound_as, op_field, op_no_field, op_solved, op_unsolved}
 use Rattle.pruned_proof.proofs.Filling.{type_fills, filled_cell}
 use Rattle.pruned_proof.proofs.Led.{gives_as, one_put, none_left, led, led_fields}
-use Rattle.pruned_proof.proofs.Pruned.{finished}
 use Rattle.pruned_proof.proofs.Recorded.{no_record}
 use Rattle.pruned_proof.proofs.Shaped.{here_outs, under_outs, left_is, here_within, under_within}
 use Rattle.plan_reading.specs.declared.shapes.FlatShape.TheVariants.{Here, Under, LeftOut}
@@ -127,9 +126,8 @@ cut_cell-returns t c = λ d is f.
     let k = rests_of c.args.wanted.now in
     let x = type_fills S d (type_view c.args.ty.now) c.args.from.now c.of-inner.result.left f c.of-inner.ensures.left in
     let m = c.in_ok-cut_value.ensures d x.outs _ is x.lies in
-    finished c.finish.result c.args.from.now c.cut_value.new.cell.left c.cut_value.new.cell.made.items (cut_for k d)
-    c.finish.ensures.ok c.finish.ensures.unread m.1.0
-    (m.1.1 ∙ ap (λ (z : List Tree). z ++ cut_for k d) c.of-inner.ensures.made)
+    closed_cell c.finish.result c.args.from.now c.of-inner.result c.cut_value.new.cell (cut_for k d) c.finish.ensures.ok
+    c.finish.ensures.unread m.1 c.of-inner.ensures.made
     (filled_cell S (goals.under_ref (type_view c.args.ty.now)) d c.args.from.now k f)
 
 pub cut_under-returns-in_err-child : goal.cut_under-returns-in_err-child
