@@ -190,10 +190,6 @@ prefix_is q key rest prefix more n is long at =
     let t = key_taken q key rest n is long in
     ap (λ (z : List ℕ × List ℕ). z.0) (same_Some (prefix, more) (q, t.rest) (at ∙ t.is))
 
-pub prefix_there : (q key rest : List ℕ) (n : ℕ) → key ≡ q ++ rest → n ≡ length q → None ≡ taken n key → ⊥
-prefix_there q key rest n is long none =
-    let t = key_taken q key rest n is long in let f = none ∙ t.is in absurd (cc)
-
 -- an edge fills its cell
 pub edge_fills : (schema : CoreSchema) (e : LaidEdge) (n : ℕ) (t : Closed) (c : Tree) (left : List Tree) → IsClean c
     → EdgeCell (SpellsEdge schema e) n t c → left ≡ (out-Tree c).children

@@ -72,13 +72,13 @@ built_at s f plans c p below =
     let q = some_there plans c below in
     record { declaration = d.0; plan = q.0; there = d.1; planned = q.1; stands = p.stand c d.0 q.0 d.1 q.1 }
 
-abbrev EntryIs : List ConstructorPlan → ℕ → Entry → Type 0
+abbrev pub EntryIs : List ConstructorPlan → ℕ → Entry → Type 0
 EntryIs plans c e = option_map (λ (p : ConstructorPlan). p.entry) (slice_get plans c) ≡ Some e
 
-abbrev InputsAre : List ConstructorPlan → ℕ → List PlanInput → Type 0
+abbrev pub InputsAre : List ConstructorPlan → ℕ → List PlanInput → Type 0
 InputsAre plans c xs = option_map (λ (p : ConstructorPlan). p.inputs) (slice_get plans c) ≡ Some xs
 
-abbrev OutputsAre : List ConstructorPlan → ℕ → List ℕ → Type 0
+abbrev pub OutputsAre : List ConstructorPlan → ℕ → List ℕ → Type 0
 OutputsAre plans c xs = option_map (λ (p : ConstructorPlan). p.outputs) (slice_get plans c) ≡ Some xs
 
 module _ (s : SchemaView) (f : Flat) (plans : List ConstructorPlan) (c : ℕ) (planned : Planned s f plans)

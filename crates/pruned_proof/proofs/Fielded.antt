@@ -4,11 +4,10 @@ use Rattle.std.proofs.Common.{arith, append_assoc, Result}
 use Rattle.std.proofs.lemmas.List.{append-nil}
 use Rattle.cell_nodes.specs.declared.tree.Tree.{Tree}
 use Rattle.core_form.specs.Closed.{Closed}
-use Rattle.core_form.specs.Core.{CoreSchema, Condition, Items, Ty, Word, no_items, an_item, check, solve, field, sets}
+use Rattle.core_form.specs.Core.{CoreSchema, Condition, Items, Ty, Word, no_items, an_item, solve, field, sets}
 use Rattle.core_form.specs.Scope.{Scope, with_number, bind}
 use Rattle.hashmap_tree.specs.Entries.{Slice}
 use Rattle.nat_solver.specs.Number.{Expr, OneUnknown}
-use Rattle.nat_solver.specs.declared.compare.Op.{Op}
 use Rattle.spelling.specs.Goals.{Goal, at_field, at_type}
 use Rattle.spelling.specs.PlainReader.{sought_number}
 use Rattle.spelling.specs.Spells.{Fields, Repeats}
@@ -60,20 +59,7 @@ made-on old new here more all after m e =
 -- ---- fields
 
 module _ (schema : CoreSchema) (k : Rests) (most : ℕ) (end : Scope) (after : Slice) (all : List Tree) where
-  -- a constraint and an equation take nothing
-  pub due_checked : (a : Expr) (o : Op) (b : Expr) (i : ℕ) (is : Items) (scope : Scope) (fields : List (List ℕ × Plain))
-      (cell : Cutting) → Due schema k most end after all (an_item (check a o b i) is) scope fields cell
-      → Due schema k most end after all is scope fields cell
-  due_checked a o b i is scope fields cell x = record {
-    laids = x.laids;
-    are = x.are;
-    before = x.before;
-    refs = x.refs;
-    clean = x.clean;
-    spelled = x.spelled.5;
-    made = x.made;
-  }
-
+  -- an equation takes nothing
   pub due_solved : (v : ℕ) (a b : Expr) (i : ℕ) (is : Items) (scope next : Scope) (fields : List (List ℕ × Plain))
       (cell : Cutting) (n : ℕ) → OneUnknown a b v → Ok n ≡ sought_number a b scope.numbers → next ≡ with_number v n scope
       → Due schema k most end after all (an_item (solve v a b i) is) scope fields cell

@@ -2,10 +2,13 @@ mod Answered
 mod Branched
 mod Chosen
 mod CutLaws
+mod Declared
 mod Edges
 mod Fielded
 mod Filling
+mod Forks
 mod Forms
+mod Inner
 mod Led
 mod Naming
 mod Numbers
@@ -14,6 +17,8 @@ mod Recorded
 mod Rooted
 mod Seen
 mod Shaped
+mod Sorted
+mod Taken
 mod Turned
 mod Turning
 mod Typed

@@ -1,31 +1,28 @@
 -- The shape of a field's type, and the operations of a record.
 use Rattle.std.proofs.Common.{◌≡◌, ℕ, suc, ◌+◌, ◌<◌, ◌≤◌, List, [], ◌∷◌, Option, Some, None, Result, Ok, sym, ap, ◌∙◌, subst, arith}
-use Rattle.std.proofs.Common.{length, drop, drop-cons, get_or, Bool, true, cond, Err}
-use Rattle.closed_type.specs.View.{closed_type}
-use Rattle.closed_type.specs.declared.tree.ClosedType.{ClosedType}
+use Rattle.std.proofs.Common.{length, drop, drop-cons, get_or}
 use Rattle.std.proofs.lemmas.List.{drop_all, append-nil}
 use Rattle.cell_nodes.specs.declared.tree.Tree.{Tree}
-use Rattle.core_form.specs.Core.{CoreSchema, Items}
+use Rattle.core_form.specs.Core.{Condition, CoreSchema, Items}
 use Rattle.core_form.specs.Scope.{Scope}
 use Rattle.flat_form.specs.GrowthLaws.{ops_higher}
 use Rattle.flat_form.specs.Stands.{items_in, range, record_at, type_at}
 use Rattle.flat_form.specs.declared.lists.Flat.{Flat}
 use Rattle.flat_form.specs.declared.lists.PlanOp.{PlanOp}
 use Rattle.hashmap_tree.specs.Entries.{Slice}
-use Rattle.plan_reading.specs.Shaped.{IsRecord, Refuses, ShapeIsSound, governed, shape_view}
+use Rattle.plan_reading.specs.Shaped.{IsRecord, ShapeIsSound, governed, shape_view}
 use Rattle.plan_reading.specs.declared.shapes.FlatShape.{FlatShape}
-use Rattle.plan_reading.specs.declared.shapes.FlatShape.TheVariants.{Here, Under, Typed}
-use Rattle.plan_reading.specs.declared.shapes.ShapeError.{ShapeError}
-use Rattle.plan_reading.specs.declared.shapes.ShapeError.TheVariants.{Refused}
-use Rattle.spelling.specs.Goals.{Goal, Shape, at_field, at_type, fields_here, fields_under, in_table, left_out, shape_of, typed}
+use Rattle.plan_reading.specs.declared.shapes.FlatShape.TheVariants.{Here, Under}
+use Rattle.spelling.specs.Goals.{Goal, Shape, at_field, fields_here, fields_under, left_out, shape_of}
 use Rattle.spelling.specs.declared.Cause.{Cause}
-use Rattle.spelling.specs.declared.Cause.TheVariants.{Width}
 use Rattle.pruning.specs.Laid.{Laid, number, bit_string, record_of, absent, list_of, ref_to, ref_to_raw, no_map}
 use Rattle.pruning.specs.Laid.{map_under, map_here, rest}
 use Rattle.pruning.specs.SpellsLaid.{SpellsLaid, SpellsLaidShape}
-use Rattle.pruned_proof.specs.Walks.{Lies, Moves}
+use Rattle.typed_value.specs.Values.{Plain}
+use Rattle.pruned_proof.specs.Walks.{Due, Lies, Moves}
 use Rattle.pruned_proof.specs.Wanted.{Rests, cut_for}
 use Rattle.pruned_proof.specs.declared.cutting.Cutting.{Cutting}
+use Rattle.pruned_proof.proofs.Fielded.{AllMade, none_due}
 
 -- ---- shapes
 
@@ -47,37 +44,15 @@ at_shape schema d g x left outs after is l =
     same : {a b : Shape} → (◌≡◌ {A = Result Shape Cause} (Ok a) (Ok b)) → a ≡ b
     same e = cc
 
--- a type in the table, by its shape
-pub at_typed : (schema : CoreSchema) (d : Laid) (f : Flat) (ty : ℕ) (x : FlatShape) (t : ClosedType) (left : List Tree)
-    (outs : List ℕ) (after : Slice) → ShapeIsSound f ty x → x ≡ Typed t
-    → Lies (SpellsLaidShape schema d (typed (closed_type t))) left outs after
-    → Lies (SpellsLaid schema d (at_type (closed_type t))) left outs after
-at_typed schema d f ty x t left outs after sound is l =
-    let P : FlatShape → Type 0 = λ z. ShapeIsSound f ty z in
-    let wide : in_table (closed_type t) ≡ true = subst P is sound in
-    let shape : shape_of (at_type (closed_type t)) ≡ Ok (typed (closed_type t)) =
-    ap (λ (b : Bool). cond b (Ok (typed (closed_type t))) (Err Width)) wide in
-    record {
-      before = l.before;
-      refs = l.refs;
-      clean = l.clean;
-      spelled = (typed (closed_type t), shape, l.spelled);
-    }
-
--- where there is no shape, nothing is spelled
-pub no_shape : (schema : CoreSchema) (d : Laid) (f p : Flat) (c : Option (ℕ × ℕ)) (ty : ℕ) (scope : Scope) (e : ShapeError)
-    (why : Cause) (left : List Tree) (outs : List ℕ) (after : Slice) → f ≡ p
-    → Refuses e (shape_of (at_field (governed f c) (type_at f ty) scope)) → e ≡ Refused why
-    → Lies (SpellsLaid schema d (at_field (governed p c) (type_at p ty) scope)) left outs after → ⊥
-no_shape schema d f p c ty scope e why left outs after same refuses is l =
-    let P : Flat → Type 0 = λ z. Refuses e (shape_of (at_field (governed z c) (type_at z ty) scope)) in
-    let Q : ShapeError → Type 0 = λ z. Refuses z (shape_of (at_field (governed p c) (type_at p ty) scope)) in
-    let none : shape_of (at_field (governed p c) (type_at p ty) scope) ≡ Err why = subst Q is (subst P same refuses) in
-    let k = l.spelled in
-    never k.0 (sym k.1 ∙ none)
-  where
-    never : (a : Shape) → (◌≡◌ {A = Result Shape Cause} (Ok a) (Err why)) → ⊥
-    never a e = absurd (cc)
+-- the same of a field, by the shape that was found
+pub field_at : (schema : CoreSchema) (d : Laid) (f p : Flat) (c : Option (ℕ × ℕ)) (ty : ℕ) (scope : Scope) (x y : FlatShape)
+    (left : List Tree) (outs : List ℕ) (after : Slice) → f ≡ p
+    → shape_of (at_field (governed f c) (type_at f ty) scope) ≡ Ok (shape_view f scope x) → x ≡ y
+    → Lies (SpellsLaid schema d (at_field (governed p c) (type_at p ty) scope)) left outs after
+    → Lies (SpellsLaidShape schema d (shape_view p scope y)) left outs after
+field_at schema d f p c ty scope x y left outs after same shape is l =
+    at_shape schema d (at_field (governed p c) (type_at p ty) scope) (shape_view p scope y) left outs after
+    (shaped f p c ty scope x y same shape is) l
 
 pub here_outs : (schema : CoreSchema) (d : Laid) (is : Items) (scope : Scope) (left : List Tree) (outs : List ℕ)
     (after : Slice) → Lies (SpellsLaidShape schema d (fields_here is scope)) left outs after → outs ≡ []
@@ -162,10 +137,19 @@ items_there f p first count ops same there =
     ap (λ z. items_in p (type_at p) None z) (there ∙ ap (λ (z : Flat). range z.ops first count) same)
 
 -- the next operation, and the end
-pub op_next : (ops : List PlanOp) (o : PlanOp) (k : ℕ) → k < length ops → drop k ops ≡ get_or ops k o ∷ drop (k + 1) ops
-op_next ops o k within =
-    let next : suc k ≡ k + 1 = omega arith in
-    drop-cons ops k o within ∙ ap (λ n. get_or ops k o ∷ drop n ops) next
+module _ (schema : CoreSchema) (k : Rests) (most : ℕ) (end : Scope) (after : Slice) (all : List Tree) (p : Flat)
+    (g : Option Condition) (ops : List PlanOp) (i : ℕ) (scope : Scope) (fields : List (List ℕ × Plain)) (cell : Cutting) where
+  pub next_due : (o : PlanOp) → i < length ops
+      → Due schema k most end after all (items_in p (type_at p) g (drop i ops)) scope fields cell
+      → Due schema k most end after all (items_in p (type_at p) g (get_or ops i o ∷ drop (i + 1) ops)) scope fields cell
+  next_due o within due =
+      let D : List PlanOp → Type 0 = λ z. Due schema k most end after all (items_in p (type_at p) g z) scope fields cell in
+      let next : suc i ≡ i + 1 = omega arith in
+      subst D (drop-cons ops i o within ∙ ap (λ n. get_or ops i o ∷ drop n ops) next) due
 
-pub ops_end : (ops : List PlanOp) (k : ℕ) → length ops ≤ k → drop k ops ≡ []
-ops_end ops k after = drop_all k ops after
+  pub last_due : length ops ≤ i
+      → Due schema k most end after all (items_in p (type_at p) g (drop i ops)) scope fields cell
+      → AllMade schema k most end after all scope cell
+  last_due done due =
+      let D : List PlanOp → Type 0 = λ z. Due schema k most end after all (items_in p (type_at p) g z) scope fields cell in
+      none_due schema k most end after all scope fields cell (subst D (drop_all i ops done) due)

@@ -8,37 +8,20 @@ use Rattle.flat_form.specs.Sound.{OpIsSound}
 use Rattle.flat_form.specs.Stands.{expr_at, items_in, name_at, slot_of, type_at}
 use Rattle.flat_form.specs.declared.lists.Flat.{Flat}
 use Rattle.flat_form.specs.declared.lists.PlanOp.{PlanOp}
-use Rattle.flat_form.specs.declared.lists.PlanOp.TheVariants.{Check, Solve, When, Field}
+use Rattle.flat_form.specs.declared.lists.PlanOp.TheVariants.{Solve, Field}
 use Rattle.hashmap_tree.specs.Entries.{Slice}
 use Rattle.nat_solver.specs.Number.{Numbers}
-use Rattle.nat_solver.specs.declared.compare.Op.{Op}
 use Rattle.plan_closing.specs.Counted.{scope_of}
-use Rattle.plan_reading.specs.Shaped.{governed}
 use Rattle.spelling.specs.PlainReader.{sought_number}
 use Rattle.spelling.specs.declared.Cause.{Cause}
 use Rattle.typed_value.specs.Values.{Plain}
 use Rattle.pruned_proof.specs.Walks.{Due}
 use Rattle.pruned_proof.specs.Wanted.{Rests}
 use Rattle.pruned_proof.specs.declared.cutting.Cutting.{Cutting}
-use Rattle.pruned_proof.proofs.Fielded.{FirstDue, due_checked, due_solved, field_due, first_due, solve_found}
+use Rattle.pruned_proof.proofs.Fielded.{FirstDue, due_solved, field_due, first_due, solve_found}
 
 module _ (schema : CoreSchema) (k : Rests) (most : ℕ) (end : Scope) (after : Slice) (all : List Tree) (p : Flat)
     (g : Option Condition) (op : PlanOp) (ops : List PlanOp) (fields : List (List ℕ × Plain)) (cell : Cutting) where
-  pub op_checked : (a : ℕ) (o : Op) (b i : ℕ) (scope : Scope) → op ≡ Check a o b i
-      → Due schema k most end after all (items_in p (type_at p) g (op ∷ ops)) scope fields cell
-      → Due schema k most end after all (items_in p (type_at p) None ops) scope fields cell
-  op_checked a o b i scope is x =
-      let P : PlanOp → Type 0 = λ z. Due schema k most end after all (items_in p (type_at p) g (z ∷ ops)) scope fields cell in
-      due_checked schema k most end after all (expr_at p a) o (expr_at p b) i (items_in p (type_at p) None ops) scope fields cell
-      (subst P is x)
-
-  pub op_condition : (n b : ℕ) (scope : Scope) → op ≡ When n b
-      → Due schema k most end after all (items_in p (type_at p) g (op ∷ ops)) scope fields cell
-      → Due schema k most end after all (items_in p (type_at p) (governed p (Some (n, b))) ops) scope fields cell
-  op_condition n b scope is x =
-      let P : PlanOp → Type 0 = λ z. Due schema k most end after all (items_in p (type_at p) g (z ∷ ops)) scope fields cell in
-      subst P is x
-
   pub op_solved : (f : Flat) (top v a b i n : ℕ) (numbers new : Numbers) (types : List (Option ClosedType)) → op ≡ Solve v a b i
       → f ≡ p → OpIsSound p top op → Ok n ≡ sought_number (expr_at f a) (expr_at f b) numbers
       → new ≡ slice_set numbers v (Some n)

@@ -1,14 +1,12 @@
-use Rattle.std.proofs.Common.{arith, ◌≡◌, ◌+◌, ◌-◌, ◌++◌, ◌∷◌, ◌∙◌, ◌≤◌, map, sym, ap, refl, [], None, Some, Ok, Err, List, ℕ, length, subst, drop}
-use Rattle.std.proofs.Common.{option_map, slice_get}
+use Rattle.std.proofs.Common.{arith, ◌+◌, ◌++◌, ◌∷◌, ◌∙◌, ◌≤◌, map, sym, ap, refl, [], None, Some, Ok, Err, List, length, subst, drop}
+use Rattle.std.proofs.Common.{option_map}
 use Rattle.std.specs.Borrow.{Bor}
 use Rattle.std.proofs.lemmas.Result.{err_from_is_err_and}
 use Rattle.cell_nodes.specs.Constructed.{stub}
 use Rattle.cell_nodes.specs.declared.tree.Tree.{Tree}
 use Rattle.closed_type.specs.View.{closed_type as type_view, closed_args}
-use Rattle.core_form.specs.Core.{Items}
-use Rattle.core_form.specs.Scope.{Scope}
 use Rattle.flat_form.specs.Sound.{OpsAreSound}
-use Rattle.flat_form.specs.Stands.{items_in, record_at, type_at, expr_at}
+use Rattle.flat_form.specs.Stands.{record_at}
 use Rattle.flat_form.specs.declared.lists.Flat.{Flat}
 use Rattle.flat_form.specs.declared.lists.PlanOp.{PlanOp}
 use Rattle.flat_form.specs.declared.lists.PlanOp.TheVariants.{Check}
@@ -19,141 +17,107 @@ use Rattle.spelling.specs.Goals as goals
 use Rattle.tlb_syntax.specs.View.{schema as schema_view}
 use Rattle.typed_value.specs.View.{names_in, pair_of, pairs_of, vals_in, value as value_view}
 use Rattle.pruned_proof.specs.View.{rests_of}
-use Rattle.pruned_proof.specs.Walks.{Due, DueItems, held_in}
 use Rattle.pruned_proof.specs.Wanted.{Rests, below, cut_at, cut_edge_for, cut_for}
 use Rattle.spelling.specs.Slices.{nothing}
 use Rattle.nat_solver.specs.declared.compare.Op.TheVariants.{Eq}
 use Rattle.std.proofs.lemmas.List.{nil_from_length}
-use Rattle.std.proofs.Common.{is_some}
 use Rattle.std.proofs.lemmas.Option.{none-some, same_Some}
-use Rattle.core_form.specs.Core.{Declaration}
-use Rattle.core_form.specs.Fit.{fit as fit_of}
-use Rattle.core_form.specs.Scope.{values_in}
-use Rattle.field_plan.specs.Planned.{Planned}
-use Rattle.flat_form.specs.Stands.{range}
 use Rattle.plan_reading.specs.Slots.{slots_view}
 use Rattle.typed_value.specs.View.{record_parts, slice_of}
-use Rattle.typed_value.specs.declared.value.Value.{Value}
-use Rattle.pruned_proof.proofs.Chosen.{entry_ops, entry_outputs, entry_range, entry_sound, fit_binds, fits_some, found_named}
-use Rattle.pruned_proof.proofs.Chosen.{outputs_are, outputs_plain, planned_there, shown_by}
+use Rattle.pruned_proof.proofs.Chosen.{entry_range, entry_sound}
+use Rattle.pruned_proof.proofs.Chosen.{outputs_plain, planned_there}
 use Rattle.typed_value.specs.Values.{Plain}
-use Rattle.std.proofs.lemmas.List.{drop_all}
+use Rattle.pruned_proof.proofs.Declared.{entered, no_constructor, no_fit, no_name}
 use Rattle.pruned_proof.proofs.Edges.{no_edge}
-use Rattle.pruned_proof.proofs.Seen.{is_bits, is_list, is_map, is_number, is_record, is_ref, is_rest, is_shown, item_next}
-use Rattle.pruned_proof.proofs.Forms.{at_declared, at_map_here, at_map_under, at_reference, at_repetition, no_bare, no_declared, no_map_there, no_reference, no_repetition}
+use Rattle.pruned_proof.proofs.Seen.{is_bits, is_list, is_map, is_number, is_ref, is_rest, is_shown}
+use Rattle.pruned_proof.proofs.Forms.{at_declared, at_reference, no_bare, no_declared, no_map_there, no_reference, no_repetition}
 use Rattle.pruned_proof.specs.Walks.{Is}
 use Rattle.typed_value.specs.Values as forms
 use Rattle.typed_value.specs.View.{vals_of}
-use Rattle.pruned_proof.proofs.Typed.{few_bits, inside}
+use Rattle.pruned_proof.proofs.Typed.{inside}
 use Rattle.pruned_proof.proofs.Branched.{no_first, one_first}
-use Rattle.pruned_proof.proofs.Typed.{bits_give, dict_lies, empty_map, list_due, map_lies, number_gives, ref_outs, rest_gives}
+use Rattle.pruned_proof.proofs.Typed.{bits_give, empty_map, number_gives, ref_outs, rest_gives}
 use Rattle.pruned_proof.proofs.Typed.{some_map}
-use Rattle.pruned_proof.proofs.Branched.{first_begins, fork_lies, fork_moves, fork_seen, last_begins, leaf_lies, leaf_made}
-use Rattle.pruned_proof.proofs.Branched.{leaf_seen, none_last, one_branch, one_more, ones_at, parts_at, turned_at, zero_branch}
-use Rattle.pruned_proof.proofs.Branched.{branch_at, branch_kept, branch_opened, branch_wanted, edge_fills, moves_as, zeros_at}
+use Rattle.pruned_proof.proofs.Branched.{fork_moves, leaf_made}
+use Rattle.pruned_proof.proofs.Branched.{moves_as}
+use Rattle.pruned_proof.proofs.Forks.{at_fork, bits_left, leaf_at}
+use Rattle.pruned_proof.proofs.Inner.{inner_due, item_at, items_done}
+use Rattle.pruned_proof.proofs.Sorted.{here_at, list_at, under_at}
+use Rattle.pruned_proof.proofs.Shaped.{field_at, last_due, next_due}
+use Rattle.pruned_proof.proofs.Taken.{branch_taken, closed_cell, ref_taken, stopped, under_taken}
 use Rattle.pruned_proof.proofs.Turned.{bound_as, op_field, op_no_field, op_solved, op_unsolved}
-use Rattle.pruned_proof.proofs.Filling.{type_fills, record_fills, filled_cell, edge_filled, edge_cell}
-use Rattle.pruned_proof.proofs.Led.{still, gives_as, one_put, none_left, led, led_at, led_fields, is_held, led_hidden, led_kept}
-use Rattle.pruned_proof.proofs.Led.{led_raw, led_opened}
-use Rattle.pruned_proof.proofs.Pruned.{finished}
-use Rattle.pruned_proof.proofs.Recorded.{no_record, record_due}
-use Rattle.pruned_proof.proofs.Fielded.{none_due, first_item, no_item}
-use Rattle.pruned_proof.proofs.Shaped.{shaped, at_shape, here_outs, under_outs, left_is, here_within, under_within, items_there}
-use Rattle.pruned_proof.proofs.Shaped.{op_next, ops_end}
+use Rattle.pruned_proof.proofs.Filling.{type_fills, filled_cell}
+use Rattle.pruned_proof.proofs.Led.{gives_as, one_put, none_left, led, led_fields}
+use Rattle.pruned_proof.proofs.Recorded.{no_record}
+use Rattle.pruned_proof.proofs.Shaped.{here_outs, under_outs, left_is, here_within, under_within}
 use Rattle.plan_reading.specs.declared.shapes.FlatShape.TheVariants.{Here, Under, LeftOut}
 use Rattle.pruned_proof.proofs.walking.+cut.Goals as goal
 
 pub cut_ref-returns-in_err-child : goal.cut_ref-returns-in_err-child
 cut_ref-returns-in_err-child t c = λ d outs after is l.
     let p = err_from_is_err_and c.from_residual.result c.from_residual.ensures.1 in
-    let S = cores (schema_view c.args.plan.now.0) in
-    let g = goals.under_ref (type_view c.args.inner.now) in
-    let v = value_view c.args.held.now in
-    let n = c.args.levels in
-    let k = rests_of c.args.wanted.now in
-    let x = led S d (type_view c.args.inner.now) v n c.args.cell.now.left outs after is l in
+    let x = led (cores (schema_view c.args.plan.now.0)) d (type_view c.args.inner.now) (value_view c.args.held.now)
+    c.args.levels c.args.cell.now.left outs after is l in
     none_left {B = Bor Tree} _ c.from_residual.result c.in_err-child.field-0.0 c.args.cell.now.left after.refs x.child
     (p.1 ∙ ap Err p.2) c.in_err-child.ensures.none x.there
 
 pub cut_ref-returns-then-is_nothing : goal.cut_ref-returns-then-is_nothing
 cut_ref-returns-then-is_nothing t c = λ d outs after is l.
-    let S = cores (schema_view c.args.plan.now.0) in
-    let g = goals.under_ref (type_view c.args.inner.now) in
-    let v = value_view c.args.held.now in
-    let n = c.args.levels in
-    let k = rests_of c.args.wanted.now in
-    let x = led S d (type_view c.args.inner.now) v n c.args.cell.now.left outs after is l in
     let child = c.in_ok-child.child.now in
-    let at = led_at S g v n d c.args.cell.now.left c.next.new.self.left after.refs child x c.in_ok-child.ensures.ok in
-    one_put c.args.cell.now c.next.new.self c.hide.new.self (stub child 0) c.hide.result after.refs (cut_for k d)
-    c.next.ensures.made c.hide.ensures.ok c.hide.ensures.left c.hide.ensures.err at.rest
-    (led_hidden S g v n d child k at.leads (sym c.if-is_nothing.ensures))
+    let x = ref_taken (cores (schema_view c.args.plan.now.0)) d (type_view c.args.inner.now) (value_view c.args.held.now)
+    c.args.levels c.args.cell.now.left outs after is l c.next.new.self.left child (rests_of c.args.wanted.now)
+    c.in_ok-child.ensures.ok in
+    one_put c.args.cell.now c.next.new.self c.hide.new.self (stub child 0) c.hide.result after.refs
+    (cut_for (rests_of c.args.wanted.now) d) c.next.ensures.made c.hide.ensures.ok c.hide.ensures.left
+    c.hide.ensures.err x.rest (x.hidden (sym c.if-is_nothing.ensures))
 
 pub cut_ref-returns-then-is_whole : goal.cut_ref-returns-then-is_whole
 cut_ref-returns-then-is_whole t c = λ d outs after is l.
-    let S = cores (schema_view c.args.plan.now.0) in
-    let g = goals.under_ref (type_view c.args.inner.now) in
-    let v = value_view c.args.held.now in
-    let n = c.args.levels in
-    let k = rests_of c.args.wanted.now in
-    let x = led S d (type_view c.args.inner.now) v n c.args.cell.now.left outs after is l in
     let child = c.in_ok-child.child.now in
-    let at = led_at S g v n d c.args.cell.now.left c.next.new.self.left after.refs child x c.in_ok-child.ensures.ok in
-    one_put c.args.cell.now c.next.new.self c.keep.new.self child c.keep.result after.refs (cut_for k d)
-    c.next.ensures.made c.keep.ensures.ok c.keep.ensures.left c.keep.ensures.err at.rest
-    (led_kept S g v n d child k at.leads (sym c.if-is_whole.ensures))
+    let x = ref_taken (cores (schema_view c.args.plan.now.0)) d (type_view c.args.inner.now) (value_view c.args.held.now)
+    c.args.levels c.args.cell.now.left outs after is l c.next.new.self.left child (rests_of c.args.wanted.now)
+    c.in_ok-child.ensures.ok in
+    one_put c.args.cell.now c.next.new.self c.keep.new.self child c.keep.result after.refs
+    (cut_for (rests_of c.args.wanted.now) d) c.next.ensures.made c.keep.ensures.ok c.keep.ensures.left
+    c.keep.ensures.err x.rest (x.kept (sym c.if-is_whole.ensures))
 
 pub cut_ref-returns-then-is_raw : goal.cut_ref-returns-then-is_raw
 cut_ref-returns-then-is_raw t c = λ d outs after is l.
-    let S = cores (schema_view c.args.plan.now.0) in
-    let g = goals.under_ref (type_view c.args.inner.now) in
-    let v = value_view c.args.held.now in
-    let n = c.args.levels in
-    let k = rests_of c.args.wanted.now in
-    let x = led S d (type_view c.args.inner.now) v n c.args.cell.now.left outs after is l in
     let child = c.in_ok-child.child.now in
-    let at = led_at S g v n d c.args.cell.now.left c.next.new.self.left after.refs child x c.in_ok-child.ensures.ok in
-    one_put c.args.cell.now c.next.new.self c.keep-then-is_raw.new.self child c.keep-then-is_raw.result after.refs (cut_for k d)
-    c.next.ensures.made c.keep-then-is_raw.ensures.ok c.keep-then-is_raw.ensures.left c.keep-then-is_raw.ensures.err at.rest
-    (led_raw S g v n d child k at.leads (sym c.if-is_raw.ensures) (sym c.if-is_nothing.ensures))
+    let x = ref_taken (cores (schema_view c.args.plan.now.0)) d (type_view c.args.inner.now) (value_view c.args.held.now)
+    c.args.levels c.args.cell.now.left outs after is l c.next.new.self.left child (rests_of c.args.wanted.now)
+    c.in_ok-child.ensures.ok in
+    one_put c.args.cell.now c.next.new.self c.keep-then-is_raw.new.self child c.keep-then-is_raw.result after.refs
+    (cut_for (rests_of c.args.wanted.now) d) c.next.ensures.made c.keep-then-is_raw.ensures.ok c.keep-then-is_raw.ensures.left
+    c.keep-then-is_raw.ensures.err x.rest (x.raw (sym c.if-is_raw.ensures) (sym c.if-is_nothing.ensures))
 
 pub cut_ref-returns-in_err-made : goal.cut_ref-returns-in_err-made
 cut_ref-returns-in_err-made t c = λ d outs after is l.
-    let p = err_from_is_err_and c.from_residual-in_err-made.result c.from_residual-in_err-made.ensures.1 in
-    let S = cores (schema_view c.args.plan.now.0) in
-    let g = goals.under_ref (type_view c.args.inner.now) in
-    let v = value_view c.args.held.now in
-    let n = c.args.levels in
-    let k = rests_of c.args.wanted.now in
-    let x = led S d (type_view c.args.inner.now) v n c.args.cell.now.left outs after is l in
     let child = c.in_ok-child.child.now in
-    let at = led_at S g v n d c.args.cell.now.left c.next.new.self.left after.refs child x c.in_ok-child.ensures.ok in
-    let o = led_opened S g v n d child k at.leads (sym c.if-is_raw.ensures) (sym c.if-is_nothing.ensures) in
-    still _ c.from_residual-in_err-made.result c.in_err-made.field-0.0 (p.1 ∙ ap Err p.2)
+    let x = ref_taken (cores (schema_view c.args.plan.now.0)) d (type_view c.args.inner.now) (value_view c.args.held.now)
+    c.args.levels c.args.cell.now.left outs after is l c.next.new.self.left child (rests_of c.args.wanted.now)
+    c.in_ok-child.ensures.ok in
+    let o = x.opened (sym c.if-is_raw.ensures) (sym c.if-is_nothing.ensures) in
+    stopped _ c.from_residual-in_err-made.result c.in_err-made.field-0.0 c.from_residual-in_err-made.ensures.1
     (c.in_err-made.ensures o.inner o.is o.fills)
 
 pub cut_ref-returns : goal.cut_ref-returns
 cut_ref-returns t c = λ d outs after is l.
-    let S = cores (schema_view c.args.plan.now.0) in
-    let g = goals.under_ref (type_view c.args.inner.now) in
-    let v = value_view c.args.held.now in
-    let n = c.args.levels in
-    let k = rests_of c.args.wanted.now in
-    let x = led S d (type_view c.args.inner.now) v n c.args.cell.now.left outs after is l in
     let child = c.in_ok-child.child.now in
-    let at = led_at S g v n d c.args.cell.now.left c.next.new.self.left after.refs child x c.in_ok-child.ensures.ok in
-    let o = led_opened S g v n d child k at.leads (sym c.if-is_raw.ensures) (sym c.if-is_nothing.ensures) in
-    one_put c.args.cell.now c.next.new.self c.put.new.self c.in_ok-made.made c.put.result after.refs (cut_for k d)
-    c.next.ensures.made c.put.ensures.ok c.put.ensures.left c.put.ensures.err at.rest
+    let x = ref_taken (cores (schema_view c.args.plan.now.0)) d (type_view c.args.inner.now) (value_view c.args.held.now)
+    c.args.levels c.args.cell.now.left outs after is l c.next.new.self.left child (rests_of c.args.wanted.now)
+    c.in_ok-child.ensures.ok in
+    let o = x.opened (sym c.if-is_raw.ensures) (sym c.if-is_nothing.ensures) in
+    one_put c.args.cell.now c.next.new.self c.put.new.self c.in_ok-made.made c.put.result after.refs
+    (cut_for (rests_of c.args.wanted.now) d) c.next.ensures.made c.put.ensures.ok c.put.ensures.left c.put.ensures.err x.rest
     (o.made ∙ ap (λ (z : Tree). z ∷ []) (sym (c.in_ok-made.ensures o.inner o.is o.fills)))
 
 pub cut_cell-returns-in_err-cut_value : goal.cut_cell-returns-in_err-cut_value
 cut_cell-returns-in_err-cut_value t c = λ d is f.
-    let p = err_from_is_err_and c.from_residual.result c.from_residual.ensures.1 in
     let S = cores (schema_view c.args.plan.now.0) in
     let k = rests_of c.args.wanted.now in
     let x = type_fills S d (type_view c.args.ty.now) c.args.from.now c.of-inner.result.left f c.of-inner.ensures.left in
-    still _ c.from_residual.result c.in_err-cut_value.field-0.0 (p.1 ∙ ap Err p.2)
+    stopped _ c.from_residual.result c.in_err-cut_value.field-0.0 c.from_residual.ensures.1
     (c.in_err-cut_value.ensures d x.outs _ is x.lies)
 
 pub cut_cell-returns : goal.cut_cell-returns
@@ -162,9 +126,8 @@ cut_cell-returns t c = λ d is f.
     let k = rests_of c.args.wanted.now in
     let x = type_fills S d (type_view c.args.ty.now) c.args.from.now c.of-inner.result.left f c.of-inner.ensures.left in
     let m = c.in_ok-cut_value.ensures d x.outs _ is x.lies in
-    finished c.finish.result c.args.from.now c.cut_value.new.cell.left c.cut_value.new.cell.made.items (cut_for k d)
-    c.finish.ensures.ok c.finish.ensures.unread m.1.0
-    (m.1.1 ∙ ap (λ (z : List Tree). z ++ cut_for k d) c.of-inner.ensures.made)
+    closed_cell c.finish.result c.args.from.now c.of-inner.result c.cut_value.new.cell (cut_for k d) c.finish.ensures.ok
+    c.finish.ensures.unread m.1 c.of-inner.ensures.made
     (filled_cell S (goals.under_ref (type_view c.args.ty.now)) d c.args.from.now k f)
 
 pub cut_under-returns-in_err-child : goal.cut_under-returns-in_err-child
@@ -173,234 +136,148 @@ cut_under-returns-in_err-child t c = λ d outs after is l.
     let S = cores (schema_view c.args.plan.now.0) in
     let items = record_at c.args.plan.now.1 c.args.first c.args.count in
     let scope = scope_of c.args.env.now c.args.types.now in
-    let g = goals.at_fields items scope in
-    let k = rests_of c.args.wanted.now in
     let x = led_fields S d items scope (value_view c.args.value.now) c.args.levels c.args.cell.now.left outs after is l in
-    let v = x.inner in
-    let n = x.less in
     none_left {B = Bor Tree} _ c.from_residual.result c.in_err-child.field-0.0 c.args.cell.now.left after.refs x.leads.child
     (p.1 ∙ ap Err p.2) c.in_err-child.ensures.none x.leads.there
 
 pub cut_under-returns-then-is_nothing : goal.cut_under-returns-then-is_nothing
 cut_under-returns-then-is_nothing t c = λ d outs after is l.
-    let S = cores (schema_view c.args.plan.now.0) in
-    let items = record_at c.args.plan.now.1 c.args.first c.args.count in
-    let scope = scope_of c.args.env.now c.args.types.now in
-    let g = goals.at_fields items scope in
-    let k = rests_of c.args.wanted.now in
-    let x = led_fields S d items scope (value_view c.args.value.now) c.args.levels c.args.cell.now.left outs after is l in
-    let v = x.inner in
-    let n = x.less in
     let child = c.in_ok-child.child.now in
-    let at = led_at S g v n d c.args.cell.now.left c.next.new.self.left after.refs child x.leads c.in_ok-child.ensures.ok in
-    one_put c.args.cell.now c.next.new.self c.hide.new.self (stub child 0) c.hide.result after.refs (cut_for k d)
-    c.next.ensures.made c.hide.ensures.ok c.hide.ensures.left c.hide.ensures.err at.rest
-    (led_hidden S g v n d child k at.leads (sym c.if-is_nothing.ensures))
+    let x = under_taken (cores (schema_view c.args.plan.now.0)) d (record_at c.args.plan.now.1 c.args.first c.args.count)
+    (scope_of c.args.env.now c.args.types.now) (value_view c.args.value.now) c.args.levels c.args.cell.now.left outs after is l
+    c.next.new.self.left child (rests_of c.args.wanted.now) c.in_ok-child.ensures.ok in
+    one_put c.args.cell.now c.next.new.self c.hide.new.self (stub child 0) c.hide.result after.refs
+    (cut_for (rests_of c.args.wanted.now) d) c.next.ensures.made c.hide.ensures.ok c.hide.ensures.left
+    c.hide.ensures.err x.rest (x.hidden (sym c.if-is_nothing.ensures))
 
 pub cut_under-returns-then-is_whole : goal.cut_under-returns-then-is_whole
 cut_under-returns-then-is_whole t c = λ d outs after is l.
-    let S = cores (schema_view c.args.plan.now.0) in
-    let items = record_at c.args.plan.now.1 c.args.first c.args.count in
-    let scope = scope_of c.args.env.now c.args.types.now in
-    let g = goals.at_fields items scope in
-    let k = rests_of c.args.wanted.now in
-    let x = led_fields S d items scope (value_view c.args.value.now) c.args.levels c.args.cell.now.left outs after is l in
-    let v = x.inner in
-    let n = x.less in
     let child = c.in_ok-child.child.now in
-    let at = led_at S g v n d c.args.cell.now.left c.next.new.self.left after.refs child x.leads c.in_ok-child.ensures.ok in
-    one_put c.args.cell.now c.next.new.self c.keep.new.self child c.keep.result after.refs (cut_for k d)
-    c.next.ensures.made c.keep.ensures.ok c.keep.ensures.left c.keep.ensures.err at.rest
-    (led_kept S g v n d child k at.leads (sym c.if-is_whole.ensures))
+    let x = under_taken (cores (schema_view c.args.plan.now.0)) d (record_at c.args.plan.now.1 c.args.first c.args.count)
+    (scope_of c.args.env.now c.args.types.now) (value_view c.args.value.now) c.args.levels c.args.cell.now.left outs after is l
+    c.next.new.self.left child (rests_of c.args.wanted.now) c.in_ok-child.ensures.ok in
+    one_put c.args.cell.now c.next.new.self c.keep.new.self child c.keep.result after.refs
+    (cut_for (rests_of c.args.wanted.now) d) c.next.ensures.made c.keep.ensures.ok c.keep.ensures.left
+    c.keep.ensures.err x.rest (x.kept (sym c.if-is_whole.ensures))
 
 pub cut_under-returns-in_default : goal.cut_under-returns-in_default
 cut_under-returns-in_default t c = λ d outs after is l.
-    let S = cores (schema_view c.args.plan.now.0) in
-    let items = record_at c.args.plan.now.1 c.args.first c.args.count in
-    let scope = scope_of c.args.env.now c.args.types.now in
-    let g = goals.at_fields items scope in
-    let k = rests_of c.args.wanted.now in
-    let x = led_fields S d items scope (value_view c.args.value.now) c.args.levels c.args.cell.now.left outs after is l in
-    let v = x.inner in
-    let n = x.less in
-    let f : None ≡ Some x.inner = ap (option_map _) (sym c.in_default.is) ∙ c.held.ensures ∙ ap held_in x.is_ref in
-    absurd (cc)
+    let child = c.in_ok-child.child.now in
+    let x = under_taken (cores (schema_view c.args.plan.now.0)) d (record_at c.args.plan.now.1 c.args.first c.args.count)
+    (scope_of c.args.env.now c.args.types.now) (value_view c.args.value.now) c.args.levels c.args.cell.now.left outs after is l
+    c.next.new.self.left child (rests_of c.args.wanted.now) c.in_ok-child.ensures.ok in
+    absurd (x.holds (ap (option_map _) (sym c.in_default.is) ∙ c.held.ensures))
 
 pub cut_under-returns-in_err-cut_inner : goal.cut_under-returns-in_err-cut_inner
 cut_under-returns-in_err-cut_inner t c = λ d outs after is l.
-    let p = err_from_is_err_and c.from_residual-in_err-cut_inner.result c.from_residual-in_err-cut_inner.ensures.1 in
-    let S = cores (schema_view c.args.plan.now.0) in
-    let items = record_at c.args.plan.now.1 c.args.first c.args.count in
-    let scope = scope_of c.args.env.now c.args.types.now in
-    let g = goals.at_fields items scope in
-    let k = rests_of c.args.wanted.now in
-    let x = led_fields S d items scope (value_view c.args.value.now) c.args.levels c.args.cell.now.left outs after is l in
-    let v = x.inner in
-    let n = x.less in
     let child = c.in_ok-child.child.now in
-    let at = led_at S g v n d c.args.cell.now.left c.next.new.self.left after.refs child x.leads c.in_ok-child.ensures.ok in
-    let o = led_opened S g v n d child k at.leads x.value (sym c.if-is_nothing.ensures) in
-    let z = record_fills S o.inner items scope child c.of-content.result.left o.fills c.of-content.ensures.left in
-    let inside = is_held o.inner v (value_view c.in-Some.held.now) (value_view c.args.value.now) n c.args.levels o.is x.is_ref
-    (ap (option_map _) (sym c.in-Some.is) ∙ c.held.ensures) x.levels in
-    still _ c.from_residual-in_err-cut_inner.result c.in_err-cut_inner.field-0.0 (p.1 ∙ ap Err p.2)
-    (c.in_err-cut_inner.ensures o.inner z.outs _ inside z.lies)
+    let x = under_taken (cores (schema_view c.args.plan.now.0)) d (record_at c.args.plan.now.1 c.args.first c.args.count)
+    (scope_of c.args.env.now c.args.types.now) (value_view c.args.value.now) c.args.levels c.args.cell.now.left outs after is l
+    c.next.new.self.left child (rests_of c.args.wanted.now) c.in_ok-child.ensures.ok in
+    let o = x.opened (sym c.if-is_nothing.ensures) (value_view c.in-Some.held.now)
+    (ap (option_map _) (sym c.in-Some.is) ∙ c.held.ensures) c.of-content.result.left c.of-content.ensures.left in
+    stopped _ c.from_residual-in_err-cut_inner.result c.in_err-cut_inner.field-0.0 c.from_residual-in_err-cut_inner.ensures.1
+    (c.in_err-cut_inner.ensures o.inner o.outs _ o.is_held o.lies)
 
 pub cut_under-returns-in_err-finish : goal.cut_under-returns-in_err-finish
 cut_under-returns-in_err-finish t c = λ d outs after is l.
-    let p = err_from_is_err_and c.from_residual-in_err-finish.result c.from_residual-in_err-finish.ensures.1 in
-    let S = cores (schema_view c.args.plan.now.0) in
-    let items = record_at c.args.plan.now.1 c.args.first c.args.count in
-    let scope = scope_of c.args.env.now c.args.types.now in
-    let g = goals.at_fields items scope in
-    let k = rests_of c.args.wanted.now in
-    let x = led_fields S d items scope (value_view c.args.value.now) c.args.levels c.args.cell.now.left outs after is l in
-    let v = x.inner in
-    let n = x.less in
     let child = c.in_ok-child.child.now in
-    let at = led_at S g v n d c.args.cell.now.left c.next.new.self.left after.refs child x.leads c.in_ok-child.ensures.ok in
-    let o = led_opened S g v n d child k at.leads x.value (sym c.if-is_nothing.ensures) in
-    let z = record_fills S o.inner items scope child c.of-content.result.left o.fills c.of-content.ensures.left in
-    let inside = is_held o.inner v (value_view c.in-Some.held.now) (value_view c.args.value.now) n c.args.levels o.is x.is_ref
-    (ap (option_map _) (sym c.in-Some.is) ∙ c.held.ensures) x.levels in
-    let m = c.in_ok-cut_inner.ensures o.inner z.outs _ inside z.lies in
-    let cell = filled_cell S g o.inner child k o.fills in
-    let are = m.1 ∙ ap (λ (z : List Tree). z ++ cut_for k o.inner) c.of-content.ensures.made in
-    still _ c.from_residual-in_err-finish.result c.in_err-finish.field-0.0 (p.1 ∙ ap Err p.2)
-    (finished (Err c.in_err-finish.field-0.0) child c.cut_inner.new.cell.left c.cut_inner.new.cell.made.items (cut_for k o.inner)
-    c.in_err-finish.ensures.ok c.in_err-finish.ensures.unread m.0 are cell)
+    let x = under_taken (cores (schema_view c.args.plan.now.0)) d (record_at c.args.plan.now.1 c.args.first c.args.count)
+    (scope_of c.args.env.now c.args.types.now) (value_view c.args.value.now) c.args.levels c.args.cell.now.left outs after is l
+    c.next.new.self.left child (rests_of c.args.wanted.now) c.in_ok-child.ensures.ok in
+    let o = x.opened (sym c.if-is_nothing.ensures) (value_view c.in-Some.held.now)
+    (ap (option_map _) (sym c.in-Some.is) ∙ c.held.ensures) c.of-content.result.left c.of-content.ensures.left in
+    stopped _ c.from_residual-in_err-finish.result c.in_err-finish.field-0.0 c.from_residual-in_err-finish.ensures.1
+    (closed_cell (Err c.in_err-finish.field-0.0) child c.of-content.result c.cut_inner.new.cell
+    (cut_for (rests_of c.args.wanted.now) o.inner) c.in_err-finish.ensures.ok c.in_err-finish.ensures.unread
+    (c.in_ok-cut_inner.ensures o.inner o.outs _ o.is_held o.lies) c.of-content.ensures.made o.cell)
 
 pub cut_under-returns : goal.cut_under-returns
 cut_under-returns t c = λ d outs after is l.
-    let S = cores (schema_view c.args.plan.now.0) in
-    let items = record_at c.args.plan.now.1 c.args.first c.args.count in
-    let scope = scope_of c.args.env.now c.args.types.now in
-    let g = goals.at_fields items scope in
-    let k = rests_of c.args.wanted.now in
-    let x = led_fields S d items scope (value_view c.args.value.now) c.args.levels c.args.cell.now.left outs after is l in
-    let v = x.inner in
-    let n = x.less in
     let child = c.in_ok-child.child.now in
-    let at = led_at S g v n d c.args.cell.now.left c.next.new.self.left after.refs child x.leads c.in_ok-child.ensures.ok in
-    let o = led_opened S g v n d child k at.leads x.value (sym c.if-is_nothing.ensures) in
-    let z = record_fills S o.inner items scope child c.of-content.result.left o.fills c.of-content.ensures.left in
-    let inside = is_held o.inner v (value_view c.in-Some.held.now) (value_view c.args.value.now) n c.args.levels o.is x.is_ref
-    (ap (option_map _) (sym c.in-Some.is) ∙ c.held.ensures) x.levels in
-    let m = c.in_ok-cut_inner.ensures o.inner z.outs _ inside z.lies in
-    let cell = filled_cell S g o.inner child k o.fills in
-    let are = m.1 ∙ ap (λ (z : List Tree). z ++ cut_for k o.inner) c.of-content.ensures.made in
-    let whole = finished (Ok c.in_ok-finish.field-0) child c.cut_inner.new.cell.left c.cut_inner.new.cell.made.items
-    (cut_for k o.inner) c.in_ok-finish.ensures.ok c.in_ok-finish.ensures.unread m.0 are cell in
-    one_put c.args.cell.now c.next.new.self c.put.new.self c.in_ok-finish.field-0 c.put.result after.refs (cut_for k d)
-    c.next.ensures.made c.put.ensures.ok c.put.ensures.left c.put.ensures.err at.rest
+    let x = under_taken (cores (schema_view c.args.plan.now.0)) d (record_at c.args.plan.now.1 c.args.first c.args.count)
+    (scope_of c.args.env.now c.args.types.now) (value_view c.args.value.now) c.args.levels c.args.cell.now.left outs after is l
+    c.next.new.self.left child (rests_of c.args.wanted.now) c.in_ok-child.ensures.ok in
+    let o = x.opened (sym c.if-is_nothing.ensures) (value_view c.in-Some.held.now)
+    (ap (option_map _) (sym c.in-Some.is) ∙ c.held.ensures) c.of-content.result.left c.of-content.ensures.left in
+    let whole = closed_cell (Ok c.in_ok-finish.field-0) child c.of-content.result c.cut_inner.new.cell
+    (cut_for (rests_of c.args.wanted.now) o.inner) c.in_ok-finish.ensures.ok c.in_ok-finish.ensures.unread
+    (c.in_ok-cut_inner.ensures o.inner o.outs _ o.is_held o.lies) c.of-content.ensures.made o.cell in
+    one_put c.args.cell.now c.next.new.self c.put.new.self c.in_ok-finish.field-0 c.put.result after.refs
+    (cut_for (rests_of c.args.wanted.now) d) c.next.ensures.made c.put.ensures.ok c.put.ensures.left c.put.ensures.err x.rest
     (o.made ∙ ap (λ (z : Tree). z ∷ []) (sym whole))
 
 pub cut_inner-returns-in_default : goal.cut_inner-returns-in_default
 cut_inner-returns-in_default t c = λ d outs after is l.
-    let S = cores (schema_view c.args.plan.now.0) in
-    let items = record_at c.args.plan.now.1 c.args.first c.args.count in
-    let scope = scope_of c.args.env.now c.args.types.now in
-    let k = rests_of c.args.wanted.now in
-    let v = value_view c.args.value.now in
-    absurd (no_record S k items scope v c.args.levels c.args.cell.now outs after d is l
+    absurd (no_record (cores (schema_view c.args.plan.now.0)) (rests_of c.args.wanted.now) (record_at c.args.plan.now.1 c.args.first c.args.count)
+    (scope_of c.args.env.now c.args.types.now) (value_view c.args.value.now) c.args.levels c.args.cell.now outs after d is l
     (ap (option_map _) (sym c.in_default.is) ∙ c.fields_of.ensures))
 
 pub cut_inner-returns : goal.cut_inner-returns
 cut_inner-returns t c = λ d outs after is l.
-    let S = cores (schema_view c.args.plan.now.0) in
-    let items = record_at c.args.plan.now.1 c.args.first c.args.count in
-    let scope = scope_of c.args.env.now c.args.types.now in
-    let k = rests_of c.args.wanted.now in
-    let v = value_view c.args.value.now in
-    let due = record_due S k items scope v c.args.levels c.args.cell.now outs after d (map pair_of c.in-Some.fields.now) is l
+    let x = inner_due (cores (schema_view c.args.plan.now.0)) (rests_of c.args.wanted.now) c.flat.result.now c.args.plan.now.1 c.args.first
+    c.args.count c.operations-ops.result.now c.flat.ensures.lists c.operations-ops.ensures (scope_of c.args.env.now c.args.types.now)
+    (scope_of c.in_ok-inner.inner c.args.types.now) (ap (λ z. scope_of z c.args.types.now) c.in_ok-inner.ensures)
+    (value_view c.args.value.now) c.args.levels c.args.cell.now outs after d (map pair_of c.in-Some.fields.now) is l
     (ap (option_map _) (sym c.in-Some.is) ∙ c.fields_of.ensures) in
-    let D : Items → Scope → Type 0 = λ z y. Due S k (c.args.levels - 1) due.end after (c.args.cell.now.made.items ++ cut_for k d) z y
-    (map pair_of c.in-Some.fields.now) c.args.cell.now in
-    let there = items_there c.flat.result.now c.args.plan.now.1 c.args.first c.args.count c.operations-ops.result.now
-    c.flat.ensures.lists c.operations-ops.ensures in
-    let at = subst (λ z. D z scope) (sym there) due.due in
-    let copied = ap (λ z. scope_of z c.args.types.now) (sym c.in_ok-inner.ensures) in
-    gives_as _ _ c.cut_fields.result (λ x m. (m.1, m.2))
-    (c.cut_fields.ensures due.end after (c.args.cell.now.made.items ++ cut_for k d) (subst (D _) copied at))
+    gives_as _ _ c.cut_fields.result (λ x m. (m.1, m.2)) (c.cut_fields.ensures x.end after _ x.due)
 
 -- ---- dictionaries
 
 pub cut_branch-returns-then-is_whole : goal.cut_branch-returns-then-is_whole
 cut_branch-returns-then-is_whole t c = λ q e n x after less long is at.
-    let S = cores (schema_view c.args.plan.now.0) in
-    let ty = type_view c.args.inner.now in
     let k = below q (rests_of c.args.wanted.now) in
     let here = rests_of c.in_ok-wanted.wanted in
     let child = c.in_ok-child.child.now in
-    let b = branch_at S n ty q e c.args.key.now x child c.args.cell.now.left c.next.new.self.left after at
-    c.in_ok-child.ensures.ok in
-    let same = branch_wanted q c.args.key.now c.slice.result at.rest c.in-Some.prefix c.in-Some.field-0-1 c.args.end
-    (rests_of c.args.wanted.now) here c.take.result at.begins long c.in-Some.is c.take.ensures c.slice.ensures
-    c.in_ok-wanted.ensures in
+    let b = branch_taken (cores (schema_view c.args.plan.now.0)) n (type_view c.args.inner.now) q e c.args.key.now x
+    c.args.cell.now.left after at child c.next.new.self.left c.in_ok-child.ensures.ok c.slice.result c.in-Some.prefix
+    c.in-Some.field-0-1 c.args.end (rests_of c.args.wanted.now) here c.take.result long c.in-Some.is c.take.ensures
+    c.slice.ensures c.in_ok-wanted.ensures in
     one_put c.args.cell.now c.next.new.self c.keep.new.self child c.keep.result after
     (cut_at k x (cut_edge_for k q e) ∷ []) c.next.ensures.made c.keep.ensures.ok c.keep.ensures.left c.keep.ensures.err b.rest
-    (branch_kept S n ty q e x child c.next.new.self.left after k here b same (sym c.if-is_whole.ensures))
+    (b.kept (sym c.if-is_whole.ensures))
 
 pub cut_branch-returns-in_err-cut_edge : goal.cut_branch-returns-in_err-cut_edge
 cut_branch-returns-in_err-cut_edge t c = λ q e n x after less long is at.
-    let p = err_from_is_err_and c.from_residual-in_err-cut_edge.result c.from_residual-in_err-cut_edge.ensures.1 in
-    let S = cores (schema_view c.args.plan.now.0) in
-    let ty = type_view c.args.inner.now in
-    let k = below q (rests_of c.args.wanted.now) in
     let here = rests_of c.in_ok-wanted.wanted in
     let child = c.in_ok-child.child.now in
-    let b = branch_at S n ty q e c.args.key.now x child c.args.cell.now.left c.next.new.self.left after at
-    c.in_ok-child.ensures.ok in
-    let same = branch_wanted q c.args.key.now c.slice.result at.rest c.in-Some.prefix c.in-Some.field-0-1 c.args.end
-    (rests_of c.args.wanted.now) here c.take.result at.begins long c.in-Some.is c.take.ensures c.slice.ensures
-    c.in_ok-wanted.ensures in
-    let lies = edge_fills S e n ty child c.of-edge.result.left b.clean b.cell c.of-edge.ensures.left in
-    still _ c.from_residual-in_err-cut_edge.result c.in_err-cut_edge.field-0.0 (p.1 ∙ ap Err p.2)
-    (c.in_err-cut_edge.ensures q e n [] nothing less is lies)
+    let b = branch_taken (cores (schema_view c.args.plan.now.0)) n (type_view c.args.inner.now) q e c.args.key.now x
+    c.args.cell.now.left after at child c.next.new.self.left c.in_ok-child.ensures.ok c.slice.result c.in-Some.prefix
+    c.in-Some.field-0-1 c.args.end (rests_of c.args.wanted.now) here c.take.result long c.in-Some.is c.take.ensures
+    c.slice.ensures c.in_ok-wanted.ensures in
+    stopped _ c.from_residual-in_err-cut_edge.result c.in_err-cut_edge.field-0.0 c.from_residual-in_err-cut_edge.ensures.1
+    (c.in_err-cut_edge.ensures q e n [] nothing less is (b.lies c.of-edge.result.left c.of-edge.ensures.left))
 
 pub cut_branch-returns-in_err-finish : goal.cut_branch-returns-in_err-finish
 cut_branch-returns-in_err-finish t c = λ q e n x after less long is at.
-    let p = err_from_is_err_and c.from_residual-in_err-finish.result c.from_residual-in_err-finish.ensures.1 in
-    let S = cores (schema_view c.args.plan.now.0) in
-    let ty = type_view c.args.inner.now in
-    let k = below q (rests_of c.args.wanted.now) in
     let here = rests_of c.in_ok-wanted.wanted in
     let child = c.in_ok-child.child.now in
-    let b = branch_at S n ty q e c.args.key.now x child c.args.cell.now.left c.next.new.self.left after at
-    c.in_ok-child.ensures.ok in
-    let same = branch_wanted q c.args.key.now c.slice.result at.rest c.in-Some.prefix c.in-Some.field-0-1 c.args.end
-    (rests_of c.args.wanted.now) here c.take.result at.begins long c.in-Some.is c.take.ensures c.slice.ensures
-    c.in_ok-wanted.ensures in
-    let lies = edge_fills S e n ty child c.of-edge.result.left b.clean b.cell c.of-edge.ensures.left in
-    let m = c.in_ok-cut_edge.ensures q e n [] nothing less is lies in
-    let cell = edge_cell e child here q (edge_filled S n ty e child b.cell) b.clean in
-    let are = m.1 ∙ ap (λ (z : List Tree). z ++ cut_edge_for here q e) c.of-edge.ensures.made in
-    still _ c.from_residual-in_err-finish.result c.in_err-finish.field-0.0 (p.1 ∙ ap Err p.2)
-    (finished (Err c.in_err-finish.field-0.0) child c.cut_edge.new.cell.left c.cut_edge.new.cell.made.items
-    (cut_edge_for here q e) c.in_err-finish.ensures.ok c.in_err-finish.ensures.unread m.0 are cell)
+    let b = branch_taken (cores (schema_view c.args.plan.now.0)) n (type_view c.args.inner.now) q e c.args.key.now x
+    c.args.cell.now.left after at child c.next.new.self.left c.in_ok-child.ensures.ok c.slice.result c.in-Some.prefix
+    c.in-Some.field-0-1 c.args.end (rests_of c.args.wanted.now) here c.take.result long c.in-Some.is c.take.ensures
+    c.slice.ensures c.in_ok-wanted.ensures in
+    stopped _ c.from_residual-in_err-finish.result c.in_err-finish.field-0.0 c.from_residual-in_err-finish.ensures.1
+    (closed_cell (Err c.in_err-finish.field-0.0) child c.of-edge.result c.cut_edge.new.cell
+    (cut_edge_for here q e) c.in_err-finish.ensures.ok c.in_err-finish.ensures.unread
+    (c.in_ok-cut_edge.ensures q e n [] nothing less is (b.lies c.of-edge.result.left c.of-edge.ensures.left))
+    c.of-edge.ensures.made b.cell)
 
 pub cut_branch-returns : goal.cut_branch-returns
 cut_branch-returns t c = λ q e n x after less long is at.
-    let S = cores (schema_view c.args.plan.now.0) in
-    let ty = type_view c.args.inner.now in
     let k = below q (rests_of c.args.wanted.now) in
     let here = rests_of c.in_ok-wanted.wanted in
     let child = c.in_ok-child.child.now in
-    let b = branch_at S n ty q e c.args.key.now x child c.args.cell.now.left c.next.new.self.left after at
-    c.in_ok-child.ensures.ok in
-    let same = branch_wanted q c.args.key.now c.slice.result at.rest c.in-Some.prefix c.in-Some.field-0-1 c.args.end
-    (rests_of c.args.wanted.now) here c.take.result at.begins long c.in-Some.is c.take.ensures c.slice.ensures
-    c.in_ok-wanted.ensures in
-    let lies = edge_fills S e n ty child c.of-edge.result.left b.clean b.cell c.of-edge.ensures.left in
-    let m = c.in_ok-cut_edge.ensures q e n [] nothing less is lies in
-    let cell = edge_cell e child here q (edge_filled S n ty e child b.cell) b.clean in
-    let are = m.1 ∙ ap (λ (z : List Tree). z ++ cut_edge_for here q e) c.of-edge.ensures.made in
-    let whole = finished (Ok c.in_ok-finish.field-0) child c.cut_edge.new.cell.left c.cut_edge.new.cell.made.items
-    (cut_edge_for here q e) c.in_ok-finish.ensures.ok c.in_ok-finish.ensures.unread m.0 are cell in
+    let b = branch_taken (cores (schema_view c.args.plan.now.0)) n (type_view c.args.inner.now) q e c.args.key.now x
+    c.args.cell.now.left after at child c.next.new.self.left c.in_ok-child.ensures.ok c.slice.result c.in-Some.prefix
+    c.in-Some.field-0-1 c.args.end (rests_of c.args.wanted.now) here c.take.result long c.in-Some.is c.take.ensures
+    c.slice.ensures c.in_ok-wanted.ensures in
+    let whole = closed_cell (Ok c.in_ok-finish.field-0) child c.of-edge.result c.cut_edge.new.cell
+    (cut_edge_for here q e) c.in_ok-finish.ensures.ok c.in_ok-finish.ensures.unread
+    (c.in_ok-cut_edge.ensures q e n [] nothing less is (b.lies c.of-edge.result.left c.of-edge.ensures.left))
+    c.of-edge.ensures.made b.cell in
     one_put c.args.cell.now c.next.new.self c.put.new.self c.in_ok-finish.field-0 c.put.result after
     (cut_at k x (cut_edge_for k q e) ∷ []) c.next.ensures.made c.put.ensures.ok c.put.ensures.left c.put.ensures.err b.rest
-    (branch_opened S n ty q e x child c.next.new.self.left after k here b same (sym c.if-is_nothing.ensures)
-    ∙ ap (λ (z : Tree). z ∷ []) (sym whole))
+    (b.opened (sym c.if-is_nothing.ensures) ∙ ap (λ (z : Tree). z ∷ []) (sym whole))
 
 -- ---- fields
 
@@ -420,413 +297,219 @@ cut_field-cut_under-requires t c = (
 
 pub cut_field-returns-in-Ok-LeftOut : goal.cut_field-returns-in-Ok-LeftOut
 cut_field-returns-in-Ok-LeftOut t c = λ d outs after is l.
-    let S = cores (schema_view c.args.plan.now.0) in
-    let p = c.args.plan.now.1 in
-    let scope = scope_of c.args.env.now c.args.types.now in
-    let shape = shaped c.flat.result.now p c.args.condition c.args.ty scope c.in-Ok-LeftOut.field-0 LeftOut c.flat.ensures.lists
-    c.in-Ok-LeftOut.ensures.shapes c.in-Ok-LeftOut.field-0-is in
-    let inner = at_shape S d (goals.at_field (governed p c.args.condition) (type_at p c.args.ty) scope) goals.left_out
-    c.args.cell.now.left outs after shape l in
-    let x = left_is S d (rests_of c.args.wanted.now) c.args.cell.now outs after inner in
+    let it = c.in-Ok-LeftOut in
+    let inner = field_at (cores (schema_view c.args.plan.now.0)) d c.flat.result.now c.args.plan.now.1 c.args.condition c.args.ty
+    (scope_of c.args.env.now c.args.types.now) it.field-0 LeftOut c.args.cell.now.left outs after c.flat.ensures.lists
+    it.ensures.shapes it.field-0-is l in
+    let x = left_is (cores (schema_view c.args.plan.now.0)) d (rests_of c.args.wanted.now) c.args.cell.now outs after inner in
     (sym x.none, x.moves)
 
 pub cut_field-returns-in_err-cut_inner-in-Ok-Here : goal.cut_field-returns-in_err-cut_inner-in-Ok-Here
 cut_field-returns-in_err-cut_inner-in-Ok-Here t c = λ d outs after is l.
-    let r = err_from_is_err_and c.from_residual.result c.from_residual.ensures.1 in
-    let S = cores (schema_view c.args.plan.now.0) in
-    let p = c.args.plan.now.1 in
-    let scope = scope_of c.args.env.now c.args.types.now in
-    let items = record_at p c.in-Ok-Here.first c.in-Ok-Here.count in
-    let shape = shaped c.flat.result.now p c.args.condition c.args.ty scope c.in-Ok-Here.field-0 (Here c.in-Ok-Here.first c.in-Ok-Here.count) c.flat.ensures.lists
-    c.in-Ok-Here.ensures.shapes c.in-Ok-Here.field-0-is in
-    let inner = at_shape S d (goals.at_field (governed p c.args.condition) (type_at p c.args.ty) scope) (goals.fields_here items scope)
-    c.args.cell.now.left outs after shape l in
-    still _ c.from_residual.result c.in_err-cut_inner-in-Ok-Here.field-0.0 (r.1 ∙ ap Err r.2)
+    let it = c.in-Ok-Here in
+    let inner = field_at (cores (schema_view c.args.plan.now.0)) d c.flat.result.now c.args.plan.now.1 c.args.condition c.args.ty
+    (scope_of c.args.env.now c.args.types.now) it.field-0 (Here it.first it.count) c.args.cell.now.left outs after c.flat.ensures.lists
+    it.ensures.shapes it.field-0-is l in
+    stopped _ c.from_residual.result c.in_err-cut_inner-in-Ok-Here.field-0.0 c.from_residual.ensures.1
     (c.in_err-cut_inner-in-Ok-Here.ensures d outs after is inner)
 
 pub cut_field-returns-in_ok-cut_inner-in-Ok-Here : goal.cut_field-returns-in_ok-cut_inner-in-Ok-Here
 cut_field-returns-in_ok-cut_inner-in-Ok-Here t c = λ d outs after is l.
-    let S = cores (schema_view c.args.plan.now.0) in
-    let p = c.args.plan.now.1 in
-    let scope = scope_of c.args.env.now c.args.types.now in
-    let items = record_at p c.in-Ok-Here.first c.in-Ok-Here.count in
-    let shape = shaped c.flat.result.now p c.args.condition c.args.ty scope c.in-Ok-Here.field-0 (Here c.in-Ok-Here.first c.in-Ok-Here.count) c.flat.ensures.lists
-    c.in-Ok-Here.ensures.shapes c.in-Ok-Here.field-0-is in
-    let inner = at_shape S d (goals.at_field (governed p c.args.condition) (type_at p c.args.ty) scope) (goals.fields_here items scope)
-    c.args.cell.now.left outs after shape l in (
-      sym (here_outs S d items scope c.args.cell.now.left outs after inner),
+    let it = c.in-Ok-Here in
+    let inner = field_at (cores (schema_view c.args.plan.now.0)) d c.flat.result.now c.args.plan.now.1 c.args.condition c.args.ty
+    (scope_of c.args.env.now c.args.types.now) it.field-0 (Here it.first it.count) c.args.cell.now.left outs after c.flat.ensures.lists
+    it.ensures.shapes it.field-0-is l in (
+      sym (here_outs (cores (schema_view c.args.plan.now.0)) d _ _ c.args.cell.now.left outs after inner),
       c.in_ok-cut_inner-in-Ok-Here.ensures d outs after is inner,
     )
 
 pub cut_field-returns-in_err-cut_under-in-Ok-Under : goal.cut_field-returns-in_err-cut_under-in-Ok-Under
 cut_field-returns-in_err-cut_under-in-Ok-Under t c = λ d outs after is l.
-    let r = err_from_is_err_and c.from_residual-in_err-cut_under-in-Ok-Under.result c.from_residual-in_err-cut_under-in-Ok-Under.ensures.1 in
-    let S = cores (schema_view c.args.plan.now.0) in
-    let p = c.args.plan.now.1 in
-    let scope = scope_of c.args.env.now c.args.types.now in
-    let items = record_at p c.in-Ok-Under.first c.in-Ok-Under.count in
-    let shape = shaped c.flat.result.now p c.args.condition c.args.ty scope c.in-Ok-Under.field-0 (Under c.in-Ok-Under.first c.in-Ok-Under.count) c.flat.ensures.lists
-    c.in-Ok-Under.ensures.shapes c.in-Ok-Under.field-0-is in
-    let inner = at_shape S d (goals.at_field (governed p c.args.condition) (type_at p c.args.ty) scope) (goals.fields_under items scope)
-    c.args.cell.now.left outs after shape l in
-    still _ c.from_residual-in_err-cut_under-in-Ok-Under.result c.in_err-cut_under-in-Ok-Under.field-0.0 (r.1 ∙ ap Err r.2)
+    let it = c.in-Ok-Under in
+    let inner = field_at (cores (schema_view c.args.plan.now.0)) d c.flat.result.now c.args.plan.now.1 c.args.condition c.args.ty
+    (scope_of c.args.env.now c.args.types.now) it.field-0 (Under it.first it.count) c.args.cell.now.left outs after c.flat.ensures.lists
+    it.ensures.shapes it.field-0-is l in
+    stopped _ c.from_residual-in_err-cut_under-in-Ok-Under.result c.in_err-cut_under-in-Ok-Under.field-0.0 c.from_residual-in_err-cut_under-in-Ok-Under.ensures.1
     (c.in_err-cut_under-in-Ok-Under.ensures d outs after is inner)
 
 pub cut_field-returns-in_ok-cut_under-in-Ok-Under : goal.cut_field-returns-in_ok-cut_under-in-Ok-Under
 cut_field-returns-in_ok-cut_under-in-Ok-Under t c = λ d outs after is l.
-    let S = cores (schema_view c.args.plan.now.0) in
-    let p = c.args.plan.now.1 in
-    let scope = scope_of c.args.env.now c.args.types.now in
-    let items = record_at p c.in-Ok-Under.first c.in-Ok-Under.count in
-    let shape = shaped c.flat.result.now p c.args.condition c.args.ty scope c.in-Ok-Under.field-0 (Under c.in-Ok-Under.first c.in-Ok-Under.count) c.flat.ensures.lists
-    c.in-Ok-Under.ensures.shapes c.in-Ok-Under.field-0-is in
-    let inner = at_shape S d (goals.at_field (governed p c.args.condition) (type_at p c.args.ty) scope) (goals.fields_under items scope)
-    c.args.cell.now.left outs after shape l in (
-      sym (under_outs S d items scope c.args.cell.now.left outs after inner),
+    let it = c.in-Ok-Under in
+    let inner = field_at (cores (schema_view c.args.plan.now.0)) d c.flat.result.now c.args.plan.now.1 c.args.condition c.args.ty
+    (scope_of c.args.env.now c.args.types.now) it.field-0 (Under it.first it.count) c.args.cell.now.left outs after c.flat.ensures.lists
+    it.ensures.shapes it.field-0-is l in (
+      sym (under_outs (cores (schema_view c.args.plan.now.0)) d _ _ c.args.cell.now.left outs after inner),
       c.in_ok-cut_under-in-Ok-Under.ensures d outs after is inner,
     )
 
 pub cut_fields-returns-in_err-next : goal.cut_fields-returns-in_err-next
 cut_fields-returns-in_err-next t c = λ end after all x.
-    let r = err_from_is_err_and c.from_residual.result c.from_residual.ensures.1 in
-    let S = cores (schema_view c.args.plan.now.0) in
-    let p = c.args.plan.now.1 in
-    let k = rests_of c.args.wanted.now in
     let at = c.loop-op in
-    let scope = scope_of at.env c.args.types.now in
-    let D : List PlanOp → Type 0 = λ z. Due S k c.args.levels end after all
-    (items_in p (type_at p) (governed p at.condition) z) scope (map pair_of at.due.now) at.cell in
-    let due = at.invariant.due end after all x in
-    still _ c.from_residual.result c.in_err-next.field-0.0 (r.1 ∙ ap Err r.2)
-    (c.in_err-next.ensures.gives (drop (at.op-index + 1) c.args.ops.now) end after all
-    (subst D (op_next c.args.ops.now (Check 0 Eq 0 0) at.op-index c.loop-op-test.true) due))
+    let due = next_due (cores (schema_view c.args.plan.now.0)) (rests_of c.args.wanted.now) c.args.levels end after all c.args.plan.now.1
+    (governed c.args.plan.now.1 at.condition) c.args.ops.now at.op-index (scope_of at.env c.args.types.now) (map pair_of at.due.now)
+    at.cell (Check 0 Eq 0 0) c.loop-op-test.true (at.invariant.due end after all x) in
+    stopped _ c.from_residual.result c.in_err-next.field-0.0 c.from_residual.ensures.1
+    (c.in_err-next.ensures.gives (drop (at.op-index + 1) c.args.ops.now) end after all due)
 
 pub cut_fields-returns : goal.cut_fields-returns
 cut_fields-returns t c = λ end after all x.
-    let S = cores (schema_view c.args.plan.now.0) in
-    let p = c.args.plan.now.1 in
-    let k = rests_of c.args.wanted.now in
     let at = c.loop-op in
-    let scope = scope_of at.env c.args.types.now in
-    let D : List PlanOp → Type 0 = λ z. Due S k c.args.levels end after all
-    (items_in p (type_at p) (governed p at.condition) z) scope (map pair_of at.due.now) at.cell in
-    let due = at.invariant.due end after all x in
-    let none = subst D (ops_end c.args.ops.now at.op-index c.loop-op-test.false) due in
-    let m = none_due S k c.args.levels end after all scope (map pair_of at.due.now) at.cell none in
+    let m = last_due (cores (schema_view c.args.plan.now.0)) (rests_of c.args.wanted.now) c.args.levels end after all c.args.plan.now.1
+    (governed c.args.plan.now.1 at.condition) c.args.ops.now at.op-index (scope_of at.env c.args.types.now) (map pair_of at.due.now)
+    at.cell c.loop-op-test.false (at.invariant.due end after all x) in
     (m.scope_is, m.left, m.made)
 
 pub cut_op-returns-in-Ok-clause-gives : goal.cut_op-returns-in-Ok-clause-gives
 cut_op-returns-in-Ok-clause-gives t c = λ ops end after all x.
-    let S = cores (schema_view c.args.plan.now.0) in
-    let p = c.args.plan.now.1 in
-    let k = rests_of c.args.wanted.now in
-    let g = governed p c.args.condition in
-    let fields = map pair_of c.args.fields.now in
     let it = c.in-Solve in
-    op_solved S k c.args.levels end after all p g c.args.op ops fields c.args.cell.now c.flat-flat.result.now
-    (length p.types) it.slot it.left it.right it.field-3 c.in-Ok.number c.args.env.now c.set.new.env c.args.types.now it.is
-    c.flat-flat.ensures.lists c.requires.sound c.in-Ok.ensures c.set.ensures x
+    op_solved (cores (schema_view c.args.plan.now.0)) (rests_of c.args.wanted.now) c.args.levels end after all c.args.plan.now.1
+    (governed c.args.plan.now.1 c.args.condition) c.args.op ops (map pair_of c.args.fields.now) c.args.cell.now c.flat-flat.result.now
+    (length c.args.plan.now.1.types) it.slot it.left it.right it.field-3 c.in-Ok.number c.args.env.now c.set.new.env
+    c.args.types.now it.is c.flat-flat.ensures.lists c.requires.sound c.in-Ok.ensures c.set.ensures x
 
 pub cut_op-returns-in-Err-clause-gives : goal.cut_op-returns-in-Err-clause-gives
 cut_op-returns-in-Err-clause-gives t c = λ ops end after all x.
-    let S = cores (schema_view c.args.plan.now.0) in
-    let p = c.args.plan.now.1 in
-    let k = rests_of c.args.wanted.now in
-    let g = governed p c.args.condition in
-    let fields = map pair_of c.args.fields.now in
     let it = c.in-Solve in
-    absurd (op_unsolved S k c.args.levels end after all p g c.args.op ops fields c.args.cell.now c.flat-flat.result.now
-    (length p.types) it.slot it.left it.right it.field-3 c.in-Err.field-0 c.args.env.now c.args.types.now it.is
+    absurd (op_unsolved (cores (schema_view c.args.plan.now.0)) (rests_of c.args.wanted.now) c.args.levels end after all c.args.plan.now.1
+    (governed c.args.plan.now.1 c.args.condition) c.args.op ops (map pair_of c.args.fields.now) c.args.cell.now c.flat-flat.result.now
+    (length c.args.plan.now.1.types) it.slot it.left it.right it.field-3 c.in-Err.field-0 c.args.env.now c.args.types.now it.is
     c.flat-flat.ensures.lists c.requires.sound c.in-Err.ensures x)
 
 pub cut_op-returns-in_default-clause-gives : goal.cut_op-returns-in_default-clause-gives
 cut_op-returns-in_default-clause-gives t c = λ ops end after all x.
-    let S = cores (schema_view c.args.plan.now.0) in
-    let p = c.args.plan.now.1 in
-    let k = rests_of c.args.wanted.now in
-    let g = governed p c.args.condition in
-    let fields = map pair_of c.args.fields.now in
     let it = c.in-Field in
-    let scope = scope_of c.args.env.now c.args.types.now in
-    absurd (op_no_field S k c.args.levels end after all p g c.args.op ops fields c.args.cell.now it.field-0 it.ty it.slot scope
-    it.is (ap (map pair_of) (nil_from_length c.args.fields.now c.in_default.ensures.cases)) x)
+    absurd (op_no_field (cores (schema_view c.args.plan.now.0)) (rests_of c.args.wanted.now) c.args.levels end after all c.args.plan.now.1
+    (governed c.args.plan.now.1 c.args.condition) c.args.op ops (map pair_of c.args.fields.now) c.args.cell.now it.field-0 it.ty it.slot
+    (scope_of c.args.env.now c.args.types.now) it.is
+    (ap (map pair_of) (nil_from_length c.args.fields.now c.in_default.ensures.cases)) x)
 
 pub cut_op-returns-in_err-outputs-in-Field-clause-gives : goal.cut_op-returns-in_err-outputs-in-Field-clause-gives
 cut_op-returns-in_err-outputs-in-Field-clause-gives t c = λ ops end after all x.
-    let w = c.from_residual-in_err-outputs-in-Field in
-    let r = err_from_is_err_and w.result w.ensures.1 in
-    let S = cores (schema_view c.args.plan.now.0) in
-    let p = c.args.plan.now.1 in
-    let k = rests_of c.args.wanted.now in
-    let g = governed p c.args.condition in
-    let fields = map pair_of c.args.fields.now in
     let it = c.in-Field in
-    let scope = scope_of c.args.env.now c.args.types.now in
-    let y = op_field S k c.args.levels end after all p g c.args.op ops fields c.args.cell.now it.field-0 it.ty it.slot scope
-    c.in-Some.field-0-0.now.0 (value_view c.in-Some.field-0-0.now.1) (map pair_of c.in-Some.due.now) it.is
-    (ap (map pair_of) c.in-Some.ensures.cases.0) x in
-    still _ w.result c.in_err-outputs-in-Field.field-0.0 (r.1 ∙ ap Err r.2)
+    let y = op_field (cores (schema_view c.args.plan.now.0)) (rests_of c.args.wanted.now) c.args.levels end after all c.args.plan.now.1
+    (governed c.args.plan.now.1 c.args.condition) c.args.op ops (map pair_of c.args.fields.now) c.args.cell.now it.field-0 it.ty it.slot
+    (scope_of c.args.env.now c.args.types.now) c.in-Some.field-0-0.now.0 (value_view c.in-Some.field-0-0.now.1)
+    (map pair_of c.in-Some.due.now) it.is (ap (map pair_of) c.in-Some.ensures.cases.0) x in
+    stopped _ c.from_residual-in_err-outputs-in-Field.result c.in_err-outputs-in-Field.field-0.0
+    c.from_residual-in_err-outputs-in-Field.ensures.1
     (c.in_err-outputs-in-Field.ensures y.first y.outs y.middle y.is_first y.lies)
 
 pub cut_op-returns-in_ok-outputs-in-Field-clause-gives : goal.cut_op-returns-in_ok-outputs-in-Field-clause-gives
 cut_op-returns-in_ok-outputs-in-Field-clause-gives t c = λ ops end after all x.
-    let S = cores (schema_view c.args.plan.now.0) in
-    let p = c.args.plan.now.1 in
-    let k = rests_of c.args.wanted.now in
-    let g = governed p c.args.condition in
-    let fields = map pair_of c.args.fields.now in
     let it = c.in-Field in
-    let scope = scope_of c.args.env.now c.args.types.now in
-    let y = op_field S k c.args.levels end after all p g c.args.op ops fields c.args.cell.now it.field-0 it.ty it.slot scope
-    c.in-Some.field-0-0.now.0 (value_view c.in-Some.field-0-0.now.1) (map pair_of c.in-Some.due.now) it.is
-    (ap (map pair_of) c.in-Some.ensures.cases.0) x in
+    let y = op_field (cores (schema_view c.args.plan.now.0)) (rests_of c.args.wanted.now) c.args.levels end after all c.args.plan.now.1
+    (governed c.args.plan.now.1 c.args.condition) c.args.op ops (map pair_of c.args.fields.now) c.args.cell.now it.field-0 it.ty it.slot
+    (scope_of c.args.env.now c.args.types.now) c.in-Some.field-0-0.now.0 (value_view c.in-Some.field-0-0.now.1)
+    (map pair_of c.in-Some.due.now) it.is (ap (map pair_of) c.in-Some.ensures.cases.0) x in
     let m = c.in_ok-outputs-in-Field.ensures y.first y.outs y.middle y.is_first y.lies in
     let here = ap (λ (z : Rests). cut_for z y.first) c.in_ok-here-in-Field.ensures in
     y.then (scope_of c.bind_outputs.new.env c.args.types.now) c.cut_field.new.cell
-    (bound_as c.flat-flat.result.now p it.ty it.slot _ y.outs scope _ c.flat-flat.ensures.lists m.0
-    (c.bind_outputs.ensures c.args.types.now))
+    (bound_as c.flat-flat.result.now c.args.plan.now.1 it.ty it.slot _ y.outs (scope_of c.args.env.now c.args.types.now) _
+    c.flat-flat.ensures.lists m.0 (c.bind_outputs.ensures c.args.types.now))
     (moves_as _ _ y.middle.refs c.args.cell.now c.cut_field.new.cell here m.1)
 
 -- ---- a declared type
 
 pub cut_declared-entry-entry-requires : goal.cut_declared-entry-entry-requires
 cut_declared-entry-entry-requires t c =
-    let s = schema_view c.args.plan.now.0 in
-    let f = c.flat-flat.result.now in
-    let plans = c.args.plan.now.2 in
-    let n = c.in-Some-named.c in
-    let below = planned_there s f plans n c.flat-flat.ensures.planned c.in-Some-named.ensures.there in
-    below
+    planned_there (schema_view c.args.plan.now.0) c.flat-flat.result.now c.args.plan.now.2 c.in-Some-named.c
+    c.flat-flat.ensures.planned c.in-Some-named.ensures.there
 
 pub cut_declared-inputs-requires : goal.cut_declared-inputs-requires
 cut_declared-inputs-requires t c =
-    let s = schema_view c.args.plan.now.0 in
-    let f = c.flat-flat.result.now in
-    let plans = c.args.plan.now.2 in
-    let n = c.in-Some-named.c in
-    let below = planned_there s f plans n c.flat-flat.ensures.planned c.in-Some-named.ensures.there in
-    below
+    planned_there (schema_view c.args.plan.now.0) c.flat-flat.result.now c.args.plan.now.2 c.in-Some-named.c
+    c.flat-flat.ensures.planned c.in-Some-named.ensures.there
 
 pub cut_declared-outputs-requires : goal.cut_declared-outputs-requires
 cut_declared-outputs-requires t c =
-    let s = schema_view c.args.plan.now.0 in
-    let f = c.flat-flat.result.now in
-    let plans = c.args.plan.now.2 in
-    let n = c.in-Some-named.c in
-    let below = planned_there s f plans n c.flat-flat.ensures.planned c.in-Some-named.ensures.there in
-    below
+    planned_there (schema_view c.args.plan.now.0) c.flat-flat.result.now c.args.plan.now.2 c.in-Some-named.c
+    c.flat-flat.ensures.planned c.in-Some-named.ensures.there
 
 pub cut_declared-values-requires : goal.cut_declared-values-requires
 cut_declared-values-requires t c =
-    let s = schema_view c.args.plan.now.0 in
-    let f = c.flat-flat.result.now in
-    let plans = c.args.plan.now.2 in
-    let n = c.in-Some-named.c in
-    let below = planned_there s f plans n c.flat-flat.ensures.planned c.in-Some-named.ensures.there in
-    outputs_plain s f plans n c.flat-flat.ensures.planned below c.outputs.result.now c.outputs.ensures
+    let low = planned_there (schema_view c.args.plan.now.0) c.flat-flat.result.now c.args.plan.now.2 c.in-Some-named.c
+    c.flat-flat.ensures.planned c.in-Some-named.ensures.there in
+    outputs_plain (schema_view c.args.plan.now.0) c.flat-flat.result.now c.args.plan.now.2 c.in-Some-named.c
+    c.flat-flat.ensures.planned low c.outputs.result.now c.outputs.ensures
 
 pub cut_declared-operations-ops-requires : goal.cut_declared-operations-ops-requires
 cut_declared-operations-ops-requires t c =
-    let s = schema_view c.args.plan.now.0 in
-    let f = c.flat-flat.result.now in
-    let plans = c.args.plan.now.2 in
-    let n = c.in-Some-named.c in
-    let below = planned_there s f plans n c.flat-flat.ensures.planned c.in-Some-named.ensures.there in
-    entry_range s f plans n c.flat-flat.ensures.planned below c.entry-entry.result c.entry-entry.ensures
+    let low = planned_there (schema_view c.args.plan.now.0) c.flat-flat.result.now c.args.plan.now.2 c.in-Some-named.c
+    c.flat-flat.ensures.planned c.in-Some-named.ensures.there in
+    entry_range (schema_view c.args.plan.now.0) c.flat-flat.result.now c.args.plan.now.2 c.in-Some-named.c
+    c.flat-flat.ensures.planned low c.entry-entry.result c.entry-entry.ensures
 
 pub cut_declared-cut_fields-requires : goal.cut_declared-cut_fields-requires
 cut_declared-cut_fields-requires t c =
-    let s = schema_view c.args.plan.now.0 in
     let f = c.flat-flat.result.now in
-    let plans = c.args.plan.now.2 in
-    let n = c.in-Some-named.c in
-    let below = planned_there s f plans n c.flat-flat.ensures.planned c.in-Some-named.ensures.there in
-    let sound = entry_sound s f plans n c.flat-flat.ensures.planned below c.entry-entry.result c.entry-entry.ensures in
+    let low = planned_there (schema_view c.args.plan.now.0) c.flat-flat.result.now c.args.plan.now.2 c.in-Some-named.c
+    c.flat-flat.ensures.planned c.in-Some-named.ensures.there in
+    let sound = entry_sound (schema_view c.args.plan.now.0) f c.args.plan.now.2 c.in-Some-named.c c.flat-flat.ensures.planned low
+    c.entry-entry.result c.entry-entry.ensures in
     let T : List PlanOp → Type 0 = λ z. OpsAreSound f (length f.types) z in
     let P : Flat → Type 0 = λ z. OpsAreSound z (length z.types) c.operations-ops.result.now in
     (omega (arith, c.decreases), subst P c.flat-flat.ensures.lists (subst T (sym c.operations-ops.ensures) sound))
 
 pub cut_declared-returns-in_default : goal.cut_declared-returns-in_default
 cut_declared-returns-in_default t c = λ d outs after is l.
-    let s = schema_view c.args.plan.now.0 in
-    let S = cores s in
-    let p = c.args.plan.now.1 in
-    let plans = c.args.plan.now.2 in
-    let k = rests_of c.args.wanted.now in
-    let name = c.args.parts.now.name in
-    let fields = map pair_of c.args.parts.now.fields in
-    let same_is = is_record d c.args.parts.now (c.args.levels + 1) is in
-    let args = closed_args c.args.args.now in
-    let x = shown_by S k c.args.levels c.args.name.now args name fields c.args.cell.now outs after d same_is l in
-    none-some x.shown (sym c.in_default.is ∙ x.called)
+    no_name (schema_view c.args.plan.now.0) (rests_of c.args.wanted.now) c.args.levels c.args.name.now
+    (closed_args c.args.args.now) c.args.parts.now c.args.cell.now outs after d is l (sym c.in_default.is)
 
 pub cut_declared-returns-in_default-named : goal.cut_declared-returns-in_default-named
 cut_declared-returns-in_default-named t c = λ d outs after is l.
-    let s = schema_view c.args.plan.now.0 in
-    let S = cores s in
-    let p = c.args.plan.now.1 in
-    let plans = c.args.plan.now.2 in
-    let k = rests_of c.args.wanted.now in
-    let name = c.args.parts.now.name in
-    let fields = map pair_of c.args.parts.now.fields in
-    let same_is = is_record d c.args.parts.now (c.args.levels + 1) is in
-    let args = closed_args c.args.args.now in
-    let x = shown_by S k c.args.levels c.args.name.now args name fields c.args.cell.now outs after d same_is l in
-    none-some x.at (c.in_default-named.ensures.only x.at x.declaration x.there
-    (found_named S k c.args.levels c.args.name.now args name fields c.args.cell.now outs after d x c.in-Some.shown c.in-Some.is))
+    no_constructor (schema_view c.args.plan.now.0) (rests_of c.args.wanted.now) c.args.levels c.args.name.now
+    (closed_args c.args.args.now) c.args.parts.now c.args.cell.now outs after d is l c.in-Some.shown c.in-Some.is c.in_default-named.ensures.only
 
 pub cut_declared-returns-in_default-2 : goal.cut_declared-returns-in_default-2
 cut_declared-returns-in_default-2 t c = λ d outs after is l.
-    let s = schema_view c.args.plan.now.0 in
-    let S = cores s in
-    let p = c.args.plan.now.1 in
-    let plans = c.args.plan.now.2 in
-    let k = rests_of c.args.wanted.now in
-    let name = c.args.parts.now.name in
-    let fields = map pair_of c.args.parts.now.fields in
-    let same_is = is_record d c.args.parts.now (c.args.levels + 1) is in
-    let args = closed_args c.args.args.now in
-    let x = shown_by S k c.args.levels c.args.name.now args name fields c.args.cell.now outs after d same_is l in
-    let P : Flat → Type 0 = λ z. Planned s z plans in
-    let planned = subst P c.flat-flat.ensures.lists c.flat-flat.ensures.planned in
-    let n = c.in-Some-named.c in
-    let below = planned_there s p plans n planned c.in-Some-named.ensures.there in
-    let same = same_Some n x.at (c.in-Some-named.ensures.only x.at x.declaration x.there
-    (found_named S k c.args.levels c.args.name.now args name fields c.args.cell.now outs after d x c.in-Some.shown c.in-Some.is)) in
-    let there = ap (slice_get S) same ∙ x.there in
-    fits_some s p plans n planned below c.entry-entry.result c.entry-entry.ensures c.inputs.result.now args c.inputs.ensures
-    (λ e at. let one = same_Some x.declaration e (sym there ∙ at) in
-    ap (λ (z : Declaration). is_some (fit_of z.core args)) (sym one) ∙ ap is_some x.fits)
-    (sym (ap (option_map slots_view) c.in_default-2.is) ∙ c.in_ok-slots.ensures)
+    no_fit (schema_view c.args.plan.now.0) (rests_of c.args.wanted.now) c.args.levels c.args.name.now
+    (closed_args c.args.args.now) c.args.parts.now c.args.cell.now outs after d is l c.in-Some.shown c.in-Some.is c.in-Some-named.c
+    c.in-Some-named.ensures.only c.flat-flat.result.now c.args.plan.now.1 c.args.plan.now.2 c.flat-flat.ensures.lists
+    c.flat-flat.ensures.planned c.in-Some-named.ensures.there c.entry-entry.result c.entry-entry.ensures c.inputs.result.now
+    c.inputs.ensures (sym (ap (option_map slots_view) c.in_default-2.is) ∙ c.in_ok-slots.ensures)
 
 pub cut_declared-returns-in_err-cut_fields : goal.cut_declared-returns-in_err-cut_fields
 cut_declared-returns-in_err-cut_fields t c = λ d outs after is l.
-    let w = c.from_residual-in_err-cut_fields in
-    let r = err_from_is_err_and w.result w.ensures.1 in
-    let s = schema_view c.args.plan.now.0 in
-    let S = cores s in
-    let p = c.args.plan.now.1 in
-    let plans = c.args.plan.now.2 in
-    let k = rests_of c.args.wanted.now in
-    let name = c.args.parts.now.name in
-    let fields = map pair_of c.args.parts.now.fields in
-    let same_is = is_record d c.args.parts.now (c.args.levels + 1) is in
-    let args = closed_args c.args.args.now in
-    let x = shown_by S k c.args.levels c.args.name.now args name fields c.args.cell.now outs after d same_is l in
-    let P : Flat → Type 0 = λ z. Planned s z plans in
-    let planned = subst P c.flat-flat.ensures.lists c.flat-flat.ensures.planned in
-    let n = c.in-Some-named.c in
-    let below = planned_there s p plans n planned c.in-Some-named.ensures.there in
-    let same = same_Some n x.at (c.in-Some-named.ensures.only x.at x.declaration x.there
-    (found_named S k c.args.levels c.args.name.now args name fields c.args.cell.now outs after d x c.in-Some.shown c.in-Some.is)) in
-    let there = ap (slice_get S) same ∙ x.there in
-    let e = c.entry-entry.result in
-    let ops_are = c.operations-ops.ensures ∙ ap (λ (z : Flat). range z.ops e.first e.count) c.flat-flat.ensures.lists in
-    let items = entry_ops s p plans n planned below e c.entry-entry.ensures x.declaration there c.operations-ops.result.now
-    ops_are in
     let slots = c.in-Some-2.slots in
-    let bound = ap (scope_of slots.numbers) c.as_slice-types.ensures.value
-    ∙ fit_binds s p plans n planned below e c.entry-entry.ensures x.declaration there c.inputs.result.now args
-    c.inputs.ensures (slots_view slots) x.scope (sym (ap (option_map slots_view) c.in-Some-2.is) ∙ c.in_ok-slots.ensures)
-    x.fits in
-    let all = c.args.cell.now.made.items ++ cut_for k d in
-    let D : Items → Scope → Type 0 = λ y z. Due S k c.args.levels x.end after all y z fields c.args.cell.now in
-    let here = subst (λ z. D z (scope_of slots.numbers c.as_slice-types.result.now)) (sym items) (subst (D _) (sym bound) x.due) in
-    let F : List (List ℕ × Value) → Type 0 = λ z. Due S k c.args.levels x.end after all
-    (items_in p (type_at p) None c.operations-ops.result.now) (scope_of slots.numbers c.as_slice-types.result.now)
-    (map pair_of z) c.args.cell.now in
-    let due = subst F (sym c.as_slice-fields.ensures) here in
-    still _ w.result c.in_err-cut_fields.field-0.0 (r.1 ∙ ap Err r.2) (c.in_err-cut_fields.ensures x.end after all due)
+    let x = entered (schema_view c.args.plan.now.0) (rests_of c.args.wanted.now) c.args.levels c.args.name.now
+    (closed_args c.args.args.now) c.args.parts.now c.args.cell.now outs after d is l c.in-Some.shown c.in-Some.is c.in-Some-named.c
+    c.in-Some-named.ensures.only c.flat-flat.result.now c.args.plan.now.1 c.args.plan.now.2 c.flat-flat.ensures.lists
+    c.flat-flat.ensures.planned c.in-Some-named.ensures.there c.entry-entry.result c.entry-entry.ensures c.inputs.result.now
+    c.inputs.ensures slots (sym (ap (option_map slots_view) c.in-Some-2.is) ∙ c.in_ok-slots.ensures)
+    c.as_slice-types.result.now c.as_slice-types.ensures.value c.operations-ops.result.now c.operations-ops.ensures
+    c.as_slice-fields.result.now c.as_slice-fields.ensures in
+    stopped _ c.from_residual-in_err-cut_fields.result c.in_err-cut_fields.field-0.0 c.from_residual-in_err-cut_fields.ensures.1 (c.in_err-cut_fields.ensures x.end after _ x.due)
 
 pub cut_declared-returns-in-None : goal.cut_declared-returns-in-None
 cut_declared-returns-in-None t c = λ d outs after is l.
-    let s = schema_view c.args.plan.now.0 in
-    let S = cores s in
-    let p = c.args.plan.now.1 in
-    let plans = c.args.plan.now.2 in
-    let k = rests_of c.args.wanted.now in
-    let name = c.args.parts.now.name in
-    let fields = map pair_of c.args.parts.now.fields in
-    let same_is = is_record d c.args.parts.now (c.args.levels + 1) is in
-    let args = closed_args c.args.args.now in
-    let x = shown_by S k c.args.levels c.args.name.now args name fields c.args.cell.now outs after d same_is l in
-    let P : Flat → Type 0 = λ z. Planned s z plans in
-    let planned = subst P c.flat-flat.ensures.lists c.flat-flat.ensures.planned in
-    let n = c.in-Some-named.c in
-    let below = planned_there s p plans n planned c.in-Some-named.ensures.there in
-    let same = same_Some n x.at (c.in-Some-named.ensures.only x.at x.declaration x.there
-    (found_named S k c.args.levels c.args.name.now args name fields c.args.cell.now outs after d x c.in-Some.shown c.in-Some.is)) in
-    let there = ap (slice_get S) same ∙ x.there in
-    let e = c.entry-entry.result in
-    let ops_are = c.operations-ops.ensures ∙ ap (λ (z : Flat). range z.ops e.first e.count) c.flat-flat.ensures.lists in
-    let items = entry_ops s p plans n planned below e c.entry-entry.ensures x.declaration there c.operations-ops.result.now
-    ops_are in
     let slots = c.in-Some-2.slots in
-    let bound = ap (scope_of slots.numbers) c.as_slice-types.ensures.value
-    ∙ fit_binds s p plans n planned below e c.entry-entry.ensures x.declaration there c.inputs.result.now args
-    c.inputs.ensures (slots_view slots) x.scope (sym (ap (option_map slots_view) c.in-Some-2.is) ∙ c.in_ok-slots.ensures)
-    x.fits in
-    let all = c.args.cell.now.made.items ++ cut_for k d in
-    let D : Items → Scope → Type 0 = λ y z. Due S k c.args.levels x.end after all y z fields c.args.cell.now in
-    let here = subst (λ z. D z (scope_of slots.numbers c.as_slice-types.result.now)) (sym items) (subst (D _) (sym bound) x.due) in
-    let F : List (List ℕ × Value) → Type 0 = λ z. Due S k c.args.levels x.end after all
-    (items_in p (type_at p) None c.operations-ops.result.now) (scope_of slots.numbers c.as_slice-types.result.now)
-    (map pair_of z) c.args.cell.now in
-    let due = subst F (sym c.as_slice-fields.ensures) here in
-    let outputs = c.outputs.result.now in
-    let m = c.in_ok-cut_fields.ensures x.end after all due in
-    let O : Flat → Type 0 = λ z. None ≡ values_in (map (expr_at z) outputs)
-    (scope_of c.cut_fields.new.env c.as_slice-types.result.now) in
-    let given = outputs_are (map (expr_at p) outputs) x.declaration.core.outputs
-    (scope_of c.cut_fields.new.env c.as_slice-types.result.now) x.end None outs
-    (entry_outputs s p plans n planned below e c.entry-entry.ensures x.declaration there outputs c.outputs.ensures)
-    (subst O c.flat-flat.ensures.lists (sym c.in-None.is ∙ c.in_ok-values.ensures c.as_slice-types.result.now)) m.0 x.outputs in
-    none-some outs given
+    let x = entered (schema_view c.args.plan.now.0) (rests_of c.args.wanted.now) c.args.levels c.args.name.now
+    (closed_args c.args.args.now) c.args.parts.now c.args.cell.now outs after d is l c.in-Some.shown c.in-Some.is c.in-Some-named.c
+    c.in-Some-named.ensures.only c.flat-flat.result.now c.args.plan.now.1 c.args.plan.now.2 c.flat-flat.ensures.lists
+    c.flat-flat.ensures.planned c.in-Some-named.ensures.there c.entry-entry.result c.entry-entry.ensures c.inputs.result.now
+    c.inputs.ensures slots (sym (ap (option_map slots_view) c.in-Some-2.is) ∙ c.in_ok-slots.ensures)
+    c.as_slice-types.result.now c.as_slice-types.ensures.value c.operations-ops.result.now c.operations-ops.ensures
+    c.as_slice-fields.result.now c.as_slice-fields.ensures in
+    let m = c.in_ok-cut_fields.ensures x.end after _ x.due in
+    none-some outs (x.gives c.cut_fields.new.env c.outputs.result.now None c.outputs.ensures
+    (sym c.in-None.is ∙ c.in_ok-values.ensures c.as_slice-types.result.now) m.0)
 
 pub cut_declared-returns : goal.cut_declared-returns
 cut_declared-returns t c = λ d outs after is l.
-    let s = schema_view c.args.plan.now.0 in
-    let S = cores s in
-    let p = c.args.plan.now.1 in
-    let plans = c.args.plan.now.2 in
-    let k = rests_of c.args.wanted.now in
-    let name = c.args.parts.now.name in
-    let fields = map pair_of c.args.parts.now.fields in
-    let same_is = is_record d c.args.parts.now (c.args.levels + 1) is in
-    let args = closed_args c.args.args.now in
-    let x = shown_by S k c.args.levels c.args.name.now args name fields c.args.cell.now outs after d same_is l in
-    let P : Flat → Type 0 = λ z. Planned s z plans in
-    let planned = subst P c.flat-flat.ensures.lists c.flat-flat.ensures.planned in
-    let n = c.in-Some-named.c in
-    let below = planned_there s p plans n planned c.in-Some-named.ensures.there in
-    let same = same_Some n x.at (c.in-Some-named.ensures.only x.at x.declaration x.there
-    (found_named S k c.args.levels c.args.name.now args name fields c.args.cell.now outs after d x c.in-Some.shown c.in-Some.is)) in
-    let there = ap (slice_get S) same ∙ x.there in
-    let e = c.entry-entry.result in
-    let ops_are = c.operations-ops.ensures ∙ ap (λ (z : Flat). range z.ops e.first e.count) c.flat-flat.ensures.lists in
-    let items = entry_ops s p plans n planned below e c.entry-entry.ensures x.declaration there c.operations-ops.result.now
-    ops_are in
     let slots = c.in-Some-2.slots in
-    let bound = ap (scope_of slots.numbers) c.as_slice-types.ensures.value
-    ∙ fit_binds s p plans n planned below e c.entry-entry.ensures x.declaration there c.inputs.result.now args
-    c.inputs.ensures (slots_view slots) x.scope (sym (ap (option_map slots_view) c.in-Some-2.is) ∙ c.in_ok-slots.ensures)
-    x.fits in
-    let all = c.args.cell.now.made.items ++ cut_for k d in
-    let D : Items → Scope → Type 0 = λ y z. Due S k c.args.levels x.end after all y z fields c.args.cell.now in
-    let here = subst (λ z. D z (scope_of slots.numbers c.as_slice-types.result.now)) (sym items) (subst (D _) (sym bound) x.due) in
-    let F : List (List ℕ × Value) → Type 0 = λ z. Due S k c.args.levels x.end after all
-    (items_in p (type_at p) None c.operations-ops.result.now) (scope_of slots.numbers c.as_slice-types.result.now)
-    (map pair_of z) c.args.cell.now in
-    let due = subst F (sym c.as_slice-fields.ensures) here in
-    let outputs = c.outputs.result.now in
-    let m = c.in_ok-cut_fields.ensures x.end after all due in
-    let O : Flat → Type 0 = λ z. Some c.in-Some-3.outputs ≡ values_in (map (expr_at z) outputs)
-    (scope_of c.cut_fields.new.env c.as_slice-types.result.now) in
-    let given = outputs_are (map (expr_at p) outputs) x.declaration.core.outputs
-    (scope_of c.cut_fields.new.env c.as_slice-types.result.now) x.end (Some c.in-Some-3.outputs) outs
-    (entry_outputs s p plans n planned below e c.entry-entry.ensures x.declaration there outputs c.outputs.ensures)
-    (subst O c.flat-flat.ensures.lists (sym c.in-Some-3.is ∙ c.in_ok-values.ensures c.as_slice-types.result.now)) m.0 x.outputs in
-    (same_Some c.in-Some-3.outputs outs given, (m.1, m.2))
+    let x = entered (schema_view c.args.plan.now.0) (rests_of c.args.wanted.now) c.args.levels c.args.name.now
+    (closed_args c.args.args.now) c.args.parts.now c.args.cell.now outs after d is l c.in-Some.shown c.in-Some.is c.in-Some-named.c
+    c.in-Some-named.ensures.only c.flat-flat.result.now c.args.plan.now.1 c.args.plan.now.2 c.flat-flat.ensures.lists
+    c.flat-flat.ensures.planned c.in-Some-named.ensures.there c.entry-entry.result c.entry-entry.ensures c.inputs.result.now
+    c.inputs.ensures slots (sym (ap (option_map slots_view) c.in-Some-2.is) ∙ c.in_ok-slots.ensures)
+    c.as_slice-types.result.now c.as_slice-types.ensures.value c.operations-ops.result.now c.operations-ops.ensures
+    c.as_slice-fields.result.now c.as_slice-fields.ensures in
+    let m = c.in_ok-cut_fields.ensures x.end after _ x.due in
+    let outputs = c.in-Some-3.outputs in (
+      same_Some outputs outs (x.gives c.cut_fields.new.env c.outputs.result.now (Some outputs) c.outputs.ensures
+          (sym c.in-Some-3.is ∙ c.in_ok-values.ensures c.as_slice-types.result.now) m.0),
+      (m.1, m.2),
+    )
 
 -- ---- edges
 
@@ -836,116 +519,53 @@ cut_edge-returns-in_default t c = λ q e n outs after few is l.
 
 pub cut_edge-returns-in_err-cut_value : goal.cut_edge-returns-in_err-cut_value
 cut_edge-returns-in_err-cut_value t c = λ q e n outs after few is l.
-    let w = c.from_residual-in_err-cut_value in
-    let r = err_from_is_err_and w.result w.ensures.1 in
-    let S = cores (schema_view c.args.plan.now.0) in
-    let ty = type_view c.args.inner.now in
-    let k = rests_of c.args.wanted.now in
-    let pairs = c.args.pairs.now in
     let first = c.in-Some.field-0-0.now in
-    let lf = leaf_seen q e first pairs c.in-Some.others.now c.args.levels is c.in-Some.ensures.cases.0
-    (none_last c.in-Some.others.now c.in_default-last.ensures.value) in
-    let ll = leaf_lies S e lf.label lf.laid n ty c.args.cell.now.left outs after lf.is l in
-    still _ w.result c.in_err-cut_value.field-0.0 (r.1 ∙ ap Err r.2)
-    (c.in_err-cut_value.ensures lf.laid ll.outs after lf.holds ll.lies)
+    let x = leaf_at (cores (schema_view c.args.plan.now.0)) q e n (type_view c.args.inner.now) c.args.levels first c.args.pairs.now
+    c.in-Some.others.now c.args.cell.now.left outs after is l c.in-Some.ensures.cases.0 c.in_default-last.ensures.value in
+    stopped _ c.from_residual-in_err-cut_value.result c.in_err-cut_value.field-0.0 c.from_residual-in_err-cut_value.ensures.1
+    (c.in_err-cut_value.ensures x.laid x.outs after x.holds x.lies)
 
 pub cut_edge-returns-in_default-last : goal.cut_edge-returns-in_default-last
 cut_edge-returns-in_default-last t c = λ q e n outs after few is l.
-    let S = cores (schema_view c.args.plan.now.0) in
-    let ty = type_view c.args.inner.now in
-    let k = rests_of c.args.wanted.now in
-    let pairs = c.args.pairs.now in
     let first = c.in-Some.field-0-0.now in
-    let lf = leaf_seen q e first pairs c.in-Some.others.now c.args.levels is c.in-Some.ensures.cases.0
-    (none_last c.in-Some.others.now c.in_default-last.ensures.value) in
-    let ll = leaf_lies S e lf.label lf.laid n ty c.args.cell.now.left outs after lf.is l in
-    let m = c.in_ok-cut_value.ensures lf.laid ll.outs after lf.holds ll.lies in
-    moves_as _ (cut_edge_for k q e) after.refs c.args.cell.now c.cut_value.new.cell
-    (leaf_made k (rests_of c.in_ok-wanted.wanted) q lf.label first.0 e lf.laid lf.is lf.key c.in_ok-wanted.ensures) m.1
+    let x = leaf_at (cores (schema_view c.args.plan.now.0)) q e n (type_view c.args.inner.now) c.args.levels first c.args.pairs.now
+    c.in-Some.others.now c.args.cell.now.left outs after is l c.in-Some.ensures.cases.0 c.in_default-last.ensures.value in
+    let m = c.in_ok-cut_value.ensures x.laid x.outs after x.holds x.lies in
+    moves_as _ (cut_edge_for (rests_of c.args.wanted.now) q e) after.refs c.args.cell.now c.cut_value.new.cell
+    (leaf_made (rests_of c.args.wanted.now) (rests_of c.in_ok-wanted.wanted) q x.label first.0 e x.laid x.is_leaf x.key
+    c.in_ok-wanted.ensures) m.1
 
 pub cut_edge-returns-then-left-eq0 : goal.cut_edge-returns-then-left-eq0
 cut_edge-returns-then-left-eq0 t c = λ q e n outs after few is l.
-    let S = cores (schema_view c.args.plan.now.0) in
-    let ty = type_view c.args.inner.now in
-    let k = rests_of c.args.wanted.now in
-    let pairs = c.args.pairs.now in
-    let first = c.in-Some.field-0-0.now in
-    let last = c.in-Some-last.field-0.now in
-    let others = c.in-Some.others.now in
-    let fk = fork_seen q e first last pairs others c.args.levels (length others - 1) is c.in-Some.ensures.cases.0
-    (sym c.in-Some-last.ensures.value) in
-    let fl = fork_lies S e fk.label fk.zero_cell fk.zeros fk.one_cell fk.ones n ty c.args.cell.now.left outs after fk.is l in
-    let long = fl.long in
-    let none = c.if-left-eq0.true in
-    absurd (omega (arith, long, few, none))
+    absurd (bits_left (cores (schema_view c.args.plan.now.0)) q e n (type_view c.args.inner.now) c.args.left c.args.levels
+    c.in-Some.field-0-0.now c.in-Some-last.field-0.now c.args.pairs.now c.in-Some.others.now c.args.cell.now.left outs after few
+    is l c.in-Some.ensures.cases.0 (sym c.in-Some-last.ensures.value) c.if-left-eq0.true)
 
 pub cut_edge-returns-in_err-cut_branch : goal.cut_edge-returns-in_err-cut_branch
 cut_edge-returns-in_err-cut_branch t c = λ q e n outs after few is l.
-    let w = c.from_residual-in_err-cut_branch in
-    let r = err_from_is_err_and w.result w.ensures.1 in
-    let S = cores (schema_view c.args.plan.now.0) in
-    let ty = type_view c.args.inner.now in
-    let k = rests_of c.args.wanted.now in
-    let pairs = c.args.pairs.now in
-    let first = c.in-Some.field-0-0.now in
-    let last = c.in-Some-last.field-0.now in
-    let others = c.in-Some.others.now in
-    let fk = fork_seen q e first last pairs others c.args.levels (length others - 1) is c.in-Some.ensures.cases.0
-    (sym c.in-Some-last.ensures.value) in
-    let fl = fork_lies S e fk.label fk.zero_cell fk.zeros fk.one_cell fk.ones n ty c.args.cell.now.left outs after fk.is l in
-    let b0 = first_begins q fk.label fk.zeros fk.ones pairs others c.args.levels first fk.forked c.in-Some.ensures.cases.0 in
-    let b1 = last_begins q fk.label fk.zeros fk.ones pairs others c.args.levels first last fk.forked
-    c.in-Some.ensures.cases.0 (sym c.in-Some-last.ensures.value) in
-    let place = parts_at q fk.label first.0 last.0 c.common-common.result b0 b1 c.common-common.ensures.is in
-    let turned = turned_at q fk.label fk.zeros fk.ones pairs c.args.levels c.common-common.result c.turn.result fk.forked place
-    c.turn.ensures.turns in
-    let less : fl.less ≤ c.args.left - 1 = (let long = fl.long in omega (arith, long, few)) in
-    let x0 = q ++ (fk.label ++ 0 ∷ []) in
-    let x1 = q ++ (fk.label ++ 1 ∷ []) in
-    let one = zero_branch S q fk.label fk.zero_cell fk.zeros fk.one_cell fk.ones n ty first.0 c.args.cell.now.left after.refs
-    fl b0 in
-    let here = c.in_err-cut_branch.ensures x0 fk.zeros fl.less fk.zero_cell (fk.one_cell ∷ after.refs) less
-    (one_more q fk.label 0 c.common-common.result place)
-    (zeros_at q fk.label fk.zeros fk.ones pairs c.split_at.result.0.now c.args.levels c.turn.result fk.forked turned
-    c.split_at.ensures.front) one in
-    still _ w.result c.in_err-cut_branch.field-0.0 (r.1 ∙ ap Err r.2) here
+    let x = at_fork (cores (schema_view c.args.plan.now.0)) q e n (type_view c.args.inner.now) c.args.left c.args.levels
+    c.in-Some.field-0-0.now c.in-Some-last.field-0.now c.args.pairs.now c.in-Some.others.now c.args.cell.now.left outs after few
+    is l c.in-Some.ensures.cases.0 (sym c.in-Some-last.ensures.value) c.common-common.result c.turn.result
+    c.split_at.result.0.now c.split_at.result.1.now c.common-common.ensures.is c.turn.ensures.turns c.split_at.ensures.front
+    c.split_at.ensures.back in
+    let zeros = q ++ (x.label ++ 0 ∷ []) in
+    stopped _ c.from_residual-in_err-cut_branch.result c.in_err-cut_branch.field-0.0
+    c.from_residual-in_err-cut_branch.ensures.1 (c.in_err-cut_branch.ensures zeros x.zero x.less x.zero_cell (x.one_cell ∷ after.refs) x.fewer x.zero_end x.zero_is x.zero_at)
 
 pub cut_edge-returns : goal.cut_edge-returns
 cut_edge-returns t c = λ q e n outs after few is l.
-    let S = cores (schema_view c.args.plan.now.0) in
-    let ty = type_view c.args.inner.now in
-    let k = rests_of c.args.wanted.now in
-    let pairs = c.args.pairs.now in
-    let first = c.in-Some.field-0-0.now in
-    let last = c.in-Some-last.field-0.now in
-    let others = c.in-Some.others.now in
-    let fk = fork_seen q e first last pairs others c.args.levels (length others - 1) is c.in-Some.ensures.cases.0
-    (sym c.in-Some-last.ensures.value) in
-    let fl = fork_lies S e fk.label fk.zero_cell fk.zeros fk.one_cell fk.ones n ty c.args.cell.now.left outs after fk.is l in
-    let b0 = first_begins q fk.label fk.zeros fk.ones pairs others c.args.levels first fk.forked c.in-Some.ensures.cases.0 in
-    let b1 = last_begins q fk.label fk.zeros fk.ones pairs others c.args.levels first last fk.forked
-    c.in-Some.ensures.cases.0 (sym c.in-Some-last.ensures.value) in
-    let place = parts_at q fk.label first.0 last.0 c.common-common.result b0 b1 c.common-common.ensures.is in
-    let turned = turned_at q fk.label fk.zeros fk.ones pairs c.args.levels c.common-common.result c.turn.result fk.forked place
-    c.turn.ensures.turns in
-    let less : fl.less ≤ c.args.left - 1 = (let long = fl.long in omega (arith, long, few)) in
-    let x0 = q ++ (fk.label ++ 0 ∷ []) in
-    let x1 = q ++ (fk.label ++ 1 ∷ []) in
-    let one = zero_branch S q fk.label fk.zero_cell fk.zeros fk.one_cell fk.ones n ty first.0 c.args.cell.now.left after.refs
-    fl b0 in
-    let here = c.in_ok-cut_branch.ensures x0 fk.zeros fl.less fk.zero_cell (fk.one_cell ∷ after.refs) less
-    (one_more q fk.label 0 c.common-common.result place)
-    (zeros_at q fk.label fk.zeros fk.ones pairs c.split_at.result.0.now c.args.levels c.turn.result fk.forked turned
-    c.split_at.ensures.front) one in
-    let two = one_branch S q fk.label fk.zero_cell fk.zeros fk.one_cell fk.ones n ty last.0 c.args.cell.now.left
-    c.cut_branch.new.cell.left after.refs fl here.0 b1 in
-    let there = c.cut_branch-2.ensures x1 fk.ones fl.less fk.one_cell after.refs less
-    (one_more q fk.label 1 c.common-common.result place)
-    (ones_at q fk.label fk.zeros fk.ones pairs c.split_at.result.1.now c.args.levels c.turn.result fk.forked turned
-    c.split_at.ensures.back) two in
+    let x = at_fork (cores (schema_view c.args.plan.now.0)) q e n (type_view c.args.inner.now) c.args.left c.args.levels
+    c.in-Some.field-0-0.now c.in-Some-last.field-0.now c.args.pairs.now c.in-Some.others.now c.args.cell.now.left outs after few
+    is l c.in-Some.ensures.cases.0 (sym c.in-Some-last.ensures.value) c.common-common.result c.turn.result
+    c.split_at.result.0.now c.split_at.result.1.now c.common-common.ensures.is c.turn.ensures.turns c.split_at.ensures.front
+    c.split_at.ensures.back in
+    let zeros = q ++ (x.label ++ 0 ∷ []) in
+    let here = c.in_ok-cut_branch.ensures zeros x.zero x.less x.zero_cell (x.one_cell ∷ after.refs) x.fewer x.zero_end x.zero_is x.zero_at in
+    let there = c.cut_branch-2.ensures (q ++ (x.label ++ 1 ∷ [])) x.one x.less x.one_cell after.refs x.fewer x.one_end x.one_is
+    (x.one_at c.cut_branch.new.cell.left here.0) in
     gives_as _ _ c.cut_branch-2.result
-    (λ z m. fork_moves k q fk.label e fk.zero_cell fk.zeros fk.one_cell fk.ones (fk.one_cell ∷ after.refs) after.refs
-    c.args.cell.now c.cut_branch.new.cell c.cut_branch-2.new.cell fk.is here m) there
+    (λ z m. fork_moves (rests_of c.args.wanted.now) q x.label e x.zero_cell x.zero x.one_cell x.one (x.one_cell ∷ after.refs)
+    after.refs c.args.cell.now c.cut_branch.new.cell c.cut_branch-2.new.cell x.is_fork here m) there
 
 pub cut_root_edge-returns-in_default : goal.cut_root_edge-returns-in_default
 cut_root_edge-returns-in_default t c = λ d n outs after few is l.
@@ -966,10 +586,9 @@ cut_root_edge-returns t c = λ d n outs after few is l.
 
 pub cut_value-returns-in-Number : goal.cut_value-returns-in-Number
 cut_value-returns-in-Number t c = λ d outs after is l.
-    let S = cores (schema_view c.args.plan.now.0) in
     let number = c.in-Number.number in
-    number_gives S (type_view c.args.ty.now) (rests_of c.args.wanted.now) c.args.levels c.args.cell.now outs after d
-    number.negative number.size c.own_output.result
+    number_gives (cores (schema_view c.args.plan.now.0)) (type_view c.args.ty.now) (rests_of c.args.wanted.now) c.args.levels
+    c.args.cell.now outs after d number.negative number.size c.own_output.result
     (is_number d c.args.value.now c.args.levels number c.in-Number.is is) l c.own_output.ensures
 
 pub cut_value-returns-in-Bits : goal.cut_value-returns-in-Bits
@@ -1027,11 +646,10 @@ cut_held-returns-in_default t c = λ d outs after is l.
 
 pub cut_held-returns-in_err-cut_ref : goal.cut_held-returns-in_err-cut_ref
 cut_held-returns-in_err-cut_ref t c = λ d outs after is l.
-    let r = err_from_is_err_and c.from_residual.result c.from_residual.ensures.1 in
     let x = at_reference (cores (schema_view c.args.plan.now.0)) d (type_view c.args.ty.now) (c.args.levels + 1)
     c.args.cell.now.left outs after l (type_view c.in-Some.inner.now)
     (ap (option_map _) (sym c.in-Some.is) ∙ c.referred.ensures) in
-    still _ c.from_residual.result c.in_err-cut_ref.field-0.0 (r.1 ∙ ap Err r.2) (c.in_err-cut_ref.ensures d outs after is x.lies)
+    stopped _ c.from_residual.result c.in_err-cut_ref.field-0.0 c.from_residual.ensures.1 (c.in_err-cut_ref.ensures d outs after is x.lies)
 
 pub cut_held-returns : goal.cut_held-returns
 cut_held-returns t c = λ d outs after is l.
@@ -1049,29 +667,20 @@ cut_list-returns-in_default t c = λ d outs after is l.
 
 pub cut_list-returns-in_err-cut_items : goal.cut_list-returns-in_err-cut_items
 cut_list-returns-in_err-cut_items t c = λ d outs after is l.
-    let r = err_from_is_err_and c.from_residual.result c.from_residual.ensures.1 in
-    let S = cores (schema_view c.args.plan.now.0) in
-    let k = rests_of c.args.wanted.now in
-    let n = c.in-Some.count.now in
-    let inner = type_view c.in-Some.inner.now in
-    let x = at_repetition S d (type_view c.args.ty.now) (c.args.levels + 1) c.args.cell.now.left outs after l n inner
-    (ap (option_map _) (sym c.in-Some.is) ∙ c.repeated.ensures) in
-    let few : n ≤ 4294967295 = omega (arith, c.count_of-count.ensures.same, c.count_of-count.ensures.small) in
-    let y = list_due S k c.args.levels n inner outs after (map value_view c.args.items.now) c.args.cell.now d few is x.lies in
-    still _ c.from_residual.result c.in_err-cut_items.field-0.0 (r.1 ∙ ap Err r.2)
-    (c.in_err-cut_items.ensures after (c.args.cell.now.made.items ++ cut_for k d) y.due)
+    let few : c.in-Some.count.now ≤ 4294967295 = omega (arith, c.count_of-count.ensures.same, c.count_of-count.ensures.small) in
+    let x = list_at (cores (schema_view c.args.plan.now.0)) (type_view c.args.ty.now) c.args.levels c.args.cell.now outs after d l
+    c.in-Some.count.now (type_view c.in-Some.inner.now) (rests_of c.args.wanted.now) (map value_view c.args.items.now) is
+    (ap (option_map _) (sym c.in-Some.is) ∙ c.repeated.ensures) few in
+    stopped _ c.from_residual.result c.in_err-cut_items.field-0.0 c.from_residual.ensures.1
+    (c.in_err-cut_items.ensures after _ x.due)
 
 pub cut_list-returns : goal.cut_list-returns
 cut_list-returns t c = λ d outs after is l.
-    let S = cores (schema_view c.args.plan.now.0) in
-    let k = rests_of c.args.wanted.now in
-    let n = c.in-Some.count.now in
-    let inner = type_view c.in-Some.inner.now in
-    let x = at_repetition S d (type_view c.args.ty.now) (c.args.levels + 1) c.args.cell.now.left outs after l n inner
-    (ap (option_map _) (sym c.in-Some.is) ∙ c.repeated.ensures) in
-    let few : n ≤ 4294967295 = omega (arith, c.count_of-count.ensures.same, c.count_of-count.ensures.small) in
-    let y = list_due S k c.args.levels n inner outs after (map value_view c.args.items.now) c.args.cell.now d few is x.lies in
-    (y.none, c.in_ok-cut_items.ensures after (c.args.cell.now.made.items ++ cut_for k d) y.due)
+    let few : c.in-Some.count.now ≤ 4294967295 = omega (arith, c.count_of-count.ensures.same, c.count_of-count.ensures.small) in
+    let x = list_at (cores (schema_view c.args.plan.now.0)) (type_view c.args.ty.now) c.args.levels c.args.cell.now outs after d l
+    c.in-Some.count.now (type_view c.in-Some.inner.now) (rests_of c.args.wanted.now) (map value_view c.args.items.now) is
+    (ap (option_map _) (sym c.in-Some.is) ∙ c.repeated.ensures) few in
+    (x.none, c.in_ok-cut_items.ensures after _ x.due)
 
 pub cut_map-returns-in_default : goal.cut_map-returns-in_default
 cut_map-returns-in_default t c = λ d hidden outs after is l.
@@ -1079,30 +688,22 @@ cut_map-returns-in_default t c = λ d hidden outs after is l.
 
 pub cut_map-returns-in_err-cut_edge : goal.cut_map-returns-in_err-cut_edge
 cut_map-returns-in_err-cut_edge t c = λ d hidden outs after is l.
-    let r = err_from_is_err_and c.from_residual.result c.from_residual.ensures.1 in
-    let S = cores (schema_view c.args.plan.now.0) in
     let n = c.in-Some.field-0-0.now in
-    let inner = type_view c.in-Some.inner.now in
-    let x = at_map_here S d (type_view c.args.ty.now) (c.args.levels + 1) c.args.cell.now.left outs after l n inner
+    let x = here_at (cores (schema_view c.args.plan.now.0)) (type_view c.args.ty.now) c.args.levels c.args.cell.now outs after d l n
+    (type_view c.in-Some.inner.now) (pairs_of (map pair_of c.args.pairs.now)) hidden is
     (ap (option_map _) (sym c.in-Some.is) ∙ c.mapped_here.ensures) in
-    let y = dict_lies S c.args.levels n inner c.args.cell.now.left outs after (pairs_of (map pair_of c.args.pairs.now)) hidden d is
-    x.lies in
-    still _ c.from_residual.result c.in_err-cut_edge.field-0.0 (r.1 ∙ ap Err r.2)
-    (c.in_err-cut_edge.ensures [] y.edge n [] after (few_bits n x.wide) y.is_edge y.lies)
+    stopped _ c.from_residual.result c.in_err-cut_edge.field-0.0 c.from_residual.ensures.1
+    (c.in_err-cut_edge.ensures [] x.dict.edge n [] after x.few x.dict.is_edge x.dict.lies)
 
 pub cut_map-returns : goal.cut_map-returns
 cut_map-returns t c = λ d hidden outs after is l.
-    let S = cores (schema_view c.args.plan.now.0) in
-    let k = rests_of c.args.wanted.now in
     let n = c.in-Some.field-0-0.now in
-    let inner = type_view c.in-Some.inner.now in
-    let x = at_map_here S d (type_view c.args.ty.now) (c.args.levels + 1) c.args.cell.now.left outs after l n inner
-    (ap (option_map _) (sym c.in-Some.is) ∙ c.mapped_here.ensures) in
-    let y = dict_lies S c.args.levels n inner c.args.cell.now.left outs after (pairs_of (map pair_of c.args.pairs.now)) hidden d is
-    x.lies in (
-      y.none,
-      moves_as _ (cut_for k d) after.refs c.args.cell.now c.cut_edge.new.cell (y.made k)
-          (c.in_ok-cut_edge.ensures [] y.edge n [] after (few_bits n x.wide) y.is_edge y.lies),
+    let x = here_at (cores (schema_view c.args.plan.now.0)) (type_view c.args.ty.now) c.args.levels c.args.cell.now outs after d l n
+    (type_view c.in-Some.inner.now) (pairs_of (map pair_of c.args.pairs.now)) hidden is
+    (ap (option_map _) (sym c.in-Some.is) ∙ c.mapped_here.ensures) in (
+      x.dict.none,
+      moves_as _ (cut_for (rests_of c.args.wanted.now) d) after.refs c.args.cell.now c.cut_edge.new.cell
+          (x.dict.made (rests_of c.args.wanted.now)) (c.in_ok-cut_edge.ensures [] x.dict.edge n [] after x.few x.dict.is_edge x.dict.lies),
     )
 
 pub cut_map_under-returns-in_default : goal.cut_map_under-returns-in_default
@@ -1113,27 +714,20 @@ cut_map_under-returns-in_default t c = λ d hidden outs after is here l.
 
 pub cut_map_under-returns-in_err-cut_root_edge : goal.cut_map_under-returns-in_err-cut_root_edge
 cut_map_under-returns-in_err-cut_root_edge t c = λ d hidden outs after is here l.
-    let r = err_from_is_err_and c.from_residual.result c.from_residual.ensures.1 in
-    let S = cores (schema_view c.args.plan.now.0) in
     let n = c.in-Some.field-0-0.now in
-    let inner = type_view c.in-Some.inner.now in
-    let x = at_map_under S d (type_view c.args.ty.now) (c.args.levels + 1) c.args.cell.now.left outs after l n inner
+    let x = under_at (cores (schema_view c.args.plan.now.0)) (type_view c.args.ty.now) c.args.levels c.args.cell.now outs after d l n
+    (type_view c.in-Some.inner.now) (pairs_of (map pair_of c.args.pairs.now)) hidden is
     (ap (option_map _) (sym c.in-Some.is) ∙ c.mapped_under.ensures) in
-    let y = map_lies S (c.args.levels + 1) n inner c.args.cell.now.left outs after (pairs_of (map pair_of c.args.pairs.now)) hidden
-    d is x.lies in
-    still _ c.from_residual.result c.in_err-cut_root_edge.field-0.0 (r.1 ∙ ap Err r.2)
-    (c.in_err-cut_root_edge.ensures d n outs after (few_bits n x.wide) y.is x.lies)
+    stopped _ c.from_residual.result c.in_err-cut_root_edge.field-0.0 c.from_residual.ensures.1
+    (c.in_err-cut_root_edge.ensures d n outs after x.few x.is_shown x.lies)
 
 pub cut_map_under-returns : goal.cut_map_under-returns
 cut_map_under-returns t c = λ d hidden outs after is here l.
-    let S = cores (schema_view c.args.plan.now.0) in
     let n = c.in-Some.field-0-0.now in
-    let inner = type_view c.in-Some.inner.now in
-    let x = at_map_under S d (type_view c.args.ty.now) (c.args.levels + 1) c.args.cell.now.left outs after l n inner
+    let x = under_at (cores (schema_view c.args.plan.now.0)) (type_view c.args.ty.now) c.args.levels c.args.cell.now outs after d l n
+    (type_view c.in-Some.inner.now) (pairs_of (map pair_of c.args.pairs.now)) hidden is
     (ap (option_map _) (sym c.in-Some.is) ∙ c.mapped_under.ensures) in
-    let y = map_lies S (c.args.levels + 1) n inner c.args.cell.now.left outs after (pairs_of (map pair_of c.args.pairs.now)) hidden
-    d is x.lies in
-    (y.none, c.in_ok-cut_root_edge.ensures d n outs after (few_bits n x.wide) y.is x.lies)
+    (x.none, c.in_ok-cut_root_edge.ensures d n outs after x.few x.is_shown x.lies)
 
 pub cut_record-returns-in_default : goal.cut_record-returns-in_default
 cut_record-returns-in_default t c = λ d outs after is l.
@@ -1153,33 +747,17 @@ cut_record-returns t c = λ d outs after is l.
 
 pub cut_items-returns-in_err-cut_value : goal.cut_items-returns-in_err-cut_value
 cut_items-returns-in_err-cut_value t c = λ after all x.
-    let w = c.from_residual-in_err-cut_value in
-    let r = err_from_is_err_and w.result w.ensures.1 in
-    let S = cores (schema_view c.args.plan.now.0) in
-    let k = rests_of c.args.wanted.now in
-    let ty = type_view c.args.inner.now in
     let at = c.loop-item in
-    let items = c.args.items.now in
-    let item = c.item-item.result in
-    let D : List Plain → Type 0 = λ z. DueItems S k c.args.levels ty after all at.place z at.cell in
-    let due = subst D (item_next items at.item-index item c.loop-item-test.true c.item-item.is) (at.invariant after all x) in
-    let y = first_item S k c.args.levels ty after all at.place (value_view item)
-    (map value_view (drop (at.item-index + 1) items)) at.cell due in
-    still _ w.result c.in_err-cut_value.field-0.0 (r.1 ∙ ap Err r.2)
+    let y = item_at (cores (schema_view c.args.plan.now.0)) (rests_of c.args.wanted.now) c.args.levels (type_view c.args.inner.now) after all at.place
+    at.item-index c.args.items.now at.cell (at.invariant after all x) c.item-item.result c.loop-item-test.true c.item-item.is in
+    stopped _ c.from_residual-in_err-cut_value.result c.in_err-cut_value.field-0.0 c.from_residual-in_err-cut_value.ensures.1
     (c.in_err-cut_value.ensures y.first y.outs y.middle y.is_first y.lies)
 
 pub cut_items-loop-item-preserved : goal.cut_items-loop-item-preserved
 cut_items-loop-item-preserved t c = λ after all x.
-    let S = cores (schema_view c.args.plan.now.0) in
-    let k = rests_of c.args.wanted.now in
-    let ty = type_view c.args.inner.now in
     let at = c.loop-item in
-    let items = c.args.items.now in
-    let item = c.item-item.result in
-    let D : List Plain → Type 0 = λ z. DueItems S k c.args.levels ty after all at.place z at.cell in
-    let due = subst D (item_next items at.item-index item c.loop-item-test.true c.item-item.is) (at.invariant after all x) in
-    let y = first_item S k c.args.levels ty after all at.place (value_view item)
-    (map value_view (drop (at.item-index + 1) items)) at.cell due in
+    let y = item_at (cores (schema_view c.args.plan.now.0)) (rests_of c.args.wanted.now) c.args.levels (type_view c.args.inner.now) after all at.place
+    at.item-index c.args.items.now at.cell (at.invariant after all x) c.item-item.result c.loop-item-test.true c.item-item.is in
     let m = c.in_ok-cut_value.ensures y.first y.outs y.middle y.is_first y.lies in
     let here = ap (λ (z : Rests). cut_for z y.first) c.in_ok-here.ensures in
     let few = y.below in
@@ -1189,11 +767,7 @@ cut_items-loop-item-preserved t c = λ after all x.
 
 pub cut_items-returns : goal.cut_items-returns
 cut_items-returns t c = λ after all x.
-    let S = cores (schema_view c.args.plan.now.0) in
-    let k = rests_of c.args.wanted.now in
-    let ty = type_view c.args.inner.now in
     let at = c.loop-item in
-    let D : List Plain → Type 0 = λ z. DueItems S k c.args.levels ty after all at.place z at.cell in
-    let none = ap (map value_view) (drop_all at.item-index c.args.items.now c.loop-item-test.false) in
-    let m = no_item S k c.args.levels ty after all at.place at.cell (subst D none (at.invariant after all x)) in
+    let m = items_done (cores (schema_view c.args.plan.now.0)) (rests_of c.args.wanted.now) c.args.levels (type_view c.args.inner.now) after all at.place
+    at.item-index c.args.items.now at.cell (at.invariant after all x) c.loop-item-test.false in
     (m.left, m.made)
