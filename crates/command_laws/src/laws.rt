@@ -1,11 +1,35 @@
 //! Laws of outcomes: functions of no parameters, whose contracts speak of the definitions alone.
-ghost use Rattle.command_laws.specs.Held.{WrittenIsHeld};
+ghost use Rattle.command_laws.specs.Laws.{BuildThenRead, TidyAgain, TidyFits, TidyIsStrict};
 
-use bag_cells::laws::written_bag_holds;
+use accepted_building::laws::accepted_is_buildable;
+use bag_cells::laws::{held_is_good, held_is_small};
+use bag_lines::laws::line_holds;
+use building_laws::laws::tree_is_built;
+use cli_stages::laws::{each_stage_answers_once, gives_accepted};
+use strict_laws::laws::{lax_has_one_tree, lax_in_range, strict_stays};
 
-/// A file that holds the line of a tree's bag holds the tree.
-pub fn written_is_held()
-    ensures { WrittenIsHeld }
+/// What `build` puts is read as the value that the text writes.
+pub fn build_then_read()
+    ensures { BuildThenRead }
 {
-    written_bag_holds();
+    line_holds();
+}
+
+/// Each value that `tidy` reads in a bag of bytes fits a tree; what is put is that of the one tree in its shortest
+/// form; and what was put stays.
+pub fn tidy_is_strict()
+    ensures fits { TidyFits }
+    ensures strict { TidyIsStrict }
+    ensures again { TidyAgain }
+{
+    held_is_good();
+    held_is_small();
+    line_holds();
+    each_stage_answers_once();
+    gives_accepted();
+    accepted_is_buildable();
+    lax_has_one_tree();
+    lax_in_range();
+    tree_is_built();
+    strict_stays();
 }

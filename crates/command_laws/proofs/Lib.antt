@@ -1,0 +1,5 @@
+mod Runs
+mod Steps
+mod Build
+mod Statuses
+mod Tidy
