@@ -1,6 +1,6 @@
 -- The names of an accepted schema, and the names that its core forms show.
 use Rattle.std.proofs.Common.{◌≡◌, ◌≢◌, ◌⊎◌, inl, inr, ℕ, zero, suc, ◌+◌, ◌<◌, ◌≤◌, ◌^◌, ◌∙◌, ap, sym, subst, refl, arith, List, [], ◌∷◌, ◌++◌, length, get_or, Option, Some, None, Bool, true, false, ◌&&◌, ◌||◌, ◌==◌, cond, slice_get, length-append}
-use Rattle.std.specs.Prelude.{IsTrue, bytes_eq, codes, decimal, filter, not}
+use Rattle.std.specs.Prelude.{IsTrue, bytes_eq, codes, decimal, filter, if◌then◌else◌, not}
 use Rattle.std.specs.Char.{is_ascii_alphabetic, is_ascii_alphanumeric}
 use Rattle.std.specs.List.{list_all}
 use Rattle.std.proofs.lemmas.Bool.{and_parts, or_parts}
