@@ -185,26 +185,37 @@ refused-for root s type c cause (Refused r) so is = record { answer = stops (ref
 refused-for root s type c cause NoMemory so is = record { answer = tt }
 
 -- the answer of `view` that is reported by a cause
-abbrev answer_of : ProofCause → ViewAnswer
-answer_of causes.NotProof = not_proof
-answer_of causes.NotWhole = not_whole
-answer_of (causes.HashDiffers kept found) = hash_differs kept found
-answer_of (causes.DepthDiffers kept found) = depth_differs kept found
-answer_of (causes.WrongRoot found) = wrong_root found
+abbrev Reports : ProofCause → ViewAnswer → Type 0
+Reports causes.NotProof a = a ≡ not_proof
+Reports causes.NotWhole a = a ≡ not_whole
+Reports (causes.HashDiffers kept found) a = a ≡ hash_differs kept found
+Reports (causes.DepthDiffers kept found) a = a ≡ depth_differs kept found
+Reports (causes.WrongRoot found) a = a ≡ wrong_root found
+Reports causes.ProofTooDeep a = ⊥
+Reports causes.ProofTooLarge a = ⊥
 
-refuses : (root : Option (List ℕ)) (s : CoreSchema) (t : Closed) (c : Tree) (cause : ProofCause)
-    → ViewAnswers s t c root (answer_of cause) → Refuses root c cause
-refuses root s t c causes.NotProof a = no-proof root c a
-refuses root s t c causes.NotWhole a = not-whole root c a.1 (over root c a.1 a.0 a.2) a.3
-refuses root s t c (causes.HashDiffers kept found) a =
-    let b = a.3 in hash-differs root c a.1 (over root c a.1 a.0 a.2) b.0 kept found b.1 b.2 b.3
-refuses root s t c (causes.DepthDiffers kept found) a =
-    let b = a.3 in depth-differs root c a.1 (over root c a.1 a.0 a.2) b.0 b.1 kept found b.2 b.3 b.4
-refuses root s t c (causes.WrongRoot found) a =
-    let b = a.3 in wrong-root root c a.1 (over root c a.1 a.0 a.2) b.0 found b.1 b.2
+refuses : (root : Option (List ℕ)) (s : CoreSchema) (t : Closed) (c : Tree) (cause : ProofCause) (a : ViewAnswer)
+    → Reports cause a → ViewAnswers s t c root a → Refuses root c cause
+refuses root s t c causes.NotProof a e h = no-proof root c (subst (ViewAnswers s t c root) e h)
+refuses root s t c causes.NotWhole a e h =
+    let x = subst (ViewAnswers s t c root) e h in not-whole root c x.1 (over root c x.1 x.0 x.2) x.3
+refuses root s t c (causes.HashDiffers kept found) a e h =
+    let x = subst (ViewAnswers s t c root) e h in
+    let b = x.3 in
+    hash-differs root c x.1 (over root c x.1 x.0 x.2) b.0 kept found b.1 b.2 b.3
+refuses root s t c (causes.DepthDiffers kept found) a e h =
+    let x = subst (ViewAnswers s t c root) e h in
+    let b = x.3 in
+    depth-differs root c x.1 (over root c x.1 x.0 x.2) b.0 b.1 kept found b.2 b.3 b.4
+refuses root s t c (causes.WrongRoot found) a e h =
+    let x = subst (ViewAnswers s t c root) e h in
+    let b = x.3 in
+    wrong-root root c x.1 (over root c x.1 x.0 x.2) b.0 found b.1 b.2
+refuses root s t c causes.ProofTooDeep a e h = absurd e
+refuses root s t c causes.ProofTooLarge a e h = absurd e
 
 pub refused : (root : Option (List ℕ)) (s : SchemaView) (type : ShownType) (c : Tree) (cause : ProofCause) (stop : Stop)
-    → Holds s type c root (answer_of cause) → IfRefused (λ r. r ≡ proof cause) stop
+    (a : ViewAnswer) → Reports cause a → Holds s type c root a → IfRefused (λ r. r ≡ proof cause) stop
     → Answers {T = Viewed} (Proof root s type c) shown_by (Err stop)
-refused root s type c cause stop is told =
-    refused-for root s type c cause stop (refuses root (kept_cores s) type.closed c cause is.holds) told
+refused root s type c cause stop a reports is told =
+    refused-for root s type c cause stop (refuses root (kept_cores s) type.closed c cause a reports is.holds) told

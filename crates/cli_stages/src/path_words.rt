@@ -3,7 +3,7 @@ ghost use Rattle.std.specs.Prelude.{◌≤◌, IfOk, length, map, string_bytes};
 ghost use Rattle.pruned_proof.specs.Proved.{path_views};
 ghost use Rattle.cli_stages.specs.PathWords.{AreBegun};
 
-use std::alloc::Global;
+use std::alloc::{AllocError, Global};
 use tlb_memory::NoMemory;
 use typed_value::Path;
 use value_text::{PathError, parse_path};
@@ -26,7 +26,7 @@ pub(crate) fn paths_of(alloc: Global, words: &[String]) -> Result<Begun, NoMemor
     'words: for word in words {
         match parse_path(alloc, word.as_str()) {
             Ok(path) => {
-                paths.push(path)?;
+                paths.push(path).map_err(AllocError::from)?;
             }
             Err(PathError::BadPath(_)) => {
                 return Ok(Begun {

@@ -1,21 +1,15 @@
 -- What an answer of `prove` means.
-use Rattle.std.specs.Prelude.{◌≡◌, ◌<◌, ◌≤◌, ℕ, List, map, Option, Some, None, Result, Ok, Err}
-use Rattle.cell_nodes.specs.Constructed.{proof_of}
-use Rattle.cell_nodes.specs.Tree.{deepest, IsShallow, unfolded}
-use Rattle.cell_nodes.specs.declared.tree.Mode.TheVariants.{Partial}
+use Rattle.std.specs.Prelude.{◌≡◌, List, map, Result, Ok, Err}
 use Rattle.cell_nodes.specs.declared.tree.Tree.{Tree}
 use Rattle.core_form.specs.Closed.{Closed}
 use Rattle.core_form.specs.Core.{CoreSchema}
 use Rattle.field_plan.specs.Placed.{place_view}
-use Rattle.spelling.specs.Spells.{Reading}
 use Rattle.typed_value.specs.Paths.{Stride}
-use Rattle.typed_value.specs.Values.{Plain}
 use Rattle.typed_value.specs.View.{stride, value}
 use Rattle.typed_value.specs.declared.path.Path.{Path}
 use Rattle.proof_laws.specs.Laws.{IsProofOf}
 use Rattle.proof_laws.specs.Proving.{ProveAnswer, proved, stuck_at, no_such_path, not_whole, proof_too_deep}
-use Rattle.proof_laws.specs.Proving.{proof_too_large, ProveAnswers, AllName, IsFirstNameless, pruned_for, most_cells}
-use Rattle.pruning.specs.SpellsLaid.{LaidRoot}
+use Rattle.proof_laws.specs.Proving.{proof_too_large, ProveAnswers}
 use Rattle.pruned_proof.specs.declared.proving.Proved.{Proved}
 use Rattle.pruned_proof.specs.declared.error.ProveError.{ProveError}
 use Rattle.pruned_proof.specs.declared.error.ProveError.TheVariants as errors

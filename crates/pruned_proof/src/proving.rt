@@ -12,7 +12,6 @@ ghost use Rattle.typed_value.specs.View.{value as value_view};
 ghost use Rattle.pruned_proof.specs.Proved.{Answers, path_views};
 
 use crate::error::ProveError;
-use crate::holding::is_raw;
 use accepted_pruning::laws::{one_prove_answer, prove_then_view, pruning_commutes};
 use accepted_spelling::laws::read_or_stuck;
 use cell_nodes::{Cell, CellError, Mode};
