@@ -3,6 +3,7 @@ mod Layers
 mod MadeFacts
 mod Named
 mod PathFacts
+mod PathTurns
 mod ProofFacts
 mod ProvesFacts
 mod RebuiltFacts

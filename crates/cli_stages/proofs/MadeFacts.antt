@@ -33,15 +33,16 @@ some-path p q o a b = let same : Some p ≡ Some q = sym a ∙ b in cc
 no-path : (o : Option (List Stride)) (p : List Stride) → o ≡ None → o ≡ Some p → ⊥
 no-path o p a b = let same : None ≡ Some p = sym a ∙ b in grind arith
 
+more-name : (v : Plain) (s : List Stride) (paths : List (List Stride)) → NamesSomething v s → AllName v paths
+    → AllName v (s ∷ paths)
+more-name v s paths first others zero p there = subst (NamesSomething v) (some-path s p (Some s) refl there) first
+more-name v s paths first others (suc i) p there = others i p there
+
 all-name : (v : Plain) (words : List Name) (paths : List (List Stride)) → AllChoose v words paths → AllName v paths
 all-name v [] [] all = λ i p there. absurd (no-path _ p refl there)
 all-name v [] (s ∷ paths) all = absurd all
 all-name v (word ∷ words) [] all = absurd all
-all-name v (word ∷ words) (s ∷ paths) all = by-place
-  where
-    by-place : (i : ℕ) (p : List Stride) → slice_get (s ∷ paths) i ≡ Some p → NamesSomething v p
-    by-place zero p there = subst (NamesSomething v) (some-path s p (Some s) refl there) all.0.names
-    by-place (suc i) p there = all-name v words paths all.1 i p there
+all-name v (word ∷ words) (s ∷ paths) all = more-name v s paths all.0.names (all-name v words paths all.1)
 
 some-cause : (c d : ProofCause) (o : Option ProofCause) → o ≡ Some c → o ≡ Some d → c ≡ d
 some-cause c d o a b = let same : Some c ≡ Some d = sym a ∙ b in cc
@@ -89,9 +90,9 @@ made-stage laws s type root words paths v whole reading all =
           ∙ ap proof (some-cause a.cause b.cause (cause_of a.answer) a.is_cause
           (ap cause_of (one.one a.answer b.answer a.answers b.answers) ∙ b.is_cause))
           ∙ sym b.is)
-          (λ c d a b. made-same c d a.shown b.shown (one.one _ _ a.answers b.answers))
+          (λ c d a b. made-same c d a.shown b.shown (one.one (proved c a.shown) (proved d b.shown) a.answers b.answers))
           (λ r c a b.
-          no-cause a.cause (cause_of a.answer) (ap cause_of (one.one a.answer _ a.answers b.answers)) a.is_cause);
+          no-cause a.cause (cause_of a.answer) (ap cause_of (one.one a.answer (proved c b.shown) a.answers b.answers)) a.is_cause);
       answered = made-some s type root paths v read laws.laid reading (all-name v words paths all) one.some.0 one.some.1;
       refuses = λ r given. judged-as r _ given.is tt;
     }

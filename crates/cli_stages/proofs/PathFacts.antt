@@ -1,5 +1,5 @@
 -- The stage of the words of paths comes to exactly one answer.
-use Rattle.std.proofs.Common.{◌≡◌, ◌≢◌, ◌⊎◌, inl, inr, ◌∙◌, ap, sym, subst, refl, arith, ℕ, Bool, true, false, List, [], ◌∷◌}
+use Rattle.std.proofs.Common.{◌≡◌, ◌⊎◌, inl, inr, ◌∙◌, ◌+◌, ap, sym, subst, refl, arith, ℕ, Bool, true, false, List, [], ◌∷◌}
 use Rattle.std.proofs.Common.{Option, None, Some, Result, Ok, Err}
 use Rattle.pruning.specs.Knowing.{NamesSomething, names_absence}
 use Rattle.tlb_edge.specs.Files.{Name}
@@ -19,7 +19,7 @@ pub record PathLaws : Type 0 where
 
 -- ---- each word chooses or doesn't
 
-Choice : Plain → Name → Type 0
+abbrev Choice : Plain → Name → Type 0
 Choice v word = ((steps : List Stride) × Chooses v word steps) ⊎ ((steps : List Stride) → Chooses v word steps → ⊥)
 
 no-value : (o : Option Plain) (u : Plain) → o ≡ None → o ≡ Some u → ⊥
@@ -49,14 +49,14 @@ chooses-or-not laws v word (inr x) = inr (λ steps c. laws.not_both word steps x
 
 -- ---- all of them do, or there is a first that doesn't
 
-Judged : ℕ → Plain → List Name → Type 0
+abbrev Judged : ℕ → Plain → List Name → Type 0
 Judged first v words = ((paths : List (List Stride)) × AllChoose v words paths) ⊎ ((number : ℕ) × IsFirstBad first v words number)
 
 judged-more : (first : ℕ) (v : Plain) (word : Name) (words : List Name) → Choice v word → Judged (first + 1) v words
     → Judged first v (word ∷ words)
 judged-more first v word words (inl x) (inl y) = inl (x.0 ∷ y.0, (x.1, y.1))
 judged-more first v word words (inl x) (inr y) = inr (y.0, inr (x, y.1))
-judged-more first v word words (inr no) later = inr (first, inl (refl, no))
+judged-more first v word words (inr never) later = inr (first, inl (refl, never))
 
 judged : PathLaws → (first : ℕ) (v : Plain) (words : List Name) → Judged first v words
 judged laws first v [] = inl ([], tt)

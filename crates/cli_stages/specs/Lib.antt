@@ -7,7 +7,6 @@ pub mod PathWords
 pub mod Paths
 pub mod Proof
 pub mod ProofOf
-pub mod ProofOf
 pub mod Rebuilt
 pub mod Schema
 pub mod SchemaText

@@ -23,6 +23,7 @@ use proof_laws::laws::laid_is_read;
 use pruned_proof::{ProveError, prove};
 use std::alloc::Global;
 use typed_value::Path;
+use value_text::laws::at_most_one_path;
 
 fn refused_at(number: u32) -> Stop
     ensures { IfRefused (λ r. r ≡ refused_path number) result }
@@ -59,6 +60,7 @@ fn proof_of(
     // Nothing in it is passed over.
     let _schema = plan.schema();
     laid_is_read();
+    at_most_one_path();
     match prove(alloc, plan, &ty.closed, root, paths) {
         Ok(proved) => unless_bad(bad, Ok(proved.proof)),
         Err(ProveError::Stuck(place)) => Err(refused(alloc, plan, ty, &place)),
