@@ -1,7 +1,7 @@
 -- `make N`: a message is made from a number, and the main job is run on it. It is built, its value at a path is proved from
 -- the written bag, and the written proof is viewed with the message's hash.
-use Rattle.std.specs.Prelude.{◌≡◌, ℕ, List, [], ◌∷◌, Ok, Some, Err, Result, codes, ◌≢◌}
-use Rattle.std.proofs.Common.{ap, sym, ◌∙◌, subst}
+use Rattle.std.specs.Prelude.{◌≡◌, ℕ, List, [], ◌∷◌, ◌++◌, Ok, Some, Err, codes}
+use Rattle.std.proofs.Common.{◌∙◌, ap, refl, sym}
 use Rattle.bag_cells.specs.Written.{bag_of}
 use Rattle.cell_nodes.specs.Tree.{hash}
 use Rattle.cell_nodes.specs.declared.tree.Mode.TheVariants.{Whole}
@@ -14,7 +14,7 @@ use Rattle.typed_value.specs.Paths.{Stride, at_path}
 use Rattle.typed_value.specs.Values.{Plain}
 use Rattle.value_text.specs.PathLaws.{OnePath}
 use Rattle.value_text.specs.PathText.{PathWrites}
-use Rattle.cli_refusals.specs.Refusal.{Answer, Refusal}
+use Rattle.cli_refusals.specs.Refusal.{Answer}
 use Rattle.cli_stages.specs.Bag.{Bag as BagStage}
 use Rattle.cli_stages.specs.Built.{Built}
 use Rattle.cli_stages.specs.Paths.{AllChoose}
