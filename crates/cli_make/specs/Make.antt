@@ -83,7 +83,7 @@ lines-same one word t proof shown a b x y =
     let same : x.is_at.path ≡ y.is_at.path = one word _ _ x.is_at.writes y.is_at.writes in
     let text : x.text ≡ y.text = x.is_at.is ∙ ap (λ p. shown_text (at_path shown.value p)) same ∙ sym y.is_at.is in
     let whole : List ℕ → List ℕ =
-        λ l. root_line shown.hash ++ size_line (codes "bag") t ++ size_line (codes "proof") proof ++ at_line l in
+    λ l. root_line shown.hash ++ size_line (codes "bag") t ++ size_line (codes "proof") proof ++ at_line l in
     x.are ∙ ap whole text ∙ sym y.are
 
 lines-once : OnePath → (word : Name) (t proof : Tree) (shown : ProofShows) (a b : Answer) → Lines word t proof shown a
@@ -96,11 +96,14 @@ lines-stage : Stages → (word : Name) (t proof : Tree) (shown : ProofShows) →
     → IsStage (Lines word t proof shown)
 lines-stage stages word t proof shown writes = record {
   once = lines-once stages.one_path word t proof shown;
-  answered = (Ok _, record {
-    text = shown_text (at_path shown.value writes.0);
-    is_at = record { path = writes.0; writes = writes.1; is = refl };
-    are = refl;
-  });
+  answered = (
+    Ok _,
+    record {
+      text = shown_text (at_path shown.value writes.0);
+      is_at = record { path = writes.0; writes = writes.1; is = refl };
+      are = refl;
+    },
+  );
   refuses = λ r never. absurd never;
 }
 
