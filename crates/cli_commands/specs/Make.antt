@@ -1,5 +1,5 @@
 -- `make N`: the main job on a message that is made from a number.
-use Rattle.std.specs.Prelude.{List, [], ◌∷◌, codes, unwrap_or}
+use Rattle.std.specs.Prelude.{[], ◌∷◌, codes, unwrap_or}
 use Rattle.cli_make.specs.Make.{Makes, makes_once}
 use Rattle.cli_commands.specs.Command.{Command, at}
 use Rattle.cli_commands.specs.Slots.{count_of}

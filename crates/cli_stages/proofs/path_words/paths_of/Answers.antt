@@ -6,11 +6,12 @@ use Rattle.cli_stages.proofs.PathTurns.{bad-word, before-as, ended, pushed-as, t
 use Rattle.cli_stages.proofs.path_words.paths_of.Goals as goal
 
 pub returns-in-Err-BadPath : goal.returns-in-Err-BadPath
-returns-in-Err-BadPath c =
-    (bad-word c.words.number c.args.words.now c.words.word-index c.word-item.result c.as_str.result.now
-    (path_views c.words.paths.items) c.words-test.true c.word-item.is c.as_str.ensures.value
-    (λ steps writes. (rw c.in-Err-BadPath.field-0-is at c.in-Err-BadPath.ensures.path) steps writes) c.words.invariant.begun,
-    omega (arith, c.words.invariant.as_many, c.words-test.true))
+returns-in-Err-BadPath c = (
+  bad-word c.words.number c.args.words.now c.words.word-index c.word-item.result c.as_str.result.now
+      (path_views c.words.paths.items) c.words-test.true c.word-item.is c.as_str.ensures.value
+      (λ steps writes. (rw c.in-Err-BadPath.field-0-is at c.in-Err-BadPath.ensures.path) steps writes) c.words.invariant.begun,
+  omega (arith, c.words.invariant.as_many, c.words-test.true),
+)
 
 pub words-preserved : goal.words-preserved
 words-preserved c =
@@ -26,7 +27,8 @@ words-preserved c =
     }
 
 pub returns : goal.returns
-returns c =
-    (ended c.words.number c.args.words.now c.words.word-index (path_views c.words.paths.items) (omega (arith, c.words-test.false))
-    c.words.invariant.begun,
-    omega (arith, c.words.invariant.as_many))
+returns c = (
+  ended c.words.number c.args.words.now c.words.word-index (path_views c.words.paths.items) (omega (arith, c.words-test.false))
+      c.words.invariant.begun,
+  omega (arith, c.words.invariant.as_many),
+)
