@@ -1,6 +1,7 @@
 mod Checked
 mod SameBuilds
 mod SameInputs
+mod SameProofs
 mod SameViews
 mod SlotFiles
 mod Slots

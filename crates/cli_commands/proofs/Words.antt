@@ -1,16 +1,18 @@
 -- A word that a slot takes is short, and so is a schema.
-use Rattle.std.proofs.Common.{◌≡◌, ◌≤◌, ◌<◌, refl, subst, zero, suc, arith, ℕ, Bool, true, false, List, [], ◌∷◌, length, ◌&&◌}
-use Rattle.std.specs.Prelude.{nat_lt, not, if◌then◌else◌}
+use Rattle.std.proofs.Common.{◌≡◌, ◌≤◌, ◌<◌, ◌+◌, ◌-◌, ◌∙◌, ap, sym, refl, subst, zero, suc, drop, take, arith, ℕ, Bool, true, false, List, [], ◌∷◌, length, ◌&&◌}
+use Rattle.std.specs.Prelude.{nat_lt, not, if◌then◌else◌, min, replicate}
 use Rattle.tlb_edge.specs.Files.{Name}
 use Rattle.tlb_files.specs.Contents.{AreShort}
 use Rattle.cli_commands.specs.Command.{at}
 use Rattle.cli_commands.specs.Commands.{slots_of}
 use Rattle.cli_commands.specs.Forms.{are_taken, files_in}
+use Rattle.cli_commands.specs.Prove.{prove_slots}
 use Rattle.cli_commands.specs.Slots.{takes}
 use Rattle.cli_commands.specs.Views.{view_slots}
 use Rattle.cli_commands.specs.declared.commands.Verb.{Verb}
+use Rattle.cli_commands.specs.declared.commands.Verb.TheVariants.{Prove}
 use Rattle.cli_commands.specs.declared.slot.Slot.{Slot}
-use Rattle.cli_commands.specs.declared.slot.Slot.TheVariants.{Schema, TypeWord, Bag, RootHash}
+use Rattle.cli_commands.specs.declared.slot.Slot.TheVariants.{Schema, TypeWord, Bag, RootHash, Path}
 
 first-of : (a b : Bool) → (a && b) ≡ true → a ≡ true
 first-of true b is = cc
@@ -80,3 +82,45 @@ view-short n m same few = go (nat_lt 3 m) refl
     go : (b : Bool) → nat_lt 3 m ≡ b → (if b then with_root else without_root) ≡ without_root
     go true e = absurd (grind (arith, e, same, few))
     go false e = refl
+
+-- ---- paths
+
+taken-count : (slots : List Slot) (words : List Name) → are_taken slots words ≡ true → length slots ≡ length words
+taken-count [] [] is = refl
+taken-count [] (word ∷ words) is = absurd (cc)
+taken-count (slot ∷ slots) [] is = absurd (cc)
+taken-count (slot ∷ slots) (word ∷ words) is = ap suc (taken-count slots words (rest-of _ _ is))
+
+count-replicate : (k : ℕ) (slot : Slot) → length (replicate k slot) ≡ k
+count-replicate zero slot = refl
+count-replicate (suc k) slot = ap suc (count-replicate k slot)
+
+count-drop : (words : List Name) → length (drop 3 words) ≡ length words - 3
+count-drop [] = refl
+count-drop (a ∷ []) = refl
+count-drop (a ∷ b ∷ []) = refl
+count-drop (a ∷ b ∷ c ∷ words) = omega arith
+
+-- there are at most 64 paths
+pub few-paths : (verb : Verb) (words : List Name) → verb ≡ Prove → are_taken (slots_of verb words) words ≡ true
+    → length (drop 3 words) ≤ 64
+few-paths verb words is taken =
+    let P : Verb → Type 0 = λ v. are_taken (slots_of v words) words ≡ true in
+    let count = taken-count (prove_slots (length words)) words (subst P is taken) in
+    let paths = count-replicate (min (length words - 3) 64) Path in
+    let few : min (length words - 3) 64 ≤ 64 = grind arith in
+    omega (arith, count, paths, few, count-drop words)
+
+take-replicate : (k m : ℕ) (slot : Slot) → k ≤ m → take k (replicate m slot) ≡ replicate k slot
+take-replicate zero m slot few = refl
+take-replicate (suc k) zero slot few = absurd (omega (arith, few))
+take-replicate (suc k) (suc m) slot few = ap (λ l. slot ∷ l) (take-replicate k m slot (omega (arith, few)))
+
+-- the first of the longest slots are the slots of so many words
+pub prove-taken : (most count : ℕ) → most ≡ min (count - 3) 64 + 3
+    → take most (Schema ∷ TypeWord ∷ Bag ∷ replicate 64 Path) ≡ prove_slots count
+prove-taken most count is =
+    let few : min (count - 3) 64 ≤ 64 = grind arith in
+    let three : most ≡ suc (suc (suc (min (count - 3) 64))) = is ∙ omega arith in
+    let P : ℕ → Type 0 = λ n. take n (Schema ∷ TypeWord ∷ Bag ∷ replicate 64 Path) ≡ prove_slots count in
+    subst P (sym three) (ap (λ l. Schema ∷ TypeWord ∷ Bag ∷ l) (take-replicate (min (count - 3) 64) 64 Path few))

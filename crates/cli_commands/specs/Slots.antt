@@ -4,7 +4,7 @@ use Rattle.hex.specs.Hex.{decode_sized}
 use Rattle.hex.specs.declared.error.FromHexError.{FromHexError}
 use Rattle.tlb_edge.specs.Files.{Name}
 use Rattle.cli_commands.specs.declared.slot.Slot.{Slot}
-use Rattle.cli_commands.specs.declared.slot.Slot.TheVariants.{Schema, TypeWord, Bag, Text, RootHash}
+use Rattle.cli_commands.specs.declared.slot.Slot.TheVariants.{Schema, TypeWord, Bag, Text, RootHash, Path}
 
 -- the most bytes of the file that a slot's word names, where it names one
 abbrev pub limit_of : Slot → Option ℕ
@@ -13,6 +13,7 @@ limit_of TypeWord = None
 limit_of Bag = Some 134217728
 limit_of Text = Some 134217728
 limit_of RootHash = None
+limit_of Path = None
 
 -- what was decoded, where it was
 abbrev pub decoded : Result (List ℕ) FromHexError → Option (List ℕ)
@@ -30,6 +31,7 @@ is_formed Schema word = true
 is_formed TypeWord word = true
 is_formed Bag word = true
 is_formed Text word = true
+is_formed Path word = true
 
 -- a slot takes a word: one of at most 1,048,576 bytes, in its form
 abbrev pub takes : Slot → Name → Bool

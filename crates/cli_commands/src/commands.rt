@@ -1,5 +1,5 @@
 //! The table of commands.
-ghost use Rattle.std.specs.Prelude.{◌≡◌, ◌≤◌, length, map, string_bytes, true};
+ghost use Rattle.std.specs.Prelude.{◌≡◌, ◌≤◌, drop, length, map, string_bytes, true};
 ghost use Rattle.tlb_files.specs.Contents.{AreShort};
 ghost use Rattle.tlb_files.specs.View.{contents_of};
 ghost use Rattle.cli_stages.specs.Stage.{Answers};
@@ -7,6 +7,7 @@ ghost use Rattle.cli_commands.specs.Build.{Builds};
 ghost use Rattle.cli_commands.specs.Command.{at};
 ghost use Rattle.cli_commands.specs.Commands.{CommandAnswers, slots_of, verb_of};
 ghost use Rattle.cli_commands.specs.Forms.{are_taken, files_in};
+ghost use Rattle.cli_commands.specs.Prove.{Proves, prove_slots as slots_with_paths};
 ghost use Rattle.cli_commands.specs.Read.{Reads};
 ghost use Rattle.cli_commands.specs.Slots.{root_hash as hash_of_word};
 ghost use Rattle.cli_commands.specs.Tidy.{Tidies};
@@ -16,6 +17,7 @@ ghost use Rattle.cli_commands.specs.Views.{Views, view_slots as slots_by_count};
 use crate::build::build;
 use crate::check::check;
 use crate::hash::hash;
+use crate::prove::prove;
 use crate::read::read;
 use crate::slot::{Slot, root_hash};
 use crate::tidy::tidy;
@@ -31,6 +33,7 @@ pub enum Verb {
     Lax,
     Build,
     Tidy,
+    Prove,
     View,
     Hash,
     Check,
@@ -46,6 +49,7 @@ impl Verb {
             "lax" => Some(Verb::Lax),
             "build" => Some(Verb::Build),
             "tidy" => Some(Verb::Tidy),
+            "prove" => Some(Verb::Prove),
             "view" => Some(Verb::View),
             "hash" => Some(Verb::Hash),
             "check" => Some(Verb::Check),
@@ -60,6 +64,7 @@ impl Verb {
         match self {
             Verb::Read | Verb::Lax | Verb::Tidy => &[Slot::Schema, Slot::TypeWord, Slot::Bag],
             Verb::Build => &[Slot::Schema, Slot::TypeWord, Slot::Text],
+            Verb::Prove => prove_slots(words),
             Verb::View => view_slots(words),
             Verb::Hash => &[Slot::Bag],
             Verb::Check => &[Slot::Schema],
@@ -84,11 +89,91 @@ impl Verb {
             Verb::Lax => read_in(alloc, Mode::Lax, words, contents),
             Verb::Build => build_in(alloc, words, contents),
             Verb::Tidy => tidy_in(alloc, words, contents),
+            Verb::Prove => prove_in(alloc, words, contents),
             Verb::View => view_in(alloc, words, contents),
             Verb::Hash => hash(alloc, bytes_at(contents, 0)),
             Verb::Check => check(alloc, bytes_at(contents, 0)),
         }
     }
+}
+
+// The longest slots of `prove`.
+const PROVE: &[Slot] = &[
+    Slot::Schema,
+    Slot::TypeWord,
+    Slot::Bag,
+    Slot::Path,
+    Slot::Path,
+    Slot::Path,
+    Slot::Path,
+    Slot::Path,
+    Slot::Path,
+    Slot::Path,
+    Slot::Path,
+    Slot::Path,
+    Slot::Path,
+    Slot::Path,
+    Slot::Path,
+    Slot::Path,
+    Slot::Path,
+    Slot::Path,
+    Slot::Path,
+    Slot::Path,
+    Slot::Path,
+    Slot::Path,
+    Slot::Path,
+    Slot::Path,
+    Slot::Path,
+    Slot::Path,
+    Slot::Path,
+    Slot::Path,
+    Slot::Path,
+    Slot::Path,
+    Slot::Path,
+    Slot::Path,
+    Slot::Path,
+    Slot::Path,
+    Slot::Path,
+    Slot::Path,
+    Slot::Path,
+    Slot::Path,
+    Slot::Path,
+    Slot::Path,
+    Slot::Path,
+    Slot::Path,
+    Slot::Path,
+    Slot::Path,
+    Slot::Path,
+    Slot::Path,
+    Slot::Path,
+    Slot::Path,
+    Slot::Path,
+    Slot::Path,
+    Slot::Path,
+    Slot::Path,
+    Slot::Path,
+    Slot::Path,
+    Slot::Path,
+    Slot::Path,
+    Slot::Path,
+    Slot::Path,
+    Slot::Path,
+    Slot::Path,
+    Slot::Path,
+    Slot::Path,
+    Slot::Path,
+    Slot::Path,
+    Slot::Path,
+    Slot::Path,
+    Slot::Path,
+];
+
+// The slots of `prove`, with as many paths as there are words left.
+fn prove_slots(words: &[String]) -> &'static [Slot]
+    ensures { result.now ≡ slots_with_paths (length (map string_bytes words.now)) }
+{
+    let most = words.len().max(3).min(67);
+    &PROVE[..most]
 }
 
 // The slots of `view`, where the root hash may be left out.
@@ -162,6 +247,31 @@ fn tidy_in(alloc: Global, words: &[String], contents: &[Vec<u8>]) -> Result<Vec<
     let name = word_at(words, 1);
     let bag = bytes_at(contents, 1);
     tidy(alloc, schema, name, bag)
+}
+
+// The words after the first three.
+fn path_words(words: &[String]) -> &[String]
+    ensures { map string_bytes result.now ≡ drop 3 (map string_bytes words.now) }
+{
+    match words.get(3..) {
+        Some(paths) => paths,
+        None => &[],
+    }
+}
+
+// What `prove` answers.
+fn prove_in(alloc: Global, words: &[String], contents: &[Vec<u8>]) -> Result<Vec<u8>, Stop>
+    requires schema { length (at (contents_of contents.now) 0) ≤ 1048576 }
+    requires word { length (at (map string_bytes words.now) 1) ≤ 1048576 }
+    requires paths { length (drop 3 (map string_bytes words.now)) ≤ 64 }
+    ensures { Answers (Proves (drop 3 (map string_bytes words.now)) (at (map string_bytes words.now) 1)
+        (at (contents_of contents.now) 0) (at (contents_of contents.now) 1)) text_by result }
+{
+    let schema = bytes_at(contents, 0);
+    let name = word_at(words, 1);
+    let bag = bytes_at(contents, 1);
+    let paths = path_words(words);
+    prove(alloc, schema, name, bag, paths)
 }
 
 // What `view` answers.

@@ -7,6 +7,7 @@ mod commands;
 mod form;
 mod hash;
 pub mod laws;
+mod prove;
 mod read;
 mod slot;
 mod tidy;

@@ -12,6 +12,7 @@ pub enum Slot {
     Bag,
     Text,
     RootHash,
+    Path,
 }
 
 const WORD_LIMIT: usize = 1_048_576;
@@ -25,7 +26,7 @@ impl Slot {
             Slot::Schema => Some(1_048_576),
             Slot::TypeWord => None,
             Slot::Bag | Slot::Text => Some(134_217_728),
-            Slot::RootHash => None,
+            Slot::RootHash | Slot::Path => None,
         }
     }
 
@@ -41,7 +42,7 @@ impl Slot {
     {
         match self {
             Slot::RootHash => root_hash(word).is_some(),
-            Slot::Schema | Slot::TypeWord | Slot::Bag | Slot::Text => true,
+            Slot::Schema | Slot::TypeWord | Slot::Bag | Slot::Text | Slot::Path => true,
         }
     }
 }

@@ -1,7 +1,11 @@
 mod BuiltFacts
 mod Layers
+mod MadeFacts
 mod Named
+mod PathFacts
+mod PathTurns
 mod ProofFacts
+mod ProvesFacts
 mod RebuiltFacts
 mod Shows
 mod StageFacts

@@ -2,7 +2,11 @@ pub mod Bag
 pub mod Built
 pub mod Cell
 pub mod Kinds
+pub mod Made
+pub mod PathWords
+pub mod Paths
 pub mod Proof
+pub mod ProofOf
 pub mod Rebuilt
 pub mod Schema
 pub mod SchemaText

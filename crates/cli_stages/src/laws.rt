@@ -3,9 +3,11 @@ ghost use Rattle.cli_stages.specs.Schema.{GivesAccepted};
 ghost use Rattle.cli_stages.specs.Stages.{Stages};
 
 use accepted_building::laws::accepted_is_buildable;
+use accepted_pruning::laws::one_prove_answer;
 use accepted_schema::laws::{accepted_has_no_refusal, accepted_or_refused, accepted_stays};
 use accepted_spelling::laws::read_or_stuck;
 use building_laws::laws::{no_tree_where_unfit, one_place, one_tree, tree_or_place};
+use proof_laws::laws::laid_is_read;
 use tlb_grammar::laws::{at_most_one_answer, written_or_refused};
 use tlb_kinds::laws::{kept_stays_within, kinded_stays, passed_over};
 use tlb_syntax::laws::written_within_limits;
@@ -13,6 +15,7 @@ use type_word::laws::one_answer;
 use value_grammar::laws::{
     at_most_one_refusal, at_most_one_value, refused_writes_none, value_or_refusal,
 };
+use value_text::laws::{at_least_one_path, at_most_one_path};
 
 /// Each stage refuses or gives something, once.
 pub fn each_stage_answers_once()
@@ -40,6 +43,10 @@ pub fn each_stage_answers_once()
     one_place();
     no_tree_where_unfit();
     tree_or_place();
+    at_most_one_path();
+    at_least_one_path();
+    one_prove_answer();
+    laid_is_read();
 }
 
 /// The stage of a schema gives it exactly where the text writes it and it is accepted.

@@ -15,7 +15,7 @@ use field_plan::Plan;
 use proof_view::{ViewError, Viewed, view};
 use std::alloc::Global;
 
-fn refused_by(cause: ProofCause) -> Stop
+pub(crate) fn refused_by(cause: ProofCause) -> Stop
     ensures { IfRefused (λ r. r ≡ proof cause) result }
 {
     Stop::Refused(Refusal::Proof(cause))

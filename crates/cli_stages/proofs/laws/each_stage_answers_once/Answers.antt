@@ -1,5 +1,7 @@
 use Rattle.cli_stages.proofs.BuiltFacts.{Buildings, built-stage}
 use Rattle.cli_stages.proofs.Layers.{Bags, Schemas, Texts, Words}
+use Rattle.cli_stages.proofs.MadeFacts.{Proofs, made-stage}
+use Rattle.cli_stages.proofs.PathFacts.{PathLaws, paths-stage}
 use Rattle.cli_stages.proofs.ProofFacts.{proof-stage}
 use Rattle.cli_stages.proofs.RebuiltFacts.{rebuilt-stage}
 use Rattle.cli_stages.proofs.StageFacts.{bag-stage, cell-stage, schema-stage, word-stage}
@@ -41,6 +43,16 @@ returns c =
       not_both = c.refused_writes_none.ensures;
       some = c.value_or_refusal.ensures;
     } in
+    let paths : PathLaws = record {
+      one = c.at_most_one_path.ensures.path;
+      not_both = c.at_most_one_path.ensures.not_both;
+      some = c.at_least_one_path.ensures;
+    } in
+    let proofs : Proofs = record {
+      one_answer = c.one_prove_answer.ensures;
+      one_reading = c.read_or_stuck.ensures;
+      laid = c.laid_is_read.ensures;
+    } in
     let buildings : Buildings = record {
       buildable = c.accepted_is_buildable.ensures;
       one_tree = c.one_tree.ensures;
@@ -58,4 +70,6 @@ returns c =
       value_text = value-text-stage values;
       built = built-stage buildings;
       rebuilt = rebuilt-stage;
+      paths = paths-stage paths;
+      made = made-stage proofs;
     }

@@ -1,7 +1,7 @@
 use Rattle.std.proofs.Common.{refl, length, map, string_bytes}
 use Rattle.tlb_files.specs.View.{contents_of}
 use Rattle.cli_commands.specs.Commands.{slots_of}
-use Rattle.cli_commands.proofs.Words.{schema-of, short-at, view-first}
+use Rattle.cli_commands.proofs.Words.{few-paths, schema-of, short-at, view-first}
 use Rattle.cli_commands.proofs.commands.Verb.answer.Goals as goal
 
 pub read_in-requires-clause-schema : goal.read_in-requires-clause-schema
@@ -63,3 +63,18 @@ tidy_in-requires-clause-word c =
 
 pub returns-in-Tidy : goal.returns-in-Tidy
 returns-in-Tidy c = rw (c.in-Tidy.is) c.tidy_in.ensures
+
+pub prove_in-requires-clause-schema : goal.prove_in-requires-clause-schema
+prove_in-requires-clause-schema c =
+    schema-of c.args.self _ _ (map string_bytes c.args.words.now) (contents_of c.args.contents.now) c.in-Prove.is refl c.requires.files
+
+pub prove_in-requires-clause-word : goal.prove_in-requires-clause-word
+prove_in-requires-clause-word c =
+    short-at (slots_of c.args.self (map string_bytes c.args.words.now)) (map string_bytes c.args.words.now) 1 c.requires.words
+
+pub returns-in-Prove : goal.returns-in-Prove
+returns-in-Prove c = rw (c.in-Prove.is) c.prove_in.ensures
+
+pub prove_in-requires-clause-paths : goal.prove_in-requires-clause-paths
+prove_in-requires-clause-paths c =
+    few-paths c.args.self (map string_bytes c.args.words.now) c.in-Prove.is c.requires.words

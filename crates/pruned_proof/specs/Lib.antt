@@ -1,0 +1,4 @@
+pub mod Proved
+pub mod View
+pub mod Walks
+pub mod Wanted
