@@ -23,23 +23,23 @@ entries [] = []
 entries (key ∷ keys) = entry_text key ++ more_entries keys
 
 -- what stands before them
-abbrev pub front : List ℕ
-front =
+abbrev pub before_entries : List ℕ
+before_entries =
     codes "message{info:int_msg_info{ihr_disabled:bool_true{},bounce:bool_true{},bounced:bool_false{},"
     ++ codes "src:addr_std{anycast:nothing{},workchain_id:0,address:x{1111111111111111111111111111111111111111111111111111111111111111}},"
     ++ codes "dest:addr_std{anycast:nothing{},workchain_id:0,address:x{2222222222222222222222222222222222222222222222222222222222222222}},"
     ++ codes "value:currencies{grams:nanograms{amount:var_uint{len:4,value:1000000000}},other:extra_currencies{dict:<"
 
 -- what stands after them
-abbrev pub back : List ℕ
-back =
+abbrev pub after_entries : List ℕ
+after_entries =
     codes ">}},ihr_fee:nanograms{amount:var_uint{len:0,value:0}},fwd_fee:nanograms{amount:var_uint{len:0,value:0}},"
     ++ codes "created_lt:0,created_at:0},"
     ++ codes "init:just{value:left{value:_1{split_depth:nothing{},special:nothing{},code:just{value:^(x{FF00})},data:just{value:^(x{})},library:nothing{}}}},"
     ++ codes "body:right{value:^(x{00000000})}}"
 
 abbrev pub message_text : ℕ → List ℕ
-message_text count = front ++ entries (in_order (drawn count)) ++ back
+message_text count = before_entries ++ entries (in_order (drawn count)) ++ after_entries
 
 -- the path to the entry of the first key that is drawn, or, where none is, to what would hold it
 abbrev pub path_word : ℕ → List ℕ

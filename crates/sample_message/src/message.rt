@@ -1,20 +1,20 @@
 //! The text of the message, and the word of a path in it.
 ghost use Rattle.std.specs.Prelude.{◌≡◌, ◌++◌, IfOk, string_bytes};
-ghost use Rattle.sample_message.specs.Message.{back, entries, entry_text as text_of_entry, front, key_text as text_of_key, message_text as text_of_message, more_entries, path_word as word_of_path};
+ghost use Rattle.sample_message.specs.Message.{after_entries, entries, entry_text as text_of_entry, before_entries, key_text as text_of_key, message_text as text_of_message, more_entries, path_word as word_of_path};
 
 use crate::keys::{drawn_next, ordered_keys};
 use std::alloc::Global;
 use tlb_memory::NoMemory;
 
 // What stands before the entries.
-const FRONT: &[u8] =
+const BEFORE_ENTRIES: &[u8] =
     b"message{info:int_msg_info{ihr_disabled:bool_true{},bounce:bool_true{},bounced:bool_false{},\
     src:addr_std{anycast:nothing{},workchain_id:0,address:x{1111111111111111111111111111111111111111111111111111111111111111}},\
     dest:addr_std{anycast:nothing{},workchain_id:0,address:x{2222222222222222222222222222222222222222222222222222222222222222}},\
     value:currencies{grams:nanograms{amount:var_uint{len:4,value:1000000000}},other:extra_currencies{dict:<";
 
 // What stands after them.
-const BACK: &[u8] =
+const AFTER_ENTRIES: &[u8] =
     b">}},ihr_fee:nanograms{amount:var_uint{len:0,value:0}},fwd_fee:nanograms{amount:var_uint{len:0,value:0}},\
     created_lt:0,created_at:0},\
     init:just{value:left{value:_1{split_depth:nothing{},special:nothing{},code:just{value:^(x{FF00})},data:just{value:^(x{})},library:nothing{}}}},\
@@ -67,9 +67,9 @@ pub fn message_text(alloc: Global, count: u32) -> Result<Vec<u8>, NoMemory>
     ensures { IfOk result (λ text. text.items ≡ text_of_message count) }
 {
     let keys = ordered_keys(alloc, count)?;
-    let mut text = Vec::from_slice(alloc, FRONT)?;
+    let mut text = Vec::from_slice(alloc, BEFORE_ENTRIES)?;
     push_entries(alloc, &mut text, keys.as_slice())?;
-    text.extend_from_slice(BACK)?;
+    text.extend_from_slice(AFTER_ENTRIES)?;
     Ok(text)
 }
 
