@@ -49,7 +49,7 @@ held-fork p zs os =
 refs-same : (a b : List Tree) → a ≡ b → total (map unfolded a) ≡ total (map unfolded b)
 refs-same a b e = ap (λ (l : List Tree). total (map unfolded l)) e
 
-held-same : (a b : Entries) → a ≡ b → held_cells a ≡ held_cells b
+pub held-same : (a b : Entries) → a ≡ b → held_cells a ≡ held_cells b
 held-same a b e = ap held_cells e
 
 mutual

@@ -4,4 +4,6 @@ mod Items
 mod Goals
 mod Cells
 mod Keys
-mod All
+mod Fits
+mod Maps
+mod Values
