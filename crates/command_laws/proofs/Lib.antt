@@ -3,3 +3,4 @@ mod Steps
 mod Build
 mod Statuses
 mod Tidy
+mod Read

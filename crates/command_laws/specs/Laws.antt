@@ -51,6 +51,16 @@ BuildThenRead =
     → Holds after schema declared → Holds after bag line → IsWord bag
     → (v : Plain) × TextWrites written v × IsDone (read_words schema type bag) after (line_of (text_of v))
 
+-- ---- what is read is built to the same tree, where its line is no longer than a text may be
+
+abbrev pub ReadThenBuild : Type 0
+ReadThenBuild =
+    (before after : Files) (schema type bag text : Name) (declared content line : List ℕ)
+    → Holds before schema declared → Holds before bag content → AreBytes content
+    → IsDone (read_words schema type bag) before line → length line ≤ 134217728
+    → Holds after schema declared → Holds after text line → IsWord text
+    → (root : Tree) × BagHolds content root × IsDone (build_words schema type text) after (bag_line root)
+
 -- ---- what is put in its shortest form
 
 -- no bag of bytes holds a value that fits no tree
