@@ -1,15 +1,15 @@
 -- The bag that is written for a good tree that is not too large is some forty million bytes at most.
-use Rattle.std.proofs.Common.{◌≡◌, ℕ, zero, suc, ◌+◌, ◌-◌, ◌*◌, ◌/◌, ◌%◌, ◌^◌, ◌<◌, ◌≤◌, Bool, true, false, List, [], ◌∷◌, ◌++◌, length, map, get_or, reverse, subst, sym, ap, ◌∙◌, arith}
+use Rattle.std.proofs.Common.{◌≡◌, ℕ, zero, suc, ◌+◌, ◌-◌, ◌*◌, ◌/◌, ◌%◌, ◌^◌, ◌<◌, ◌≤◌, Bool, true, false, List, [], ◌∷◌, ◌++◌, length, map, get_or, reverse, subst, sym, ap, arith}
 use Rattle.std.specs.Prelude.{Some, slice_get, refl}
 use Rattle.std.specs.List.{All, flat_map, range_with_len}
 use Rattle.std.proofs.lemmas.List.{length-append, length-map, length-reverse, get_or-reverse}
 use Rattle.std.proofs.lemmas.List.Elements.{All-head, All-tail}
 use Rattle.std.proofs.lemmas.List.FromFn.{length-map-range_with_len}
-use Rattle.bit_slice.specs.Bits.{AreBits, bit_number, completed, completed_bit, completed_byte, number_of}
+use Rattle.bit_slice.specs.Bits.{AreBits, bit_number, completed, completed_bit, completed_byte}
 use Rattle.bit_slice.specs.BitLists.{number_of-bound}
 use Rattle.bit_slice.specs.Completion.{AreBits-map-range, completed-by_index, completed_bit-lt, length-completed}
 use Rattle.cell_nodes.specs.declared.tree.Tree.{Tree, out-Tree}
-use Rattle.cell_nodes.specs.Good.{IsGood, AllGood, none, more}
+use Rattle.cell_nodes.specs.Good.{IsGood}
 use Rattle.cell_nodes.specs.GoodParts.{good-sound}
 use Rattle.cell_nodes.specs.Tree.{is_exotic, mask, unfolded}
 use Rattle.cell_pool.specs.GrowthLaws.{length-post}

@@ -1,12 +1,12 @@
 -- The mask of a good tree is one of three levels.
-use Rattle.std.proofs.Common.{◌≡◌, ℕ, ◌≤◌, ◌/◌, List, [], ◌∷◌, map, bit_or, subst, sym, ap, arith}
+use Rattle.std.proofs.Common.{ℕ, ◌≤◌, List, [], ◌∷◌, map, bit_or, subst, sym, arith}
 use Rattle.std.specs.Prelude.{IsTrue}
 use Rattle.std.proofs.lemmas.Nat.{or_lt}
 use Rattle.cell_nodes.specs.declared.tree.Kind.{Kind}
 use Rattle.cell_nodes.specs.declared.tree.Kind.TheVariants.{Ordinary, Pruned, Library, Proof, Update}
 use Rattle.cell_nodes.specs.declared.tree.Tree.{Tree, out-Tree}
 use Rattle.cell_nodes.specs.Equations.{marks-out}
-use Rattle.cell_nodes.specs.Good.{IsGood, AllGood, IsSound, good, none, more}
+use Rattle.cell_nodes.specs.Good.{IsGood, AllGood, good, none, more}
 use Rattle.cell_nodes.specs.Layout.{has_layout}
 use Rattle.cell_nodes.specs.LayoutLaws.{pruned_layout}
 use Rattle.cell_nodes.specs.Tree.{Marks, marks, mask, mask_of, union_of}

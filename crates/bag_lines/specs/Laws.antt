@@ -1,5 +1,5 @@
 -- What the laws say: facts about the definitions alone.
-use Rattle.std.specs.Prelude.{◌≡◌, ◌≤◌, ◌<◌, ◌^◌, ℕ, List, [], ◌∷◌, ◌++◌, length}
+use Rattle.std.specs.Prelude.{◌≤◌, ◌<◌, ◌^◌, ℕ, [], ◌∷◌, ◌++◌, length}
 use Rattle.hex.specs.Hex.{encode_lower}
 use Rattle.bag_cells.specs.Bag.{BagHolds}
 use Rattle.bag_cells.specs.Written.{bag_of, width_of}

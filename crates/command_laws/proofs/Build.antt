@@ -1,11 +1,9 @@
 -- What is built is read as the value that was written.
-use Rattle.std.proofs.Common.{◌≡◌, ◌≤◌, ap, sym, subst, ℕ, List, Ok, length, nat_lt, false}
+use Rattle.std.proofs.Common.{◌≡◌, sym, subst, ℕ, List, length, nat_lt, false}
 use Rattle.std.proofs.lemmas.Bool.{le-ltb}
 use Rattle.bag_lines.specs.Laws.{HoldsLine, LineHolds}
 use Rattle.bag_cells.specs.Bag.{BagHolds}
 use Rattle.cell_nodes.specs.declared.tree.Tree.{Tree}
-use Rattle.cli_refusals.specs.Lines.{line_of}
-use Rattle.value_text.specs.Text.{text_of}
 use Rattle.cli_commands.specs.Build.{bag_line}
 use Rattle.command_laws.specs.Laws.{BuildThenRead}
 use Rattle.command_laws.proofs.Runs.{build-call, done-run, outcome-of, read-call, still-short}
@@ -30,10 +28,10 @@ build-then-read lines before after schema type text bag declared written line ha
       b.v,
       b.writes,
       outcome-of (read-call schema type bag) still has_bag
-      (record {
-        short = still-short schema type text bag run.short word;
-        first = run.first;
-        second = again.short;
-        answers = to-read type declared line b.s b.type b.tree b.v b.typed again.holds b.is_tree.reading;
-      }),
+          (record {
+            short = still-short schema type text bag run.short word;
+            first = run.first;
+            second = again.short;
+            answers = to-read type declared line b.s b.type b.tree b.v b.typed again.holds b.is_tree.reading;
+          }),
     )

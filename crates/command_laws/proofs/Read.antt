@@ -1,7 +1,6 @@
 -- What is read is built to the same tree.
-use Rattle.std.proofs.Common.{◌≡◌, ◌≤◌, ap, sym, subst, refl, append_assoc, ℕ, List, [], ◌∷◌, ◌++◌, Ok, length}
+use Rattle.std.proofs.Common.{◌≡◌, ◌≤◌, sym, subst, refl, append_assoc, ℕ, List, [], ◌∷◌, ◌++◌, length}
 use Rattle.std.proofs.lemmas.Bool.{le-ltb}
-use Rattle.accepted_schema.specs.Accepted.{kept_cores}
 use Rattle.bag_cells.specs.Bag.{BagHolds}
 use Rattle.bag_cells.specs.Numbers.{AreBytes}
 use Rattle.building_laws.specs.Laws.{IsTreeOf}
@@ -68,10 +67,10 @@ read-then-build laws before after schema type bag text declared content line has
       r.root,
       r.holds,
       outcome-of (build-call schema type text) still has_text
-      (record {
-        short = still-short schema type bag text run.short word;
-        first = run.first;
-        second = le-ltb 134217728 (length line) short;
-        answers = to-build type declared line r.s r.type r.v r.root r.typed writes tree;
-      }),
+          (record {
+            short = still-short schema type bag text run.short word;
+            first = run.first;
+            second = le-ltb 134217728 (length line) short;
+            answers = to-build type declared line r.s r.type r.v r.root r.typed writes tree;
+          }),
     )

@@ -1,10 +1,10 @@
 -- From an outcome to what a command answers for the bytes of its two files, and back.
-use Rattle.std.proofs.Common.{◌≡◌, ◌≢◌, ◌≤◌, ◌<◌, ◌∙◌, ap, sym, subst, refl, ℕ, Bool, true, false, ◌&&◌, List, [], ◌∷◌, length, nat_lt, Option, Some, None, Ok, Err, if◌then◌else◌, arith}
+use Rattle.std.proofs.Common.{◌≡◌, ◌≢◌, ◌∙◌, ap, sym, subst, refl, ℕ, Bool, true, false, ◌&&◌, List, [], ◌∷◌, length, nat_lt, Option, Some, None, Ok, Err, if◌then◌else◌}
 use Rattle.std.specs.Prelude.{not, codes}
 use Rattle.std.proofs.lemmas.Bool.{and_parts, le-ltb}
 use Rattle.tlb_edge.specs.Files.{Files, Name, file_at}
 use Rattle.tlb_files.specs.Counts.{FileName}
-use Rattle.tlb_files.specs.Loading.{Loading, not_held, too_long, loaded, with_bytes, with_file, loading}
+use Rattle.tlb_files.specs.Loading.{Loading, too_long, loaded, with_bytes, with_file, loading}
 use Rattle.cli_refusals.specs.Refusal.{Answer, Refusal, Verdict, status_of, verdict_of}
 use Rattle.cli_refusals.specs.Refusal as refusals
 use Rattle.cli_refusals.specs.declared.status.Status.{Status}
@@ -13,7 +13,7 @@ use Rattle.cli_commands.specs.Commands.{CommandAnswers}
 use Rattle.cli_commands.specs.Forms.{Form, files_of, form_of}
 use Rattle.cli_commands.specs.declared.commands.Verb.{Verb}
 use Rattle.cli_commands.specs.declared.commands.Verb.TheVariants.{Read, Build, Tidy}
-use Rattle.cli_run.specs.Outcome.{FormAnswers, IsOutcome, LoadingAnswers}
+use Rattle.cli_run.specs.Outcome.{IsOutcome, LoadingAnswers}
 use Rattle.command_laws.specs.Laws.{Holds, IsDone, IsWord}
 
 -- a schema, and a bag or a text

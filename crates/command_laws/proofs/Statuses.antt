@@ -1,5 +1,5 @@
 -- The statuses of what the stages of a command refuse.
-use Rattle.std.proofs.Common.{◌≡◌, ◌≢◌, ◌⊎◌, inl, inr, ⊎_elim, ◌∙◌, ap, sym, subst, refl, ℕ, List, Result, Ok, Err}
+use Rattle.std.proofs.Common.{◌≡◌, ⊎_elim, ◌∙◌, ap, sym, ℕ, List, Err}
 use Rattle.cell_nodes.specs.declared.tree.Mode.TheVariants.{Lax}
 use Rattle.cell_nodes.specs.declared.tree.Tree.{Tree}
 use Rattle.tlb_edge.specs.Files.{Name}
@@ -9,7 +9,6 @@ use Rattle.bag_cells.specs.Bag.{BagHolds}
 use Rattle.schema_leads.specs.Tags.{cores}
 use Rattle.spelling.specs.Spells.{Reading}
 use Rattle.cli_refusals.specs.Refusal.{Refusal, status_of}
-use Rattle.cli_refusals.specs.declared.status.Status.{Status}
 use Rattle.cli_refusals.specs.declared.status.Status.TheVariants as statuses
 use Rattle.cli_stages.specs.Bag.{Bag}
 use Rattle.cli_stages.specs.Cell.{Cell}
@@ -19,7 +18,7 @@ use Rattle.cli_stages.specs.Schema.{Schema}
 use Rattle.cli_stages.specs.SchemaText.{SchemaText}
 use Rattle.cli_stages.specs.Stage.{Gives, Next}
 use Rattle.cli_stages.specs.Tags.{Tags}
-use Rattle.cli_stages.specs.TypeWord.{NamesType, ShownType, TypeWord}
+use Rattle.cli_stages.specs.TypeWord.{ShownType, TypeWord}
 use Rattle.cli_commands.specs.Build.{bag_line}
 use Rattle.cli_commands.specs.Tidy.{Tidies, TidiesBag, TidiesCell, TidiesType, TidiesValue}
 use Rattle.command_laws.proofs.Steps.{IsTyped, Passes, refused}

@@ -1,13 +1,11 @@
 -- What the stages of a command gave, where it is done.
-use Rattle.std.proofs.Common.{◌≡◌, ◌⊎◌, inl, inr, ◌∙◌, ap, sym, subst, refl, ℕ, List, Result, Ok, Err}
+use Rattle.std.proofs.Common.{◌≡◌, ◌⊎◌, inl, inr, ◌∙◌, sym, subst, refl, ℕ, List, Result, Ok, Err}
 use Rattle.bag_cells.specs.Bag.{BagHolds}
 use Rattle.building.specs.PlainBuilder.{build}
 use Rattle.building_laws.specs.Laws.{IsTreeOf}
-use Rattle.cell_nodes.specs.declared.tree.Mode.{Mode}
 use Rattle.cell_nodes.specs.declared.tree.Mode.TheVariants.{Whole, Lax}
 use Rattle.cell_nodes.specs.declared.tree.Tree.{Tree}
 use Rattle.schema_leads.specs.Tags.{cores}
-use Rattle.spelling.specs.Places.{Place}
 use Rattle.spelling.specs.Spells.{Reading}
 use Rattle.tlb_edge.specs.Files.{Name}
 use Rattle.tlb_syntax.specs.Tree.{SchemaView}
@@ -15,7 +13,7 @@ use Rattle.typed_value.specs.Values.{Plain}
 use Rattle.value_text.specs.Text.{text_of}
 use Rattle.value_text.specs.Writes.{TextWrites}
 use Rattle.cli_refusals.specs.Lines.{line_of}
-use Rattle.cli_refusals.specs.Refusal.{Answer, Refusal}
+use Rattle.cli_refusals.specs.Refusal.{Refusal}
 use Rattle.cli_stages.specs.Bag.{Bag}
 use Rattle.cli_stages.specs.Built.{Built}
 use Rattle.cli_stages.specs.Cell.{Cell}

@@ -1,20 +1,17 @@
 -- What is put in its shortest form.
-use Rattle.std.proofs.Common.{◌≡◌, ◌≢◌, ◌≤◌, ◌∙◌, ap, sym, subst, refl, ℕ, List, Result, Ok, Err}
-use Rattle.std.specs.Prelude.{◌↔◌}
+use Rattle.std.proofs.Common.{◌≡◌, ◌≤◌, ◌∙◌, ap, sym, subst, refl, ℕ, List, Ok, Err}
 use Rattle.bag_cells.specs.Bag.{BagHolds}
 use Rattle.bag_cells.specs.Numbers.{AreBytes}
 use Rattle.bag_lines.specs.Laws.{LineHolds}
-use Rattle.building.specs.Buildable.{InRange, IsBuildable}
+use Rattle.building.specs.Buildable.{IsBuildable}
 use Rattle.building.specs.PlainBuilder.{build}
 use Rattle.building_laws.specs.Laws.{IsTreeOf, TreeIsBuilt}
 use Rattle.accepted_building.specs.Laws.{AcceptedIsBuildable}
-use Rattle.accepted_schema.specs.Accepted.{kept_cores}
 use Rattle.cell_nodes.specs.Good.{IsGood}
 use Rattle.cell_nodes.specs.Tree.{unfolded}
 use Rattle.cell_nodes.specs.declared.tree.Mode.TheVariants.{Whole, Lax}
 use Rattle.cell_nodes.specs.declared.tree.Tree.{Tree}
 use Rattle.schema_leads.specs.Tags.{cores}
-use Rattle.spelling.specs.Places.{Place}
 use Rattle.spelling.specs.Spells.{Reading}
 use Rattle.strict_laws.specs.Laws.{IsOneStrictOf, LaxHasOneTree, LaxInRange, StrictStays}
 use Rattle.tlb_edge.specs.Files.{Name}
@@ -28,7 +25,7 @@ use Rattle.cli_stages.specs.Stages.{Stages}
 use Rattle.cli_stages.specs.TypeWord.{ShownType}
 use Rattle.cli_commands.specs.Build.{bag_line}
 use Rattle.cli_commands.specs.Tidy.{Tidies}
-use Rattle.command_laws.specs.Laws.{IsTidied, TidyAgain, TidyFits, TidyIsStrict}
+use Rattle.command_laws.specs.Laws.{TidyAgain, TidyFits, TidyIsStrict}
 use Rattle.command_laws.proofs.Build.{line-of-tree}
 use Rattle.command_laws.proofs.Runs.{done-run, later-by, outcome-of, run-of, still-short, tidy-call}
 use Rattle.command_laws.proofs.Statuses.{unbuilt-of}

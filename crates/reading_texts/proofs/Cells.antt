@@ -1,12 +1,12 @@
 -- How many cells are left of a slice, and how many a dictionary's contents have.
-use Rattle.std.proofs.Common.{◌≡◌, ℕ, ◌+◌, ◌≤◌, ◌∙◌, ap, sym, subst, refl, arith, List, [], ◌∷◌, ◌++◌, map, get_or}
+use Rattle.std.proofs.Common.{◌≡◌, ℕ, ◌+◌, ◌≤◌, ◌∙◌, ap, refl, arith, List, [], ◌∷◌, ◌++◌, map}
 use Rattle.cell_nodes.specs.Equations.{unfolded-tree_of}
 use Rattle.cell_nodes.specs.Tree.{total, unfolded}
 use Rattle.cell_nodes.specs.declared.tree.Mode.{Mode}
 use Rattle.cell_nodes.specs.declared.tree.Kind.TheVariants.{Ordinary}
 use Rattle.cell_nodes.specs.declared.tree.Tree.{Tree}
 use Rattle.hashmap_tree.specs.Dict.{DictTree, one, two, Branch, open_edge, hidden_edge}
-use Rattle.hashmap_tree.specs.Entries.{Slice, Then, Part, leaf, hidden, Entries, cell_of, under, fork}
+use Rattle.hashmap_tree.specs.Entries.{Slice, Then, leaf, hidden, Entries, cell_of, under, fork}
 
 -- the cells that the references of a slice unfold to
 abbrev pub cells : Slice → ℕ

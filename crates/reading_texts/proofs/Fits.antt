@@ -1,10 +1,9 @@
 -- What is taken of a slice: numbers in range, bits and cells that a text can hold, and what is left.
-use Rattle.std.proofs.Common.{◌≡◌, ◌⊎◌, inl, inr, ℕ, zero, suc, ◌+◌, ◌*◌, ◌<◌, ◌≤◌, ◌^◌, ◌∙◌, ap, sym, subst, refl, arith, List, [], ◌∷◌, ◌++◌, length, length-append, map, Option, Some, None, Bool, true, false, lit≤}
+use Rattle.std.proofs.Common.{◌≡◌, ℕ, zero, suc, ◌+◌, ◌*◌, ◌<◌, ◌≤◌, ◌^◌, ◌∙◌, ap, subst, refl, arith, List, length, length-append, Some, Bool, true, false, lit≤}
 use Rattle.std.specs.Prelude.{ℤ, pos, negsuc, nat_le, if◌then◌else◌}
 use Rattle.std.proofs.Math.Nat.{pow-le-pow_right}
 use Rattle.std.proofs.lemmas.Bool.{leb-true, ltb-true}
 use Rattle.bit_slice.specs.Bits.{AreBits, InSignedRange}
-use Rattle.building.specs.PlainBuilder.{is_in_range}
 use Rattle.building_laws.specs.MoveLaws.{IsHeld, bits_before, held_after}
 use Rattle.building_laws.specs.RangeLaws.{in_range_on}
 use Rattle.cell_nodes.specs.Good.{IsGood, AllGood, none}

@@ -1,8 +1,8 @@
 -- Goals and shapes whose fields have names and whose closed types are small.
-use Rattle.std.proofs.Common.{◌≡◌, ℕ, ◌∙◌, ap, sym, subst, refl, Option, Some, None, Result, Ok, Err, Bool, true, false, nat_lt}
+use Rattle.std.proofs.Common.{◌≡◌, ℕ, subst, refl, Option, Some, None, Result, Ok, Err, Bool, true, false, nat_lt}
 use Rattle.std.specs.Prelude.{if◌then◌else◌}
 use Rattle.core_form.specs.Closed.{Closed, nodes}
-use Rattle.core_form.specs.Closing.{Refusal, big_type, bounded, close, closing}
+use Rattle.core_form.specs.Closing.{big_type, bounded, close, closing}
 use Rattle.core_form.specs.Core.{Condition, Ty, Items}
 use Rattle.core_form.specs.Core as core
 use Rattle.core_form.specs.Scope.{Scope, value_in}

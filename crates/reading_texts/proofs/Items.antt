@@ -1,15 +1,14 @@
 -- The names of the fields of a schema within the limits of a text.
-use Rattle.std.proofs.Common.{◌≡◌, ℕ, zero, suc, ◌+◌, ◌<◌, ◌≤◌, ◌^◌, ◌∙◌, ap, sym, subst, refl, arith, List, [], ◌∷◌, ◌++◌, length, Option, Some, None, Bool, true, false, cond, slice_get, length-append}
+use Rattle.std.proofs.Common.{◌≡◌, ℕ, zero, suc, ◌+◌, ◌<◌, ◌≤◌, ◌^◌, ap, sym, subst, refl, arith, List, [], ◌∷◌, ◌++◌, length, Option, Some, None, Bool, true, false, cond, slice_get, length-append}
 use Rattle.std.specs.Prelude.{bytes_eq, filter}
 use Rattle.bit_slice.specs.Names.{IsName}
 use Rattle.value_text.specs.Writes.{IsRecordName}
 use Rattle.nat_solver.specs.Number.{Expr}
 use Rattle.nat_solver.specs.declared.compare.Op.{Op}
-use Rattle.tlb_syntax.specs.Limits.{IsExpr, AreExprs, IsType, IsItem, AreItems, IsConstructor, AreConstructors, IsWithinLimits, item_count}
-use Rattle.tlb_syntax.specs.Tree.{ExprView, ExprList, ItemView, ItemList, TypeView, ConstructorView, SchemaView, lit, named, nat32, bits, below, up_to, plus, star, out, ref, group, no_exprs, an_expr, plain, when, when_bit, implicit, check, explicit, no_items, an_item}
+use Rattle.tlb_syntax.specs.Limits.{IsExpr, IsType, AreItems, item_count}
+use Rattle.tlb_syntax.specs.Tree.{ExprView, ItemList, TypeView, ConstructorView, SchemaView, lit, named, nat32, bits, below, up_to, plus, star, out, ref, group, no_exprs, an_expr, plain, when, when_bit, implicit, check, explicit, no_items, an_item}
 use Rattle.tlb_kinds.specs.Laws.{KeptStaysWithin}
 use Rattle.tlb_kinds.specs.Refusals.{kept_of}
-use Rattle.kind_terms.specs.Dictionaries.{of_type}
 use Rattle.kind_terms.specs.Forms.{is_field_of_numbers}
 use Rattle.kind_terms.specs.Positions.{shown, is_unnamed}
 use Rattle.kind_terms.specs.Words.{Word}
@@ -17,11 +16,11 @@ use Rattle.kind_terms.specs.declared.words.Family.{Family}
 use Rattle.kind_terms.specs.declared.words.Family.TheVariants.{Uint, Int, Bits}
 use Rattle.core_form.specs.Core.{Ty, Args, Items, Condition, CoreSchema, Declaration}
 use Rattle.core_form.specs.Core as core
-use Rattle.schema_core.specs.CoreOf.{type_of, first_type, args_of, applied, alone, of_family, no_meaning, items_of, item_of, field_of, body_of, under_ref, constraint_by, constraint_of, onto, own_slot, not_0, has_bit, unnamed_by, core_of}
+use Rattle.schema_core.specs.CoreOf.{type_of, first_type, applied, alone, of_family, no_meaning, items_of, field_of, body_of, under_ref, constraint_by, own_slot, unnamed_by, core_of}
 use Rattle.schema_core.specs.Cores.{cores_after, declaration_of, number_after, shown_name}
-use Rattle.schema_core.specs.Names.{Names, Variable, a_number, a_type, other, TypeName, no_type, type_word, anything, family, family_of, hashmap_type, hashmap_e_type, declared, declares, meaning, type_called, declared_kinds}
+use Rattle.schema_core.specs.Names.{Names, Variable, a_number, a_type, other, TypeName, no_type, type_word, anything, family, family_of, hashmap_type, hashmap_e_type, declared, meaning, type_called}
 use Rattle.schema_core.specs.Numbers.{number_of, side_of, unknown_by}
-use Rattle.schema_core.specs.Slots.{field_slots, next_slot}
+use Rattle.schema_core.specs.Slots.{field_slots}
 use Rattle.schema_leads.specs.Tags.{tag_of}
 use Rattle.accepted_schema.specs.Accepted.{IsAccepted, kept_cores}
 use Rattle.accepted_building.specs.NamesLaws.{constructor_at}

@@ -1,14 +1,13 @@
 -- The keys of a dictionary's contents are in the order in which a text writes them.
-use Rattle.std.proofs.Common.{◌≡◌, ◌≢◌, ◌⊎◌, inl, inr, ℕ, zero, suc, ◌+◌, ◌<◌, ◌≤◌, ◌∙◌, ap, sym, subst, refl, arith, List, [], ◌∷◌, ◌++◌, length, take, drop, map, Bool, true, false, ◌&&◌, ◌==◌, cond, nat_lt, slice_get}
-use Rattle.std.specs.Prelude.{IsTrue, bytes_eq, not, if◌then◌else◌}
-use Rattle.std.proofs.lemmas.Bool.{cases_Bool, lt-ltb, ne_eqb, eq-eqb}
+use Rattle.std.proofs.Common.{◌≡◌, inl, inr, ℕ, subst, refl, arith, List, [], ◌∷◌, length, take, Bool, true, false, ◌==◌}
+use Rattle.std.specs.Prelude.{bytes_eq}
+use Rattle.std.proofs.lemmas.Bool.{lt-ltb, ne_eqb, eq-eqb}
 use Rattle.std.proofs.lemmas.List.{take_all}
 use Rattle.std.proofs.lemmas.Slice.Eq.{bytes_eq-Decides}
 use Rattle.hashmap_tree.specs.Order.{Before}
 use Rattle.hashmap_tree.specs.OrderedLaws.{never-before}
-use Rattle.typed_value.specs.Values.{Plain, PlainPairs, no_pairs, a_pair}
 use Rattle.value_text.specs.Text.{comes_before}
-use Rattle.value_text.specs.Writes.{comes_after, in_order, keys_of}
+use Rattle.value_text.specs.Writes.{comes_after}
 
 before-comes : (a b : List ℕ) → Before a b → comes_before a b ≡ true
 before-comes [] b h = absurd h

@@ -1,8 +1,7 @@
 -- Dictionaries without hidden parts: their entries can be written.
-use Rattle.std.proofs.Common.{◌≡◌, ◌⊎◌, inl, inr, ℕ, zero, suc, ◌+◌, ◌<◌, ◌≤◌, ◌∙◌, ap, sym, subst, refl, arith, List, [], ◌∷◌, ◌++◌, length, map, Some, None, true, ◌&&◌}
-use Rattle.std.specs.Prelude.{IsTrue, nat_le}
+use Rattle.std.proofs.Common.{◌≡◌, inl, inr, ℕ, ◌+◌, ◌≤◌, ◌∙◌, ap, sym, subst, refl, arith, List, [], ◌∷◌, ◌++◌, length, map, true}
+use Rattle.std.specs.Prelude.{IsTrue}
 use Rattle.std.proofs.lemmas.Bool.{leb-true}
-use Rattle.bit_slice.specs.Bits.{AreBits}
 use Rattle.building.specs.Planting.{labeled}
 use Rattle.building_laws.specs.MapLaws.{AllHeld, AreSound, branch_sound, fork_sound, key_bits, label_then}
 use Rattle.building_laws.specs.MoveLaws.{IsHeld, held_after}
@@ -16,17 +15,17 @@ use Rattle.cell_nodes.specs.declared.tree.Tree.{Tree}
 use Rattle.core_form.specs.Closed.{Closed}
 use Rattle.core_form.specs.Closed as closed
 use Rattle.hashmap_tree.specs.Dict.{DictTree, one, two, Branch, open_edge, hidden_edge}
-use Rattle.hashmap_tree.specs.Entries.{Slice, Then, Part, leaf, hidden, Entries, under, fork, pairs_in, hidden_in}
-use Rattle.hashmap_tree.specs.First.{Fork, forked, LeafEdge}
-use Rattle.hashmap_tree.specs.Order.{Before, AreInOrder}
+use Rattle.hashmap_tree.specs.Entries.{Slice, Then, leaf, hidden, Entries, under, fork}
+use Rattle.hashmap_tree.specs.First.{Fork, forked}
+use Rattle.hashmap_tree.specs.Order.{AreInOrder}
 use Rattle.hashmap_tree.specs.OrderedLaws.{order-bits, order-rest, order-stand}
-use Rattle.spelling.specs.Goals.{Goal, at_type, Shape, typed, in_table}
+use Rattle.spelling.specs.Goals.{Goal, at_type, Shape, typed}
 use Rattle.spelling.specs.Slices.{nothing, only_bits}
-use Rattle.spelling.specs.Spells.{Meaning, Keyed, no_keyed, a_keyed, Contents, EntriesHold, InPlace, IsEmpty, SpellsDict, SpellsDictE, no_entries, some_entries, SpellsMap, free}
+use Rattle.spelling.specs.Spells.{Meaning, Keyed, no_keyed, a_keyed, EntriesHold, InPlace, IsEmpty, SpellsDict, SpellsDictE, no_entries, some_entries, SpellsMap, free}
 use Rattle.typed_value.specs.Values.{Plain, PlainPairs, map_of, no_pairs, a_pair}
-use Rattle.value_text.specs.Writes.{AreEntries, AreFew, AreHidden, IsFormed, cells_by, cells_in, in_order, keys_of}
+use Rattle.value_text.specs.Writes.{AreEntries, AreFew, AreHidden, cells_by, in_order, keys_of}
 use Rattle.reading_texts.proofs.Cells.{branch-cells, cells, cells-then, held_cells, held-fork, held-same}
-use Rattle.reading_texts.proofs.Fits.{Fit, TakesCell, takes-bits}
+use Rattle.reading_texts.proofs.Fits.{Fit, takes-bits}
 use Rattle.reading_texts.proofs.Goals.{IsFair, IsSound}
 use Rattle.reading_texts.proofs.Keys.{after-comes}
 use Rattle.reading_texts.proofs.Types.{Small}

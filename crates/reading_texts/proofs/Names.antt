@@ -1,7 +1,7 @@
 -- The names of an accepted schema, and the names that its core forms show.
-use Rattle.std.proofs.Common.{◌≡◌, ◌≢◌, ◌⊎◌, inl, inr, ℕ, zero, suc, ◌+◌, ◌<◌, ◌≤◌, ◌^◌, ◌∙◌, ap, sym, subst, refl, arith, List, [], ◌∷◌, ◌++◌, length, get_or, Option, Some, None, Bool, true, false, ◌&&◌, ◌||◌, ◌==◌, cond, slice_get, length-append}
-use Rattle.std.specs.Prelude.{IsTrue, bytes_eq, codes, decimal, filter, if◌then◌else◌, not}
-use Rattle.std.specs.Char.{is_ascii_alphabetic, is_ascii_alphanumeric}
+use Rattle.std.proofs.Common.{◌≡◌, ℕ, zero, suc, ◌+◌, ◌<◌, ◌^◌, ap, subst, refl, arith, List, [], ◌∷◌, ◌++◌, get_or, Option, Some, None, Bool, true, false, ◌||◌, ◌==◌, cond, slice_get}
+use Rattle.std.specs.Prelude.{codes, decimal, filter, if◌then◌else◌}
+use Rattle.std.specs.Char.{is_ascii_alphabetic}
 use Rattle.std.specs.List.{list_all}
 use Rattle.std.proofs.lemmas.Bool.{and_parts, or_parts}
 use Rattle.std.proofs.lemmas.Bool.Decides.{nat_tests}
@@ -11,10 +11,9 @@ use Rattle.bit_slice.specs.Names.{IsName, is_count}
 use Rattle.value_text.specs.LexemeWalksLaws.{DecimalForm, decimal_form, is_zero, counted}
 use Rattle.value_text.specs.Writes.{IsRecordName}
 use Rattle.tlb_lexer.specs.Bytes as bytes
-use Rattle.tlb_lexer.specs.Spelling as spelling
 use Rattle.tlb_syntax.specs.Limits.{IsWord, IsWordOrNone}
 use Rattle.tlb_syntax.specs.Tree.{ConstructorView, SchemaView}
-use Rattle.kind_terms.specs.Positions.{shown, unnamed_name}
+use Rattle.kind_terms.specs.Positions.{shown}
 use Rattle.kind_terms.specs.Words.{Word, x_alone}
 use Rattle.kind_declarations.specs.Faults.{faults}
 use Rattle.kind_declarations.specs.Headings.{is_reserved, is_word}

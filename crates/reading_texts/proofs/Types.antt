@@ -1,9 +1,7 @@
 -- The numbers of closed types, and of those that variables stand for, are below 2^32.
-use Rattle.std.proofs.Common.{◌≡◌, ℕ, zero, suc, ◌<◌, ◌^◌, ◌∙◌, ap, sym, subst, refl, arith, List, [], ◌∷◌, Option, Some, None, Result, Ok, Err, Bool, true, false, nat_lt, replicate, slice_get, slice_set}
-use Rattle.std.specs.Prelude.{if◌then◌else◌}
+use Rattle.std.proofs.Common.{◌≡◌, ℕ, zero, suc, ◌<◌, ◌^◌, sym, subst, refl, arith, List, [], ◌∷◌, Option, Some, None, replicate, slice_get, slice_set}
 use Rattle.nat_solver.specs.Number.{Expr, Numbers, lit, var, sought, plus, times, number_at, within_any, value}
 use Rattle.nat_solver.specs.ValueLaws.{within_some, sum_parts, times_parts}
-use Rattle.nat_solver.specs.Pattern as patterns
 use Rattle.nat_solver.specs.declared.pattern.Pattern.{Pattern}
 use Rattle.nat_solver.specs.declared.pattern.Pattern.TheVariants.{Lit, Var, Plus}
 use Rattle.core_form.specs.Closed.{Closed, ClosedArgs, ClosedOf, AreClosedOf}
@@ -12,7 +10,7 @@ use Rattle.core_form.specs.Closing.{of_number, of_type, of_both, of_args, and_nu
 use Rattle.core_form.specs.Core.{Word, Ty, Args, Input, CoreSchema}
 use Rattle.core_form.specs.Core as core
 use Rattle.core_form.specs.Fit.{InputsFit, with_pattern}
-use Rattle.core_form.specs.Scope.{Scope, set_type, type_at, unset, value_in, with_number, with_type, bind}
+use Rattle.core_form.specs.Scope.{Scope, set_type, unset, value_in, with_number, with_type, bind}
 
 -- bounds of `#<` and `#<=`, here and in every part
 abbrev mutual

@@ -1,9 +1,8 @@
 -- What is read can be written, by recursion on the value.
-use Rattle.std.proofs.Common.{◌≡◌, ◌⊎◌, inl, inr, ℕ, zero, suc, ◌+◌, ◌<◌, ◌≤◌, ◌∙◌, ap, sym, subst, refl, arith, List, [], ◌∷◌, ◌++◌, length, Option, Some, None, Result, Ok, Err, slice_get, Bool, true}
-use Rattle.std.specs.Prelude.{IsTrue}
+use Rattle.std.proofs.Common.{◌≡◌, inl, inr, ℕ, ◌+◌, ◌≤◌, ap, sym, subst, refl, arith, List, [], ◌∷◌, Some, None, slice_get, Bool}
 use Rattle.building_laws.specs.Laws.{IsTreeOf}
-use Rattle.building_laws.specs.MoveLaws.{IsHeld, good_held, held_after}
-use Rattle.cell_nodes.specs.Good.{IsGood, AllGood}
+use Rattle.building_laws.specs.MoveLaws.{IsHeld, good_held}
+use Rattle.cell_nodes.specs.Good.{IsGood}
 use Rattle.cell_nodes.specs.Tree.{unfolded}
 use Rattle.cell_nodes.specs.declared.tree.Hidden.{Hidden}
 use Rattle.cell_nodes.specs.declared.tree.Mode.TheVariants.{Whole}
@@ -13,13 +12,13 @@ use Rattle.core_form.specs.Closed as closed
 use Rattle.core_form.specs.Core.{Word, Items, no_items, an_item, check, solve, field, sets, CoreSchema, Declaration, field_names}
 use Rattle.core_form.specs.Scope.{Scope, with_number, bind}
 use Rattle.hashmap_tree.specs.Entries.{Slice, Then, cell_of}
-use Rattle.spelling.specs.Goals.{Goal, at_type, at_field, at_cell, Shape, typed, fields_here, fields_under, left_out, as_cell, at_fields, under_ref, row, shape_of}
-use Rattle.spelling.specs.Slices.{nothing, only_bits, only_ref, kept}
+use Rattle.spelling.specs.Goals.{Goal, at_type, at_field, at_cell, Shape, typed, fields_here, fields_under, left_out, as_cell, at_fields, under_ref, row}
+use Rattle.spelling.specs.Slices.{nothing, only_ref}
 use Rattle.spelling.specs.Spells.{Meaning, Meanings, no_meanings, a_meaning, AtRow, SpellsNumber, SpellsString, Fields, SpellsDeclared, SpellsInner, SpellsAbsent, Repeats, SpellsList, Holds, SpellsRef, SpellsUnknown, SpellsRaw, SpellsRest, Spells, SpellsShape, Each, EachPair, IsRootOf, free}
 use Rattle.typed_value.specs.Values as values
 use Rattle.typed_value.specs.Values.{Plain, Plains, PlainPairs, number, bit_string, record_of, absent, list_of, ref_to, unknown, map_of, raw, rest, no_vals, a_val, no_pairs, a_pair}
-use Rattle.value_text.specs.Writes.{AreFew, AreFields, AreFormed, IsFormed, IsRecordName, IsWritable, cells_in, cells_of}
-use Rattle.reading_texts.proofs.Cells.{cells, cells-of as cells-in_cell, cells-then}
+use Rattle.value_text.specs.Writes.{AreFields, AreFormed, IsFormed, IsRecordName, IsWritable, cells_in, cells_of}
+use Rattle.reading_texts.proofs.Cells.{cells, cells-of as cells-in_cell}
 use Rattle.reading_texts.proofs.Fits.{Fit, held-nothing, number-fit, row-fits, string-fit, takes-bits, takes-cell}
 use Rattle.reading_texts.proofs.Goals.{IsFair, IsSound, shape-sound}
 use Rattle.reading_texts.proofs.Items.{IsNamed, NamedItems}
