@@ -1,11 +1,13 @@
--- What `build` and `tidy` answer for equal inputs.
-use Rattle.std.proofs.Common.{◌≡◌, ℕ, List, Result, subst}
-use Rattle.std.specs.Prelude.{Vec}
+-- What `build`, `tidy` and `make` answer for equal inputs.
+use Rattle.std.proofs.Common.{◌≡◌, ◌∙◌, ap, ℕ, List, Option, Result, subst}
+use Rattle.std.specs.Prelude.{Vec, unwrap_or}
 use Rattle.std.specs.declared.alloc.Global.{Global}
 use Rattle.tlb_edge.specs.Files.{Name}
 use Rattle.cli_stages.specs.Stage.{Answers}
 use Rattle.cli_stages.specs.declared.stop.Stop.{Stop}
+use Rattle.cli_make.specs.Make.{Makes}
 use Rattle.cli_commands.specs.Build.{Builds}
+use Rattle.cli_commands.specs.Slots.{count_of}
 use Rattle.cli_commands.specs.Tidy.{Tidies}
 use Rattle.cli_commands.specs.View.{text_by}
 
@@ -24,3 +26,10 @@ tidies-same w v s t b a r word schema file given =
     let Q : List ℕ → Type 0 = λ x. Answers (Tidies w x a) text_by r in
     let R : List ℕ → Type 0 = λ x. Answers (Tidies w s x) text_by r in
     subst R file (subst Q schema (subst P word given))
+
+pub makes-same : (w v : Name) (n : ℕ) (m : Option ℕ) (r : Result (Vec ℕ Global) Stop) → n ≡ unwrap_or m 0 → m ≡ count_of v → v ≡ w
+    → Answers (Makes n) text_by r → Answers (Makes (unwrap_or (count_of w) 0)) text_by r
+makes-same w v n m r number count word given =
+    let same : n ≡ unwrap_or (count_of w) 0 = number ∙ ap (λ o. unwrap_or o 0) (count ∙ ap count_of word) in
+    let P : ℕ → Type 0 = λ x. Answers (Makes x) text_by r in
+    subst P same given

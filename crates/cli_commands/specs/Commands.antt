@@ -7,13 +7,14 @@ use Rattle.cli_commands.specs.Build.{build}
 use Rattle.cli_commands.specs.Check.{check}
 use Rattle.cli_commands.specs.Command.{Command}
 use Rattle.cli_commands.specs.Hash.{hash}
+use Rattle.cli_commands.specs.Make.{make}
 use Rattle.cli_commands.specs.Prove.{prove}
 use Rattle.cli_commands.specs.Read.{lax, read}
 use Rattle.cli_commands.specs.Tidy.{tidy}
 use Rattle.cli_commands.specs.Views.{view}
 use Rattle.cli_commands.specs.declared.slot.Slot.{Slot}
 use Rattle.cli_commands.specs.declared.commands.Verb.{Verb}
-use Rattle.cli_commands.specs.declared.commands.Verb.TheVariants.{Read, Lax, Build, Tidy, Prove, View, Hash, Check}
+use Rattle.cli_commands.specs.declared.commands.Verb.TheVariants.{Read, Lax, Build, Tidy, Prove, View, Make, Hash, Check}
 
 abbrev pub command_of : Verb → Command
 command_of Read = read
@@ -22,11 +23,12 @@ command_of Build = build
 command_of Tidy = tidy
 command_of Prove = prove
 command_of View = view
+command_of Make = make
 command_of Hash = hash
 command_of Check = check
 
 abbrev pub verbs : List Verb
-verbs = Read ∷ Lax ∷ Build ∷ Tidy ∷ Prove ∷ View ∷ Hash ∷ Check ∷ []
+verbs = Read ∷ Lax ∷ Build ∷ Tidy ∷ Prove ∷ View ∷ Make ∷ Hash ∷ Check ∷ []
 
 -- ---- what holds of the whole table
 

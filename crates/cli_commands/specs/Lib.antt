@@ -5,6 +5,7 @@ pub mod Commands
 pub mod Forms
 pub mod Hash
 pub mod Laws
+pub mod Make
 pub mod Prove
 pub mod Read
 pub mod Slots

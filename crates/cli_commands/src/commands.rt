@@ -1,5 +1,5 @@
 //! The table of commands.
-ghost use Rattle.std.specs.Prelude.{◌≡◌, ◌≤◌, drop, length, map, string_bytes, true};
+ghost use Rattle.std.specs.Prelude.{◌≡◌, ◌≤◌, drop, length, map, string_bytes, true, unwrap_or};
 ghost use Rattle.tlb_files.specs.Contents.{AreShort};
 ghost use Rattle.tlb_files.specs.View.{contents_of};
 ghost use Rattle.cli_stages.specs.Stage.{Answers};
@@ -9,7 +9,8 @@ ghost use Rattle.cli_commands.specs.Commands.{CommandAnswers, slots_of, verb_of}
 ghost use Rattle.cli_commands.specs.Forms.{are_taken, files_in};
 ghost use Rattle.cli_commands.specs.Prove.{Proves, prove_slots as slots_with_paths};
 ghost use Rattle.cli_commands.specs.Read.{Reads};
-ghost use Rattle.cli_commands.specs.Slots.{root_hash as hash_of_word};
+ghost use Rattle.cli_make.specs.Make.{Makes};
+ghost use Rattle.cli_commands.specs.Slots.{count_of, root_hash as hash_of_word};
 ghost use Rattle.cli_commands.specs.Tidy.{Tidies};
 ghost use Rattle.cli_commands.specs.View.{text_by};
 ghost use Rattle.cli_commands.specs.Views.{Views, view_slots as slots_by_count};
@@ -19,10 +20,11 @@ use crate::check::check;
 use crate::hash::hash;
 use crate::prove::prove;
 use crate::read::read;
-use crate::slot::{Slot, root_hash};
+use crate::slot::{Slot, count, root_hash};
 use crate::tidy::tidy;
 use crate::view::view;
 use cell_nodes::Mode;
+use cli_make::make;
 use cli_stages::Stop;
 use std::alloc::Global;
 
@@ -35,6 +37,7 @@ pub enum Verb {
     Tidy,
     Prove,
     View,
+    Make,
     Hash,
     Check,
 }
@@ -51,6 +54,7 @@ impl Verb {
             "tidy" => Some(Verb::Tidy),
             "prove" => Some(Verb::Prove),
             "view" => Some(Verb::View),
+            "make" => Some(Verb::Make),
             "hash" => Some(Verb::Hash),
             "check" => Some(Verb::Check),
             _ => None,
@@ -66,6 +70,7 @@ impl Verb {
             Verb::Build => &[Slot::Schema, Slot::TypeWord, Slot::Text],
             Verb::Prove => prove_slots(words),
             Verb::View => view_slots(words),
+            Verb::Make => &[Slot::Count],
             Verb::Hash => &[Slot::Bag],
             Verb::Check => &[Slot::Schema],
         }
@@ -91,6 +96,7 @@ impl Verb {
             Verb::Tidy => tidy_in(alloc, words, contents),
             Verb::Prove => prove_in(alloc, words, contents),
             Verb::View => view_in(alloc, words, contents),
+            Verb::Make => make_in(alloc, words),
             Verb::Hash => hash(alloc, bytes_at(contents, 0)),
             Verb::Check => check(alloc, bytes_at(contents, 0)),
         }
@@ -286,4 +292,12 @@ fn view_in(alloc: Global, words: &[String], contents: &[Vec<u8>]) -> Result<Vec<
     let bag = bytes_at(contents, 1);
     let root = root_hash(word_at(words, 3));
     view(alloc, schema, name, bag, root)
+}
+
+// What `make` answers.
+fn make_in(alloc: Global, words: &[String]) -> Result<Vec<u8>, Stop>
+    ensures { Answers (Makes (unwrap_or (count_of (at (map string_bytes words.now) 0)) 0)) text_by result }
+{
+    let number = count(word_at(words, 0)).unwrap_or(0);
+    make(alloc, number)
 }

@@ -1,6 +1,6 @@
 //! The slots of a command.
 ghost use Rattle.std.specs.Prelude.{◌≡◌};
-ghost use Rattle.cli_commands.specs.Slots.{is_formed, limit_of, root_hash as hash_of_word, takes};
+ghost use Rattle.cli_commands.specs.Slots.{count_more, count_of, is_formed, limit_of, root_hash as hash_of_word, takes, zero_alone};
 
 use hex::FromHex;
 
@@ -13,6 +13,7 @@ pub enum Slot {
     Text,
     RootHash,
     Path,
+    Count,
 }
 
 const WORD_LIMIT: usize = 1_048_576;
@@ -26,7 +27,7 @@ impl Slot {
             Slot::Schema => Some(1_048_576),
             Slot::TypeWord => None,
             Slot::Bag | Slot::Text => Some(134_217_728),
-            Slot::RootHash | Slot::Path => None,
+            Slot::RootHash | Slot::Path | Slot::Count => None,
         }
     }
 
@@ -42,6 +43,7 @@ impl Slot {
     {
         match self {
             Slot::RootHash => root_hash(word).is_some(),
+            Slot::Count => count(word).is_some(),
             Slot::Schema | Slot::TypeWord | Slot::Bag | Slot::Text | Slot::Path => true,
         }
     }
@@ -55,4 +57,45 @@ pub fn root_hash(word: &str) -> Option<[u8; 32]>
         Ok(hash) => Some(hash),
         Err(_) => None,
     }
+}
+
+/// The number up to 10,000 that a word of decimal digits writes without leading zeros.
+pub fn count(word: &str) -> Option<u32>
+    ensures { result ≡ count_of word.now }
+{
+    let digits = word.as_bytes();
+    let [first, others @ ..] = digits else {
+        return None;
+    };
+    if *first == b'0' {
+        return zero_alone(others);
+    }
+    count_of_digits(digits)
+}
+
+// 0 where no digit comes after it.
+fn zero_alone(others: &[u8]) -> Option<u32>
+    ensures { result ≡ zero_alone others.now }
+{
+    match others {
+        [] => Some(0),
+        _ => None,
+    }
+}
+
+// The number that digits write.
+fn count_of_digits(digits: &[u8]) -> Option<u32>
+    ensures { result ≡ count_more 0 digits.now }
+{
+    let mut number = 0u32;
+    'digits: for (_place, digit) in digits.iter().enumerate() {
+        if !digit.is_ascii_digit() {
+            return None;
+        }
+        number = 10 * number + u32::from(*digit - b'0');
+        if number > 10_000 {
+            return None;
+        }
+    }
+    Some(number)
 }

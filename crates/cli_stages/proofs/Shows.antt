@@ -217,5 +217,5 @@ refuses root s t c causes.ProofTooLarge a e h = absurd e
 pub refused : (root : Option (List ℕ)) (s : SchemaView) (type : ShownType) (c : Tree) (cause : ProofCause) (stop : Stop)
     (a : ViewAnswer) → Reports cause a → Holds s type c root a → IfRefused (λ r. r ≡ proof cause) stop
     → Answers {T = Viewed} (Proof root s type c) shown_by (Err stop)
-refused root s type c cause stop a reports is told =
-    refused-for root s type c cause stop (refuses root (kept_cores s) type.closed c cause a reports is.holds) told
+refused root s type c cause stop a reports is reported =
+    refused-for root s type c cause stop (refuses root (kept_cores s) type.closed c cause a reports is.holds) reported

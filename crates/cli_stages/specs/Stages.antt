@@ -1,4 +1,4 @@
--- The stages: each comes to exactly one answer.
+-- The stages: each comes to exactly one answer, and a word writes at most one path.
 use Rattle.std.specs.Prelude.{ℕ, List, Ok, Option}
 use Rattle.cell_nodes.specs.declared.tree.Mode.{Mode}
 use Rattle.cell_nodes.specs.declared.tree.Mode.TheVariants.{Whole}
@@ -8,6 +8,7 @@ use Rattle.tlb_syntax.specs.Tree.{SchemaView}
 use Rattle.building.specs.Buildable.{InRange}
 use Rattle.typed_value.specs.Paths.{Stride}
 use Rattle.typed_value.specs.Values.{Plain}
+use Rattle.value_text.specs.PathLaws.{OnePath}
 use Rattle.cli_stages.specs.Bag.{Bag}
 use Rattle.cli_stages.specs.Built.{Built}
 use Rattle.cli_stages.specs.Cell.{Cell}
@@ -28,6 +29,7 @@ pub record Stages : Type 0 where
   pub value_text : (file : List ℕ) → IsStage (ValueText file)
   pub rebuilt : (s : SchemaView) (type : ShownType) (v : Plain) → IsStage (Rebuilt s type v)
   pub paths : (v : Plain) (words : List Name) → IsStage (Paths v words)
+  pub one_path : OnePath
   -- of a schema that the first stage gives
   pub cell : (mode : Mode) (s : SchemaView) (type : ShownType) (root : Tree) → IsWhole s → IsStage (Cell mode s type root)
   pub proof : (root : Option (List ℕ)) (s : SchemaView) (type : ShownType) (cell : Tree) → IsWhole s

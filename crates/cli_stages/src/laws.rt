@@ -17,7 +17,7 @@ use value_grammar::laws::{
 };
 use value_text::laws::{at_least_one_path, at_most_one_path};
 
-/// Each stage refuses or gives something, once.
+/// Each stage refuses or gives something, once, and a word writes at most one path.
 pub fn each_stage_answers_once()
     ensures { Stages }
 {

@@ -1,4 +1,3 @@
-use Rattle.std.proofs.Common.{subst, ◌≤◌, length, List}
 use Rattle.cli_commands.proofs.SameProofs.{proves-same}
 use Rattle.cli_commands.proofs.commands.prove_in.Goals as goal
 

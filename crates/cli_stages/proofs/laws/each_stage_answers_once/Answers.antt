@@ -71,5 +71,6 @@ returns c =
       built = built-stage buildings;
       rebuilt = rebuilt-stage;
       paths = paths-stage paths;
+      one_path = c.at_most_one_path.ensures.path;
       made = made-stage proofs;
     }

@@ -78,3 +78,6 @@ returns-in-Prove c = rw (c.in-Prove.is) c.prove_in.ensures
 pub prove_in-requires-clause-paths : goal.prove_in-requires-clause-paths
 prove_in-requires-clause-paths c =
     few-paths c.args.self (map string_bytes c.args.words.now) c.in-Prove.is c.requires.words
+
+pub returns-in-Make : goal.returns-in-Make
+returns-in-Make c = rw (c.in-Make.is) c.make_in.ensures
