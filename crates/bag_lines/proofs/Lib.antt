@@ -1,0 +1,4 @@
+mod Masks
+mod Bytes
+mod Digits
+mod Lines

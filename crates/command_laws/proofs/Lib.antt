@@ -1,0 +1,6 @@
+mod Runs
+mod Steps
+mod Build
+mod Statuses
+mod Tidy
+mod Read

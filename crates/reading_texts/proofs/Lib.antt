@@ -1,0 +1,9 @@
+mod Names
+mod Types
+mod Items
+mod Goals
+mod Cells
+mod Keys
+mod Fits
+mod Maps
+mod Values
