@@ -1,5 +1,5 @@
 -- What is proved is viewed.
-use Rattle.std.proofs.Common.{◌≡◌, ◌∙◌, ap, sym, subst, refl, ℕ, zero, suc, ◌-◌, Bool, true, ◌&&◌, List, [], ◌∷◌, length, Option, Some, None, Result, Ok, Err, nat_lt, false}
+use Rattle.std.proofs.Common.{◌≡◌, ◌≤◌, ◌∙◌, ap, sym, subst, refl, ℕ, zero, suc, ◌-◌, Bool, true, ◌&&◌, List, [], ◌∷◌, length, Option, Some, None, Result, Ok, Err, nat_lt, false}
 use Rattle.std.specs.Prelude.{codes, min, replicate, bytes_eq, not, ◌==◌, if◌then◌else◌}
 use Rattle.std.proofs.lemmas.Bool.{and_parts, eq-eqb}
 use Rattle.std.proofs.lemmas.Slice.Eq.{bytes_eq-Decides}
@@ -187,13 +187,13 @@ small-proof s type root paths tree shown a =
     subst P (sym b.3) b.2
 
 -- the value that was read is that of the laid reading
-same-value : ProofGrounds → (declared : List ℕ) (s : SchemaView) (type : ShownType) (root : Tree) (v : Plain) (laid : LaidRoot)
-    → Schema declared (Ok s) → Reading Whole (cores s) type.closed root v → LaidReading (cores s) type.closed root laid
-    → v ≡ plain_root laid
-same-value laws declared s type root v laid given reading lies =
+same-value : ProofGrounds → (declared : List ℕ) (s : SchemaView) (type : ShownType) (root : Tree) (v : Plain) (l : LaidRoot)
+    → Schema declared (Ok s) → Reading Whole (cores s) type.closed root v → LaidReading (cores s) type.closed root l
+    → v ≡ plain_root l
+same-value laws declared s type root v l given reading lies =
     let stage = laws.stages.cell Whole s type root (laws.stages.whole declared s given) in
-    let e : Ok v ≡ Ok (plain_root laid) =
-    stage.once (Ok v) (Ok (plain_root laid)) reading ((laws.laid (cores s) type.closed root).reads laid lies) in
+    let e : Ok v ≡ Ok (plain_root l) =
+    stage.once (Ok v) (Ok (plain_root l)) reading ((laws.laid (cores s) type.closed root).reads l lies) in
     cc
 
 to-view : (word : Name) (declared line : List ℕ) (s : SchemaView) (type : ShownType) (tree : Tree) (shown : ProofShows)
@@ -203,7 +203,7 @@ to-view word declared line s type tree shown typed holds shows =
     goes_on s typed.given (goes_on type typed.named (goes_on tree holds (goes_on shown shows refl)))
 
 pub prove-then-view : ProofGrounds → ProveThenView
-prove-then-view laws before after schema type bag proof paths declared content line has_schema has_bag bytes done still has_proof word =
+prove-then-view laws before after schema type bag viewed_bag paths declared content line has_schema has_bag bytes done still has_proof word =
     let run = done-run (prove-call schema type bag paths) has_schema has_bag done in
     let r = prove-run type paths declared content line run.answers in
     let is = proof-of laws type paths declared content line bytes r in
@@ -224,9 +224,9 @@ prove-then-view laws before after schema type bag proof paths declared content l
       held = r.holds;
       reading = is.reading;
       chosen = subst P same r.chosen;
-      is = outcome-of (view-call schema type proof) still has_proof
+      is = outcome-of (view-call schema type viewed_bag) still has_proof
           (record {
-            short = short-without schema type bag proof paths run.short word;
+            short = short-without schema type bag viewed_bag paths run.short word;
             first = run.first;
             second = again.short;
             answers = to-view type declared line r.s r.type r.tree _ r.typed again.holds (subst Q is.shows shows);
