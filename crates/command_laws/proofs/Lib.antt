@@ -4,3 +4,4 @@ mod Build
 mod Statuses
 mod Tidy
 mod Read
+mod Prove

@@ -49,7 +49,7 @@ refused {X = X} {first = first} {r = r} (stops q given e) =
     inl (subst P same given)
 refused (goes_on x given follows) = inr (record { x = x; is = given; follows = follows })
 
-same-ok : {X : Type 0} (x y : X) (answer : Result X Refusal) → answer ≡ Ok x → answer ≡ Ok y → x ≡ y
+pub same-ok : {X : Type 0} (x y : X) (answer : Result X Refusal) → answer ≡ Ok x → answer ≡ Ok y → x ≡ y
 same-ok x y answer p q = let both : Ok x ≡ Ok y = sym p ∙ q in cc
 
 -- ---- a schema and a type

@@ -4,21 +4,27 @@ use Rattle.std.specs.Prelude.{◌≡◌, ◌≢◌, ◌≤◌, ℕ, List, [], �
 use Rattle.tlb_edge.specs.Files.{Files, Name, file_at}
 use Rattle.tlb_syntax.specs.Tree.{SchemaView}
 use Rattle.schema_leads.specs.Tags.{cores}
+use Rattle.typed_value.specs.Paths.{Stride}
 use Rattle.typed_value.specs.Values.{Plain}
 use Rattle.value_text.specs.Text.{text_of}
 use Rattle.value_text.specs.Writes.{TextWrites}
+use Rattle.cell_nodes.specs.Tree.{hash}
 use Rattle.cell_nodes.specs.declared.tree.Mode.TheVariants.{Lax}
 use Rattle.cell_nodes.specs.declared.tree.Tree.{Tree}
 use Rattle.bag_cells.specs.Bag.{BagHolds}
 use Rattle.bag_cells.specs.Numbers.{AreBytes}
+use Rattle.proof_laws.specs.Proving.{shown_for}
+use Rattle.pruning.specs.SpellsLaid.{LaidRoot, LaidReading, plain_root}
 use Rattle.spelling.specs.Spells.{Reading}
 use Rattle.strict_laws.specs.Laws.{IsOneStrictOf}
 use Rattle.cli_refusals.specs.Lines.{line_of}
 use Rattle.cli_refusals.specs.Refusal.{Verdict}
 use Rattle.cli_refusals.specs.declared.status.Status.TheVariants.{Done, ValueRefused}
+use Rattle.cli_stages.specs.Paths.{AllChoose}
 use Rattle.cli_stages.specs.Schema.{WritesAccepted}
 use Rattle.cli_stages.specs.TypeWord.{NamesType, ShownType}
 use Rattle.cli_commands.specs.Build.{bag_line}
+use Rattle.cli_commands.specs.Views.{view_lines}
 use Rattle.cli_run.specs.Outcome.{IsOutcome}
 
 -- a word that a command takes
@@ -41,6 +47,12 @@ read_words schema type bag = codes "read" ∷ schema ∷ type ∷ bag ∷ []
 
 abbrev pub tidy_words : Name → Name → Name → List Name
 tidy_words schema type bag = codes "tidy" ∷ schema ∷ type ∷ bag ∷ []
+
+abbrev pub prove_words : Name → Name → Name → List Name → List Name
+prove_words schema type bag paths = codes "prove" ∷ schema ∷ type ∷ bag ∷ paths
+
+abbrev pub view_words : Name → Name → Name → List Name
+view_words schema type proof = codes "view" ∷ schema ∷ type ∷ proof ∷ []
 
 -- ---- what is built is read as the value that was written
 
@@ -99,3 +111,29 @@ TidyAgain =
     → IsDone (tidy_words schema type bag) before line
     → Holds after schema declared → Holds after tidied line → IsWord tidied
     → IsDone (tidy_words schema type tidied) after line
+
+-- ---- what is proved is viewed
+
+-- The proof of what the words of these paths name in the bag's tree is viewed with the hash of that tree, and as its
+-- value with just the references unknown that no path keeps.
+pub record IsViewed (declared : List ℕ) (word : Name) (content : List ℕ) (words command : List Name) (files : Files)
+    : Type 0 where
+  pub s : SchemaView
+  pub type : ShownType
+  pub root : Tree
+  pub laid : LaidRoot
+  pub paths : List (List Stride)
+  pub accepted : WritesAccepted declared s
+  pub named : NamesType word s type
+  pub held : BagHolds content root
+  pub reading : LaidReading (cores s) type.closed root laid
+  pub chosen : AllChoose (plain_root laid) words paths
+  pub is : IsDone command files (view_lines (record { value = shown_for paths laid; hash = hash root 0 }))
+
+abbrev pub ProveThenView : Type 0
+ProveThenView =
+    (before after : Files) (schema type bag proof : Name) (paths : List Name) (declared content line : List ℕ)
+    → Holds before schema declared → Holds before bag content → AreBytes content
+    → IsDone (prove_words schema type bag paths) before line
+    → Holds after schema declared → Holds after proof line → IsWord proof
+    → IsViewed declared type content paths (view_words schema type proof) after
